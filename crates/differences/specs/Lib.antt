@@ -1,0 +1,2 @@
+-- The definitions that the contracts of differences cite.
+pub mod Diff

@@ -1,0 +1,73 @@
+-- `float64::root_bits` meets its contract. Assumes nothing.
+use mathlib.Core.Path.{_≡_, sym, subst}
+use Prim.Native.Nat.{ℕ, _+_, _-_, _*_, _/_, _^_}
+use native.Mathlib.Omega.{arith}
+use borrow.Author.Needs.{needs}
+use Rattle.float64.specs.Sqrt.{Bits, nearestRoot}
+use Rattle.float64.proofs.Joined.{joined, even, odd-one}
+use Rattle.float64.proofs.Rounded.{rounded-lt}
+use Rattle.float64.proofs.root_bits.Statement.{statement}
+use Rattle.float64.proofs.root_bits.Tie as tie
+
+sub-result : tie.Need-sub-result
+sub-result c = search needs
+
+mul-result : tie.Need-mul-result
+mul-result c = search needs
+
+rooted-requires : tie.Need-rooted-requires
+rooted-requires c κs = search needs
+
+add-result : tie.Need-add-result
+add-result c =
+    let a = c .before .before .args in
+    omega (arith, rounded-lt (a .m) (omega arith) (omega arith), c .rooted .ensures)
+
+sub-result-2 : tie.Need-sub-result-2
+sub-result-2 c = search needs
+
+mul-result-2 : tie.Need-mul-result-2
+mul-result-2 c = search needs
+
+mul-rooted : tie.Need-mul-rooted
+mul-rooted c = search needs
+
+rooted-requires-2 : tie.Need-rooted-requires-2
+rooted-requires-2 c κs = search needs
+
+add-result-2 : tie.Need-add-result-2
+add-result-2 c =
+    let a = c .before .before .args in
+    omega (arith, rounded-lt (a .m * 2) (omega arith) (omega arith), c .rooted2 .ensures)
+
+returns : tie.Need-returns
+returns c =
+    let a = c .before .before .args in
+    let k = a .e / 2 - 26 in
+    let e : a .e ≡ 52 + (k + k) = omega arith in
+    subst (λ (r : ℕ). Bits (nearestRoot (a .m * 2 ^ a .e)) (k * 2 ^ 52 + r)) (sym (c .rooted .ensures))
+    (joined (a .m * 2 ^ a .e) (a .m) k (omega arith) (omega arith) (omega arith) (even (a .m) (a .e) k e))
+
+returns-2 : tie.Need-returns-2
+returns-2 c =
+    let a = c .before .before .args in
+    let k = a .e / 2 - 26 in
+    let e : a .e ≡ 53 + (k + k) = omega arith in
+    subst (λ (r : ℕ). Bits (nearestRoot (a .m * 2 ^ a .e)) (k * 2 ^ 52 + r)) (sym (c .rooted2 .ensures))
+    (joined (a .m * 2 ^ a .e) (a .m * 2) k (omega arith) (omega arith) (omega arith) (odd-one (a .m) (a .e) k e))
+
+pub root-bits-spec : {M : Type 1} → statement M
+root-bits-spec =
+    tie.close
+    (tie.spec
+    sub-result
+    mul-result
+    rooted-requires
+    add-result
+    sub-result-2
+    mul-result-2
+    mul-rooted
+    rooted-requires-2
+    add-result-2
+    returns
+    returns-2)

@@ -1,0 +1,4 @@
+pub mod Ops
+pub mod Sqrt
+pub mod Known
+pub mod Helpers

@@ -1,0 +1,72 @@
+-- Laws of `Wrote`: one run after another is the two joined. Assumes nothing.
+use mathlib.Core.Path.{_≡_, refl, sym, ap, ap₂, _∙_}
+use Prim.Native.Nat.{ℕ, suc, _+_, _≤_, _<_}
+use native.Mathlib.Numerals.{add-one}
+use native.Mathlib.Omega.{arith}
+use mathlib.Core.List.{List, [], _∷_, _++_, append-assoc}
+use lib.ListN.{length, getD, take, drop, set, length-append, length-drop, take-append-drop}
+use lib.Seq.{take-suc, take-all, set-split, append-snoc, length-take-le, take-at, drop-at, drop-drop}
+use native.Mathlib.Nat.{add-zero, add-assoc}
+use mathlib.Core.List.{append-nil}
+use Rattle.vectors.specs.Vec.{put, Wrote}
+
+module _ {A : Type 0} where
+  pub wrote-none : (d : List A) (at : ℕ) → at ≤ length d → Wrote d at [] d at
+  wrote-none d at h = record {
+    next = sym (add-zero at);
+    room = h;
+    text = sym (ap (λ (k : ℕ). take at d ++ [] ++ drop k d) (add-zero at) ∙ ap (λ (r : List A). r ++ drop at d) (append-nil (take at d)) ∙ take-append-drop at d);
+  }
+
+  head-length : (d : List A) (at : ℕ) (t : List A) → at ≤ length d → length (take at d ++ t) ≡ at + length t
+  head-length d at t h = length-append (take at d) t ∙ ap (λ (k : ℕ). k + length t) (length-take-le at d h)
+
+  pub wrote-length : {d : List A} {at : ℕ} {t e : List A} {r : ℕ} → Wrote d at t e r → length e ≡ length d
+  wrote-length {d} {at} {t} {e} {r} w =
+      let h : at + length t ≤ length d = omega (arith, w .next, w .room) in
+      ap length (w .text)
+      ∙ length-append (take at d ++ t) (drop (at + length t) d)
+      ∙ ap₂ (λ (x y : ℕ). x + y) (head-length d at t (omega arith)) (length-drop (at + length t) d)
+      ∙ omega arith
+
+  pub wrote-then : {d : List A} {at : ℕ} {t e : List A} {m : ℕ} {u f : List A} {r : ℕ} → Wrote d at t e m → Wrote e m u f r → Wrote d at (t ++ u) f r
+  wrote-then {d} {at} {t} {e} {m} {u} {f} {r} v w =
+      let le : length e ≡ length d = wrote-length v in
+      let lt : length (t ++ u) ≡ length t + length u = length-append t u in
+      let hd : at ≤ length d = omega (arith, v .next, v .room) in
+      let nx : r ≡ at + length (t ++ u) = omega (arith, v .next, w .next) in
+      let hm : length (take at d ++ t) ≡ m = head-length d at t hd ∙ sym (v .next) in
+      let fr : take m e ≡ take at d ++ t = ap (take m) (v .text) ∙ take-at (take at d ++ t) (drop (at + length t) d) m hm in
+      let bk : drop m e ≡ drop m d = ap (drop m) (v .text) ∙ drop-at (take at d ++ t) (drop (at + length t) d) m hm ∙ ap (λ (k : ℕ). drop k d) (sym (v .next)) in
+      let en : drop (m + length u) e ≡ drop (at + length (t ++ u)) d =
+      sym (drop-drop (length u) m e) ∙ ap (drop (length u)) bk ∙ drop-drop (length u) m d ∙ ap (λ (k : ℕ). drop k d) (sym (w .next) ∙ nx) in
+      record {
+        next = nx;
+        room = omega (arith, w .room);
+        text = w .text ∙ ap₂ (λ (x y : List A). x ++ u ++ y) fr en ∙ ap (λ (x : List A). x ++ drop (at + length (t ++ u)) d) (append-assoc (take at d) t u);
+      }
+
+  pub wrote-one : (d : List A) (n : ℕ) (v : A) → n < length d → Wrote d n (v ∷ []) (set d n v) (n + 1)
+  wrote-one d n v h = record {
+    next = refl;
+    room = omega arith;
+    text = set-split d n v h ∙ sym (append-snoc (take n d) v (drop (suc n) d)) ∙ ap (λ (k : ℕ). take n d ++ (v ∷ []) ++ drop k d) (sym (add-one n));
+  }
+
+  -- a copy from s: none of it, one element more, and all of it
+  pub copied-none : (d : List A) (at : ℕ) (s : List A) → at ≤ length d → Wrote d at (take 0 s) d (at + 0)
+  copied-none d at s h = rw add-zero (wrote-none d at h)
+
+  pub copied-more : (s : List A) (z : A) {d e : List A} {at i : ℕ} → Wrote d at (take i s) e (at + i) → i < length s → at + i < length e
+      → Wrote d at (take (i + 1) s) (set e (at + i) (getD s i z)) (at + (i + 1))
+  copied-more s z {d} {e} {at} {i} w h k =
+      rw (add-one, take-suc s i z h, ← add-one, ← add-assoc) (wrote-then w (wrote-one e (at + i) (getD s i z) k))
+
+  pub copied-all : (s : List A) {d e : List A} {at i : ℕ} → Wrote d at (take i s) e (at + i) → length s ≤ i → Wrote d at s e (at + i)
+  copied-all s {d} {e} {at} {i} w h = rw (take-all i s h) at w
+
+-- what was written, and what lies past it, read off the slice
+pub wrote-take : {A : Type 0} {d t e : List A} {r : ℕ} → Wrote d 0 t e r → (take r e ≡ t) × (drop r e ≡ drop r d)
+wrote-take {A} {d} {t} {e} {r} w =
+    let n : length t ≡ r = omega (arith, w .next) in
+    (ap (take r) (w .text) ∙ take-at t (drop (0 + length t) d) r n, ap (drop r) (w .text) ∙ drop-at t (drop (0 + length t) d) r n ∙ ap (λ (k : ℕ). drop k d) (sym (w .next)))

@@ -1,0 +1,3 @@
+-- The words that every later crate uses.
+pub mod Vec
+pub mod Sums

@@ -1,0 +1,33 @@
+-- Document 01, "Float helpers": sums run from index 0 and start at +0. Then the sums and the greatest size that the fit takes of a vector.
+use mathlib.Core.List.{List}
+use Prim.Native.Nat.{ℕ, zero, suc}
+use lib.ListN.{length}
+use lib.Ieee.{Float, binary64, add, mul, ofBits}
+use Rattle.float64.specs.Helpers.{absOf, maxOf}
+use Rattle.vectors.specs.Vec.{at}
+
+-- +0, and f 0, f 1, .. , f (n - 1) added in that order
+unfoldable pub sumTo : (ℕ → Float) → ℕ → Float
+sumTo f zero = ofBits binary64 0
+sumTo f (suc n) = add binary64 (sumTo f n) (f n)
+
+-- the greatest of +0, f 0, f 1, .. , f (n - 1), NaN ignored
+unfoldable pub maxTo : (ℕ → Float) → ℕ → Float
+maxTo f zero = ofBits binary64 0
+maxTo f (suc n) = maxOf (maxTo f n) (f n)
+
+-- Σ v²
+unfoldable pub norm2Sq : List Float → Float
+norm2Sq v = sumTo (λ i. mul binary64 (at v i) (at v i)) (length v)
+
+-- Σ a·b
+unfoldable pub dot : List Float → List Float → Float
+dot a b = sumTo (λ i. mul binary64 (at a i) (at b i)) (length a)
+
+-- Σ |v|
+unfoldable pub sumAbs : List Float → Float
+sumAbs v = sumTo (λ i. absOf (at v i)) (length v)
+
+-- max |v|, from 0 and ignoring NaN
+unfoldable pub maxAbs : List Float → Float
+maxAbs v = maxTo (λ i. absOf (at v i)) (length v)

@@ -1,0 +1,72 @@
+// Sums and the greatest size of a vector, and a copy of one.
+ghost use mathlib.Core.Path.{_≡_};
+ghost use Prim.Native.Nat.{_≤_};
+ghost use lib.ListN.{length};
+ghost use Rattle.vectors.specs.Vec.{put};
+ghost use Rattle.vectors.specs.Sums.{norm2Sq, dot, sumAbs, maxAbs};
+
+pub fn norm2_sq(v: &[f64]) -> f64
+    ensures { λ r. ⌜ r ≡ norm2Sq (now (v .entry)) ⌝ }
+{
+    let mut sum = 0.0;
+    let mut i = 0;
+    while i < v.len() {
+        let x = v[i];
+        sum = sum + x * x;
+        i += 1;
+    }
+    sum
+}
+
+// The products of a and b, place by place, over the places of a.
+pub fn dot(a: &[f64], b: &[f64]) -> f64
+    requires { ⌜ length (now a) ≤ length (now b) ⌝ }
+    ensures { λ r. ⌜ r ≡ dot (now (a .entry)) (now (b .entry)) ⌝ }
+{
+    let mut sum = 0.0;
+    let mut i = 0;
+    while i < a.len() {
+        sum = sum + a[i] * b[i];
+        i += 1;
+    }
+    sum
+}
+
+// The sum of the sizes.
+pub fn sum_abs(v: &[f64]) -> f64
+    ensures { λ r. ⌜ r ≡ sumAbs (now (v .entry)) ⌝ }
+{
+    let mut sum = 0.0;
+    let mut i = 0;
+    while i < v.len() {
+        sum = sum + float64::abs(v[i]);
+        i += 1;
+    }
+    sum
+}
+
+// The greatest size, from 0; NaN is ignored.
+pub fn max_abs(v: &[f64]) -> f64
+    ensures { λ r. ⌜ r ≡ maxAbs (now (v .entry)) ⌝ }
+{
+    let mut top = 0.0;
+    let mut i = 0;
+    while i < v.len() {
+        let x = float64::abs(v[i]);
+        top = float64::max(top, x);
+        i += 1;
+    }
+    top
+}
+
+// The first places of t become those of x.
+pub fn copy(t: &mut [f64], x: &[f64])
+    requires { ⌜ length (now x) ≤ length (now t) ⌝ }
+    ensures { λ _. ⌜ now (t .exit) ≡ put (now (t .entry)) 0 (now (x .entry)) ⌝ }
+{
+    let mut i = 0;
+    while i < x.len() {
+        t[i] = x[i];
+        i += 1;
+    }
+}
