@@ -1,0 +1,16 @@
+use borrow.Author.Tests.{lt-ltb, le-ltb}
+use Rattle.matrices.proofs.ridge.start.Statement.{statement}
+use Rattle.matrices.proofs.ridge.start.Tie as tie
+use Rattle.matrices.proofs.ridge.start.Reads as reads
+use Rattle.matrices.proofs.ridge.start.Lts as lts
+
+-- src/ridge.rt:8:1
+returns : tie.Need-returns
+returns c = simp (lt-ltb _ _ (c .if1 .taken))
+
+-- src/ridge.rt:8:1
+returns-2 : tie.Need-returns-2
+returns-2 c = simp (le-ltb _ _ (c .if1 .left))
+
+pub start-spec : {M : Type 1} → statement M
+start-spec = tie.close (tie.spec returns returns-2)

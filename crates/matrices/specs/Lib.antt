@@ -1,0 +1,3 @@
+-- The definitions that the contracts of star cite.
+pub mod Gram
+pub mod Ridge

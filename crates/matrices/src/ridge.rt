@@ -1,0 +1,47 @@
+ghost use mathlib.Core.Path.{_≡_};
+ghost use Prim.Native.Nat.{_≤_, _<_, _-_, _+_, _*_, _^_};
+ghost use lib.ListN.{length, take, drop};
+ghost use Rattle.banded.specs.Rows.{matrix, concat};
+ghost use Rattle.matrices.specs.Ridge.{start, ridge};
+
+// Place p of a row of I.
+fn start(k: usize, p: usize) -> f64
+    ensures { λ x. ⌜ x ≡ start k p ⌝ }
+{
+    if p < k { 0.0 } else { 1.0 }
+}
+
+// Place p of row i of I + lam D'D, for a series of n.
+fn ridge_at(c: [f64; 3], lam: f64, k: usize, n: usize, i: usize, p: usize) -> f64
+    requires { ⌜ (k ≤ 2) × ((p ≤ k) × ((i < n) × (i + p < 2 ^ 62))) ⌝ }
+    ensures { λ x. ⌜ x ≡ ridge k c lam n i p ⌝ }
+{
+    if i + p < k {
+        return 0.0;
+    }
+    let j = i + p - k;
+    let lo = crate::over(i, k);
+    let hi = crate::smaller(j + 1, crate::over(n, k));
+    let mut v = start(k, p);
+    let mut r = lo;
+    while r < hi {
+        v = v + lam * c[i - r] * c[j - r];
+        r += 1;
+    }
+    v
+}
+
+// The n rows of it in the first places of s.
+pub fn fill_ridge(s: &mut [f64], c: [f64; 3], lam: f64, k: usize, n: usize)
+    requires { ⌜ (k ≤ 2) × (n * (k + 1) ≤ length (now s)) ⌝ }
+    ensures { λ _. ⌜ (take (n * (k + 1)) (now (s .exit)) ≡ concat (matrix k (ridge k c lam n) n)) × (drop (n * (k + 1)) (now (s .exit)) ≡ drop (n * (k + 1)) (now (s .entry))) ⌝ }
+{
+    let w = k + 1;
+    let e = n * w;
+    let mut p = 0;
+    while p < e {
+        let x = ridge_at(c, lam, k, n, p / w, p % w);
+        s[p] = x;
+        p += 1;
+    }
+}
