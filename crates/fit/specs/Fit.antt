@@ -16,8 +16,8 @@ use Rattle.certificate.specs.Knots.{knots}
 use Rattle.step_bound.specs.Search.{Ended}
 use Rattle.interior_point.specs.InteriorPoint.{State, origin, interiorPoint}
 use Rattle.polish.specs.Polish.{polish}
-use Rattle.trend_filter.specs.L2.{soundL2, trendL2, objectiveL2, gapL2}
-use Rattle.trend_filter.specs.Questions.{Asked, Lent, question}
+use Rattle.l2.specs.L2.{soundL2, trendL2, objectiveL2, gapL2}
+use Rattle.fit.specs.Questions.{Asked, Lent, question}
 
 -- a fit: every place that it writes outside work and marks, and all its numbers
 pub record Fit : Type 0 where

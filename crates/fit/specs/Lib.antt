@@ -1,0 +1,3 @@
+-- The whole fit, from what is asked and lent to its outcome.
+pub mod Questions
+pub mod Fit

@@ -1,1 +1,0 @@
-// Code follows its definitions.
