@@ -1,0 +1,3 @@
+-- The definitions that the contracts of trend_filter cite.
+pub mod Answers
+pub mod Inner
