@@ -1,2 +1,4 @@
+-- Laws of the fit, demand 3, and the known fits.
+pub mod Sign
 pub mod Known
 pub mod Corpus
