@@ -1,27 +1,24 @@
 -- Demand 3 holds of the fit: its search keeps it, a closed path does no iteration, and nothing else depends on the step limit.
 use mathlib.Core.Path.{_≡_, refl, sym, ap, _∙_, subst}
-use Prim.Native.Nat.{ℕ, zero, suc, _+_, _*_, _≤_, _<_}
+use Prim.Native.Nat.{ℕ, _≤_, _<_}
 use native.Mathlib.Omega.{arith}
 use mathlib.Core.Bool.{Bool, true, false, cond}
 use mathlib.Core.List.{List}
 use mathlib.Core.Option.{Option, none, some}
 use lib.Dec.{T, eqb, eqb→eq}
-use lib.Ieee.{Float, le, eq}
-use lib.Ieee.Positive.{positive}
-use Rattle.float64.specs.Ops.{_⊗_, c0}
+use lib.Ieee.{Float}
 use Rattle.differences.specs.Diff.{gramRow}
-use Rattle.certificate.specs.Certificate.{Certificate, gapOf, minus}
-use Rattle.certificate.specs.Knots.{knots}
+use Rattle.certificate.specs.Certificate.{Certificate}
 use Rattle.step_bound.specs.Search.{Problem, Ended, small}
 use Rattle.step_bound.specs.Demand3 as search
 use Rattle.step_bound.proofs.Demand.{demand3, kept-closed}
 use Rattle.interior_point.specs.InteriorPoint.{State, problem, origin, interiorPoint}
-use Rattle.l2.specs.L2.{soundL2, trendL2, objectiveL2, gapL2}
+use Rattle.l2.specs.L2.{soundL2}
 use Rattle.fit.specs.Questions.{Asked, Lent, question}
-use Rattle.fit.specs.Fit.{Fit, Outcome, refused, fitted, places, lamMaxOf, closed, fitL2, fitZero, fitFlat, polished, searchOf, keptOf, firstGap, fitEnd, fitL1, fitBy, soundDD, fit}
+use Rattle.fit.specs.Fit.{Fit, Outcome, refused, fitted, places, closed, fitL2, fitZero, fitFlat, polished, searchOf, keptOf, firstGap, fitWith, fitEnd, lamZero, lamHigh, fitL1, fitBy, soundDD, fit}
 use Rattle.fit.specs.Demand3.{Bounds, withLimit, Demand3}
 use Rattle.fit.proofs.Sign.{lam-positive, primal-clear}
-use Rattle.fit.proofs.Passed.{Answered, answered, same-question, same-questions, from-one, not-refused, fit-passed, Passed, passed}
+use Rattle.fit.proofs.Passed.{Answered, answered, same-question, same-questions, fit-passed, Passed, passed}
 
 -- ---- the search of a fit
 abbrev problemOf : Asked → Problem State
@@ -30,7 +27,7 @@ problemOf a = problem (a .order) (gramRow (a .order)) (a .y) (a .lam)
 abbrev Searches : Asked → Type 0
 Searches a = search.Demand3 (problemOf a) (a .tol) (origin (places a))
 
-searches : (a : Asked) (l : Lent) → Answered a l → eq (a .lam) c0 ≡ false → Searches a
+searches : (a : Asked) (l : Lent) → Answered a l → lamZero a ≡ false → Searches a
 searches a l q z = demand3 (problemOf a) (a .tol) (q .tol) (primal-clear (a .order) (gramRow (a .order)) (a .y) (a .lam) (lam-positive (a .lam) (q .lam-finite) (q .lam-not-below) z)) (origin (places a))
 
 -- ---- the numeric bounds
@@ -56,9 +53,9 @@ within-l2 max a = go (soundL2 (a .order) (a .y) (a .lam)) _ (bounds-closed max a
 
 within-l1 : (a : Asked) (l : Lent) → Answered a l → Bounds (a .limit) (fitL1 a)
 unfolding fitL1 fitZero fitFlat
-within-l1 a l q = go (eq (a .lam) c0) refl (le (lamMaxOf a) (a .lam))
+within-l1 a l q = go (lamZero a) refl (lamHigh a)
   where
-    go : (z : Bool) → eq (a .lam) c0 ≡ z → (m : Bool) → Bounds (a .limit) (cond z (fitZero a) (cond m (fitFlat a) (fitEnd a (searchOf a))))
+    go : (z : Bool) → lamZero a ≡ z → (m : Bool) → Bounds (a .limit) (cond z (fitZero a) (cond m (fitFlat a) (fitEnd a (searchOf a))))
     go true e m = bounds-closed (a .limit) a _ _ _ _
     go false e true = bounds-closed (a .limit) a _ _ _ _
     go false e false = bounds-end a (searches a l q e)
@@ -75,27 +72,12 @@ pub bounds : (a : Asked) (l : Lent) (f : Fit) → fit a l ≡ fitted f → Bound
 bounds a l f e = let p = passed a l f e in subst (Within (a .limit)) (p .made) (within a l (answered a l (p .asked)))
 
 -- ---- another limit
--- the end of a search, without its reason, makes the fit
-abbrev fitFrom : Asked → Certificate → ℕ → Float → ℕ → Fit
-fitFrom a c steps best gains = record {
-  trend = c .trend;
-  cycle = minus (a .y) (c .trend);
-  knots = knots (a .order) (a .y) (c .jumps);
-  lam-max = lamMaxOf a;
-  gap = gapOf c;
-  first-gap = firstGap a;
-  best-gap = best;
-  objective = c .primal;
-  n-iter = steps;
-  improvements = gains;
-  converged = le (gapOf c) (a .tol ⊗ c .primal);
-}
+-- an end with the same state, best gap and counts
+abbrev endWith : State → ℕ → Float → ℕ → Ended State
+endWith s steps best gains = record { state = s; steps = steps; best = best; gains = gains; reason = small }
 
--- the certificate that is kept, from the state in which the search ended
-abbrev keptAt : Asked → State → Certificate
-keptAt a s = keptOf a (record { state = s; steps = 0; best = c0; gains = 0; reason = small })
-
-end-from : (a : Asked) (e : Ended State) → fitEnd a e ≡ fitFrom a (keptAt a (e .state)) (e .steps) (e .best) (e .gains)
+-- the reason does not reach the fit
+end-from : (a : Asked) (e : Ended State) → fitEnd a e ≡ fitEnd a (endWith (e .state) (e .steps) (e .best) (e .gains))
 unfolding fitEnd keptOf
 end-from a e = refl
 
@@ -110,10 +92,10 @@ kept-other m a e = polished-other m a _ _
 
 end-other : (m : ℕ) (a : Asked) (e : Ended State) → fitEnd (withLimit m a) e ≡ fitEnd a e
 unfolding fitEnd firstGap
-end-other m a e = ap (λ (c : Certificate). fitFrom a c (e .steps) (e .best) (e .gains)) (kept-other m a e)
+end-other m a e = ap (λ (c : Certificate). fitWith a c e) (kept-other m a e)
 
 same-fit : (a : Asked) (e f : Ended State) → search.Alike e f → fitEnd a e ≡ fitEnd a f
-same-fit a e f h = end-from a e ∙ (λ i. fitFrom a (keptAt a (h .state i)) (h .steps i) (h .best i) (h .gains i)) ∙ sym (end-from a f)
+same-fit a e f h = end-from a e ∙ (λ i. fitEnd a (endWith (h .state i) (h .steps i) (h .best i) (h .gains i))) ∙ sym (end-from a f)
 
 zero-other : (m : ℕ) (a : Asked) → fitZero (withLimit m a) ≡ fitZero a
 unfolding fitZero closed
@@ -131,15 +113,15 @@ l2-other m a = refl
 abbrev by : (p z m : Bool) → Outcome → Fit → Fit → Fit → Outcome
 by p z m l2 o c x = cond p l2 (fitted (cond z o (cond m c x)))
 
-by-path : (a : Asked) → fitBy a ≡ by (eqb (a .penalty) 2) (eq (a .lam) c0) (le (lamMaxOf a) (a .lam)) (fitL2 a) (fitZero a) (fitFlat a) (fitEnd a (searchOf a))
+by-path : (a : Asked) → fitBy a ≡ by (eqb (a .penalty) 2) (lamZero a) (lamHigh a) (fitL2 a) (fitZero a) (fitFlat a) (fitEnd a (searchOf a))
 unfolding fitBy fitL1
 by-path a = refl
 
 by-path-other : (n : ℕ) (a : Asked)
-    → fitBy (withLimit n a) ≡ by (eqb (a .penalty) 2) (eq (a .lam) c0) (le (lamMaxOf a) (a .lam)) (fitL2 a) (fitZero a) (fitFlat a) (fitEnd a (searchOf (withLimit n a)))
+    → fitBy (withLimit n a) ≡ by (eqb (a .penalty) 2) (lamZero a) (lamHigh a) (fitL2 a) (fitZero a) (fitFlat a) (fitEnd a (searchOf (withLimit n a)))
 by-path-other n a =
     by-path (withLimit n a)
-    ∙ (λ i. by (eqb (a .penalty) 2) (eq (a .lam) c0) (le (lamMaxOf a) (a .lam)) (l2-other n a i) (zero-other n a i) (flat-other n a i) (end-other n a (searchOf (withLimit n a)) i))
+    ∙ (λ i. by (eqb (a .penalty) 2) (lamZero a) (lamHigh a) (l2-other n a i) (zero-other n a i) (flat-other n a i) (end-other n a (searchOf (withLimit n a)) i))
 
 -- where two searches end alike, or none is made, the fits are the same
 same-by : (p z m : Bool) (l2 : Outcome) (o c x y : Fit) → (p ≡ false → z ≡ false → m ≡ false → x ≡ y) → by p z m l2 o c x ≡ by p z m l2 o c y
@@ -153,7 +135,7 @@ abbrev iterations : Outcome → ℕ
 iterations (refused n) = 0
 iterations (fitted f) = f .n-iter
 
-end-steps : (a : Asked) (f : Fit) → fitBy a ≡ fitted f → eqb (a .penalty) 2 ≡ false → eq (a .lam) c0 ≡ false → le (lamMaxOf a) (a .lam) ≡ false → searchOf a .steps ≡ f .n-iter
+end-steps : (a : Asked) (f : Fit) → fitBy a ≡ fitted f → eqb (a .penalty) 2 ≡ false → lamZero a ≡ false → lamHigh a ≡ false → searchOf a .steps ≡ f .n-iter
 unfolding fitEnd
 end-steps a f e p z m =
     let q : fitBy a ≡ fitted (fitEnd a (searchOf a)) =
@@ -176,7 +158,7 @@ alike a l f e h other one g =
     fit-passed (withLimit other a) l (same-question a l other (q .limit) one ∙ p .asked)
     ∙ ap (λ (b : Bool). cond b (fitBy (withLimit other a)) (refused 10)) (p .sound)
     ∙ by-path-other other a
-    ∙ same-by (eqb (a .penalty) 2) (eq (a .lam) c0) (le (lamMaxOf a) (a .lam)) (fitL2 a) (fitZero a) (fitFlat a) (fitEnd a (searchOf (withLimit other a))) (fitEnd a (searchOf a))
+    ∙ same-by (eqb (a .penalty) 2) (lamZero a) (lamHigh a) (fitL2 a) (fitZero a) (fitFlat a) (fitEnd a (searchOf (withLimit other a))) (fitEnd a (searchOf a))
     (λ b z m. same-fit a (searchOf (withLimit other a)) (searchOf a) (ends-alike a other (f .n-iter) (searches a l q z) (end-steps a f (p .made) b z m) h g))
     ∙ sym (by-path a) ∙ p .made
 
@@ -188,7 +170,7 @@ same-high : (a : Asked) (l : Lent) (one other : ℕ) → 1447640 < one → 14476
 same-high a l one other h g e =
     let q = answered (withLimit one a) l e in
     by-path-other one a
-    ∙ same-by (eqb (a .penalty) 2) (eq (a .lam) c0) (le (lamMaxOf a) (a .lam)) (fitL2 a) (fitZero a) (fitFlat a) (fitEnd a (searchOf (withLimit one a))) (fitEnd a (searchOf (withLimit other a)))
+    ∙ same-by (eqb (a .penalty) 2) (lamZero a) (lamHigh a) (fitL2 a) (fitZero a) (fitFlat a) (fitEnd a (searchOf (withLimit one a))) (fitEnd a (searchOf (withLimit other a)))
     (λ b z m. ap (fitEnd a) (ends-settled a one other (searches (withLimit one a) l q z) h g))
     ∙ sym (by-path-other other a)
 

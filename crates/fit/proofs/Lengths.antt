@@ -8,9 +8,8 @@ use mathlib.Core.List.{List, [], _∷_, _++_}
 use mathlib.Core.Option.{Option, none, some}
 use lib.Dec.{T, eqb}
 use lib.ListN.{length, length-append}
-use lib.Ieee.{Float, lt, le, eq}
+use lib.Ieee.{Float, lt}
 use Rattle.float64.specs.Helpers.{absOf}
-use Rattle.float64.specs.Ops.{c0}
 use Rattle.vectors.specs.Vec.{at}
 use Rattle.vectors.proofs.Laws.{length-list}
 use Rattle.differences.specs.Diff.{diff, diffK}
@@ -22,7 +21,7 @@ use Rattle.step_bound.specs.Search.{Ended}
 use Rattle.interior_point.specs.InteriorPoint.{State}
 use Rattle.l2.specs.L2.{soundL2, trendL2}
 use Rattle.fit.specs.Questions.{Asked, Lent}
-use Rattle.fit.specs.Fit.{Fit, Outcome, refused, fitted, places, lamMaxOf, closed, fitL2, fitZero, fitFlat, better, polished, searchOf, keptOf, fitEnd, fitL1, fitBy, fit}
+use Rattle.fit.specs.Fit.{Fit, Outcome, refused, fitted, places, closed, fitL2, fitZero, fitFlat, better, polished, searchOf, keptOf, fitEnd, lamZero, lamHigh, fitL1, fitBy, fit}
 use Rattle.fit.proofs.Passed.{Passed, passed}
 
 pub record Lengths (a : Asked) (f : Fit) : Type 0 where
@@ -117,7 +116,7 @@ l2-lengths a = go (soundL2 (a .order) (a .y) (a .lam)) _ (closed-lengths a _ _ _
 
 l1-lengths : (a : Asked) → Lengths a (fitL1 a)
 unfolding fitL1 fitZero fitFlat
-l1-lengths a = go (eq (a .lam) c0) (le (lamMaxOf a) (a .lam))
+l1-lengths a = go (lamZero a) (lamHigh a)
   where
     go : (z m : Bool) → Lengths a (cond z (fitZero a) (cond m (fitFlat a) (fitEnd a (searchOf a))))
     go true m = closed-lengths a _ _ _ _ refl (jumps-of a (a .y) refl)
