@@ -10,7 +10,9 @@ ghost use Rattle.fit.specs.Questions.{question};
 ghost use Rattle.fit.specs.Fit.{fitL1, fitL2, fitBy, fit};
 ghost use Rattle.questions.specs.Groups.{asking, lending};
 ghost use Rattle.trend_filter.specs.Answers.{Gives, Answered};
-ghost use Rattle.trend_filter.specs.Inner.{Room, closedOf, Shows};
+ghost use Rattle.trend_filter.specs.Inner.{Room, Prepared, closedOf, Shows};
+
+use matrices::Peak;
 
 // penalty 1 is L1, 2 is L2.
 pub struct TrendFilterOptions {
@@ -77,6 +79,16 @@ fn fit_l1(y: &[f64], lam: f64, tol: f64, max_iter: u64, k: usize, lam_max: f64, 
     closed(0, lam_max, 0.0, 0.0)
 }
 
+// D y, the factor of D D', z* after it in work, and lam_max.
+fn prepare(work: &mut [f64], y: &[f64], k: usize) -> Peak
+    requires { ⌜ (1 ≤ k) × ((k ≤ 2) × ((k < length (now y)) × ((length (now y) ≤ 65536) × (40 * length (now y) ≤ length (now work))))) ⌝ }
+    ensures { λ r. ⌜ Prepared k (now (y .entry)) (now (work .entry)) (now (work .exit)) r ⌝ }
+{
+    let m = y.len() - k;
+    let g = differences::gram_offsets(k);
+    matrices::prepare(work, y, g, k, m)
+}
+
 // The fit by its penalty, once the pivots of D D' are good and z* stands in work after its rows.
 fn fit_by(y: &[f64], lam: f64, opts: TrendFilterOptions, k: usize, lam_max: f64, trend: &mut [f64], cycle: &mut [f64], knots: &mut [u32], work: &mut [f64], marks: &mut [u32]) -> Answer
     requires { ⌜ Room k (length (now y)) (length (now trend)) (length (now cycle)) (length (now knots))
@@ -105,9 +117,7 @@ fn fit_asked(y: &[f64], lam: f64, opts: TrendFilterOptions, trend: &mut [f64], c
         × KeptOf 0 0 (2 * length (now (y .entry))) (now (marks .entry)) (now (marks .exit))) ⌝ }
 {
     let k = opts.order as usize;
-    let m = y.len() - k;
-    let g = differences::gram_offsets(k);
-    let p = matrices::prepare(work, y, g, k, m);
+    let p = prepare(work, y, k);
     if !p.good {
         return Answer::Refused(10);
     }

@@ -1,0 +1,82 @@
+-- Laws of answers: a refusal, a fit that was written, and that past the questions nothing is refused early. Assumes nothing.
+use mathlib.Core.Path.{_≡_, refl, sym, ap, subst, _∙_}
+use mathlib.Core.Bool.{Bool, true, false, cond}
+use mathlib.Core.List.{List}
+use Prim.Native.Nat.{ℕ, _+_, _-_, _≤_}
+use lib.Dec.{eqb}
+use lib.Ieee.{Float}
+use lib.ListN.{length, drop, getD}
+use lib.Seq.{getD-drop}
+use native.Mathlib.Omega.{arith}
+use Rattle.vectors.specs.Vec.{KeptOf, put}
+use borrow.Author.Tests.{eq-eqb, ne-eqb}
+use Rattle.l2.specs.L2.{soundL2}
+use Rattle.fit.specs.Questions.{Asked, Lent, question}
+use Rattle.fit.specs.Fit.{Fit as FitOf, Outcome, refused, fitted, soundDD, fitL1, fitL2, fitBy, fit}
+use Rattle.fit.proofs.Passed.{fit-passed}
+use Rattle.trend_filter.specs.declared.Summary.{Summary}
+use Rattle.trend_filter.specs.declared.Answer.{Answer}
+use Rattle.trend_filter.specs.declared.Answer.the-variants.{Fit, Refused}
+use Rattle.trend_filter.specs.Answers.{answerOf, after, early, Gives}
+use Rattle.trend_filter.specs.Inner.{Shows}
+
+pub gives-refused : (q : ℕ) (t c : List Float) (k : List ℕ) → Gives (refused q) (Refused q) t t c c k k
+unfolding answerOf after
+gives-refused q t c k = record { answer = refl; trend = refl; cycle = refl; knots = refl }
+
+pub gives-fit : {f : FitOf} {s : Summary} {t₀ t c₀ c : List Float} {k₀ k : List ℕ} → Shows f s t₀ t c₀ c k₀ k → Gives (fitted f) (Fit s) t₀ t c₀ c k₀ k
+unfolding answerOf after
+gives-fit h = record { answer = ap Fit (h .summary); trend = h .trend; cycle = h .cycle; knots = h .knots }
+
+pub gives-same : {o p : Outcome} {r : Answer} {t₀ t c₀ c : List Float} {k₀ k : List ℕ} → o ≡ p → Gives p r t₀ t c₀ c k₀ k → Gives o r t₀ t c₀ c k₀ k
+gives-same {o} {p} {r} {t₀} {t} {c₀} {c} {k₀} {k} e g = subst (λ (q : Outcome). Gives q r t₀ t c₀ c k₀ k) (sym e) g
+
+-- by the penalty
+pub by-2 : (a : Asked) → a .penalty ≡ 2 → fitBy a ≡ fitL2 a
+unfolding fitBy
+by-2 a e = rw (eq-eqb (a .penalty) 2 e)
+
+pub by-1 : (a : Asked) → (a .penalty ≡ 2 → ⊥) → fitBy a ≡ fitted (fitL1 a)
+unfolding fitBy
+by-1 a n = rw (ne-eqb (a .penalty) 2 n)
+
+-- past the questions no refusal is early
+pick-late : (b : Bool) (o p : Outcome) → early o ≡ false → early p ≡ false → early (cond b o p) ≡ false
+pick-late true o p x y = x
+pick-late false o p x y = y
+
+late-2 : (a : Asked) → early (fitL2 a) ≡ false
+unfolding early fitL2
+late-2 a = pick-late (soundL2 (a .order) (a .y) (a .lam)) _ (refused 10) refl refl
+
+late-by : (a : Asked) → early (fitBy a) ≡ false
+unfolding early fitBy
+late-by a = pick-late (eqb (a .penalty) 2) (fitL2 a) (fitted (fitL1 a)) (late-2 a) refl
+
+pub late : (a : Asked) (l : Lent) → question a l ≡ 0 → early (fit a l) ≡ false
+unfolding early
+late a l e = ap early (fit-passed a l e) ∙ pick-late (soundDD a) (fitBy a) (refused 10) (late-by a) refl
+
+clash : (b : Bool) → b ≡ true → b ≡ false → ⊥
+clash true p q = let z : _≡_ {A = ℕ} 0 1 = cc in omega arith
+clash false p q = let z : _≡_ {A = ℕ} 0 1 = cc in omega arith
+
+pub not-early : (a : Asked) (l : Lent) → question a l ≡ 0 → early (fit a l) ≡ true → ⊥
+not-early a l e t = clash (early (fit a l)) t (late a l e)
+
+-- the preparation
+pub sound-fit : (a : Asked) (l : Lent) → question a l ≡ 0 → soundDD a ≡ true → fit a l ≡ fitBy a
+sound-fit a l e s = fit-passed a l e ∙ ap (λ (b : Bool). cond b (fitBy a) (refused 10)) s
+
+pub unsound-fit : (a : Asked) (l : Lent) → question a l ≡ 0 → soundDD a ≡ false → fit a l ≡ refused 10
+unsound-fit a l e s = fit-passed a l e ∙ ap (λ (b : Bool). cond b (fitBy a) (refused 10)) s
+
+-- a run of which all places from q on stayed
+pub kept-drop : {A : Type 0} (z : A) (q : ℕ) (s₀ s : List A) → length s ≡ length s₀ → drop q s ≡ drop q s₀ → KeptOf z 0 q s₀ s
+kept-drop {A} z q s₀ s n e = record {
+  size = n;
+  below = λ j h. absurd (omega arith);
+  above = λ j h.
+      let r : q + (j - q) ≡ j = omega arith in
+      ap (λ (p : ℕ). getD s p z) (sym r) ∙ sym (getD-drop q s (j - q) z) ∙ ap (λ (v : List A). getD v (j - q) z) e ∙ getD-drop q s₀ (j - q) z ∙ ap (λ (p : ℕ). getD s₀ p z) r;
+}
