@@ -10,10 +10,10 @@ use Rattle.banded.specs.Run.{flat}
 use lib.Ieee.{binary64, mul}
 use Rattle.banded.specs.Rows.{less}
 use Rattle.banded.specs.Solve.{forwardAt}
-use Rattle.banded.proofs.solve.forward_at.Statement.{statement}
-use Rattle.banded.proofs.solve.forward_at.Tie as tie
-use Rattle.banded.proofs.solve.forward_at.Reads as reads
-use Rattle.banded.proofs.solve.forward_at.Lts as lts
+use Rattle.banded.proofs.forward_at.Statement.{statement}
+use Rattle.banded.proofs.forward_at.Tie as tie
+use Rattle.banded.proofs.forward_at.Reads as reads
+use Rattle.banded.proofs.forward_at.Lts as lts
 use Rattle.banded.proofs.first.Reads as first-reads
 use Rattle.banded.proofs.get.Reads as get-reads
 
