@@ -3,7 +3,8 @@ ghost use mathlib.Core.Path.{_≡_};
 ghost use Prim.Native.Nat.{_+_, _*_, _^_, _<_, _≤_};
 ghost use lib.Ieee.{binary64, ofBits};
 ghost use Rattle.float64.specs.Helpers.{absOf, isFinite, maxOf, minOf, clampOf};
-ghost use Rattle.float64.specs.Sqrt.{sqrtOf, nearestRoot, roundedRoot, Bits};
+ghost use Rattle.float64.specs.Sqrt.{sqrtOf, nearestRoot};
+ghost use Rattle.float64.specs.Parts.{roundedRoot, Bits};
 
 // How many places the digits t of a subnormal go up until they are 53.
 fn places(t: u64) -> u64
