@@ -1,14 +1,15 @@
 -- Facts of the small helpers: which value a test `x != x` finds, what lies between the infinities, and the sign cleared by 0 - x. Assumes nothing.
 use mathlib.Core.Path.{_≡_, refl, sym, ap, ap₂, _∙_, subst}
-use Prim.Native.Nat.{ℕ, zero, suc, _+_, _-_, _*_, _<_}
-use native.Mathlib.Nat.{zero-mul, one-mul, mul-one, mul-pos, zero-lt-suc}
+use Prim.Native.Nat.{ℕ, zero, suc, _+_, _-_, _*_, _^_, _<_}
+use native.Mathlib.Nat.{zero-mul, one-mul, mul-one, mul-pos, zero-lt-suc, pow-succ'}
 use native.Mathlib.Omega.{arith}
 use mathlib.Core.Bool.{Bool, true, false, not, true≢false}
 use lib.IntN.{ℤ, pos, negsuc}
-use lib.Dec.{T, ltb, lt→ltb}
+use lib.Dec.{T, ltb, lt→ltb, eqb→eq}
+use lib.Pow.{pow-pos}
 use lib.Ieee.{Float, nan, inf, fin, binary64, up, down, round, sum, add, sub, neg, lt, ne, fits, isNan, ofBits, nanBits}
 use lib.Ieee.Compare.{differs-from-itself}
-use lib.Ieee.Fits.{up-pos, neg-fits}
+use lib.Ieee.Fits.{up-pos, down-pos, neg-fits}
 use lib.Ieee.Bits.{is-true}
 use Rattle.float64.specs.Helpers.{absOf, isFinite}
 use Rattle.float64.proofs.Doubles.{round-double}
@@ -71,22 +72,33 @@ minus-of s m e f =
     ∙ ap₂ (round binary64 (not s)) a c
     ∙ round-double (not s) m e (neg-fits binary64 (fin s (suc m) e) f)
 
--- and 0 - 0 is +0 for either 0
+-- 0 - 0 is +0 for either 0
 minus-zero : (s : Bool) (e : ℤ) → T (fits binary64 (fin s zero e)) → sub binary64 (ofBits binary64 0) (fin s zero e) ≡ fin false zero e
-minus-zero s e f = ?
+unfolding sub add neg sum round ofBits fits
+minus-zero true (pos zero) f = refl
+minus-zero false (pos zero) f = refl
+minus-zero s (pos (suc a)) f = absurd (omega (arith, pow-succ' 2 a, pow-pos a, eqb→eq (2 ^ suc a * 1) 1 f))
+minus-zero s (negsuc a) f = absurd (omega (arith, pow-succ' 2 a, pow-pos a, eqb→eq (1 * 2 ^ suc a) 1 f))
 
+-- where 0 - x is below x, x is its own size
 pub abs-kept : (x : Float) → T (fits binary64 x) → lt (sub binary64 (ofBits binary64 0) x) x ≡ true → x ≡ absOf x
-unfolding absOf
+unfolding absOf sub add neg ofBits lt
 abs-kept nan f h = refl
-abs-kept (inf s) f h = ?
-abs-kept (fin true zero e) f h = ?
-abs-kept (fin true (suc m) e) f h = ?
+abs-kept (inf true) f h = absurd (true≢false (sym h))
+abs-kept (inf false) f h = refl
+abs-kept (fin true zero e) f h = absurd (true≢false (sym h ∙ ap (λ (n : Float). lt n (fin true zero e)) (minus-zero true e f)))
+abs-kept (fin true (suc m) e) f h = absurd (true≢false (sym h ∙ ap (λ (n : Float). lt n (fin true (suc m) e)) (minus-of true m e f)))
 abs-kept (fin false m e) f h = refl
 
+-- and elsewhere 0 - x is
 pub abs-turned : (x : Float) → T (fits binary64 x) → lt (sub binary64 (ofBits binary64 0) x) x ≡ false → sub binary64 (ofBits binary64 0) x ≡ absOf x
-unfolding absOf
-abs-turned nan f h = ?
-abs-turned (inf s) f h = ?
+unfolding absOf sub add neg ofBits lt
+abs-turned nan f h = refl
+abs-turned (inf true) f h = refl
+abs-turned (inf false) f h = absurd (true≢false h)
 abs-turned (fin s zero e) f h = minus-zero s e f
 abs-turned (fin true (suc m) e) f h = minus-of true m e f
-abs-turned (fin false (suc m) e) f h = ?
+abs-turned (fin false (suc m) e) f h =
+    let n = suc m * up e * down e in
+    let size : 0 < n + n = omega (arith, mul-pos (mul-pos (zero-lt-suc m) (up-pos e)) (down-pos e)) in
+    absurd (true≢false (sym (ap (λ (n : Float). lt n (fin false (suc m) e)) (minus-of false m e f) ∙ is-true (ltb 0 (n + n)) (lt→ltb 0 (n + n) size)) ∙ h))

@@ -110,10 +110,8 @@ pub fn is_finite(x: f64) -> bool
 pub fn abs(x: f64) -> f64
     ensures { λ r. ⌜ r ≡ absOf x ⌝ }
 {
-    if x != x {
-        return x;
-    }
-    f64::from_bits(f64::to_bits(x) % 0x8000_0000_0000_0000)
+    let n = 0.0 - x;
+    if n < x { x } else { n }
 }
 
 pub fn max(a: f64, b: f64) -> f64
