@@ -1,4 +1,7 @@
-// Square root of an f64, worked out on its bit pattern.
+// Helpers on doubles, each equal to its definition for every double: abs, max, min, clamp, is_finite, and the square root, which is
+// worked out on the bit pattern.
+pub mod exports; // exports.rt: the helpers under names for C
+
 ghost use mathlib.Core.Path.{_≡_};
 ghost use Prim.Native.Nat.{_+_, _*_, _^_, _<_, _≤_};
 ghost use lib.Ieee.{binary64, ofBits};
