@@ -138,9 +138,11 @@ rounded-is n r a b = go (decLe (r * r) n)
   where
     before : (q : ℕ) → suc q * suc q < n + suc q → n < suc q * suc q → roundedRoot n ≡ suc q
     before q k l = rounded-up n q (n - q * q) (omega arith) (omega arith) (omega arith) ∙ add-one q
+
     less : (r : ℕ) → r * r < n + r → n < r * r → roundedRoot n ≡ r
     less zero k l = absurd (omega arith)
     less (suc q) k l = before q k l
+
     go : Dec (r * r ≤ n) → roundedRoot n ≡ r
     go (yes k) = rounded-down n r (n - r * r) (omega arith) (omega arith) (omega arith)
     go (no f) = less r a (lt-of-not-le f)
