@@ -1,10 +1,9 @@
 -- Doubles counted in units of 2 ^ -1074: which whole numbers they are, that the count and the sign tell the double, and that rounding keeps it.
 -- Assumes nothing.
-use mathlib.Core.Path.{_≡_, refl, sym, ap, ap₂, _∙_, subst}
+use mathlib.Core.Path.{_≡_, refl, sym, ap, _∙_, subst}
 use Prim.Native.Nat.{ℕ, zero, suc, _+_, _-_, _*_, _/_, _%_, _^_, _≤_, _<_}
 use native.Mathlib.Nat.{le-of-eq, le-trans, le-of-suc-le-suc, lt-irrefl, lt-of-lt-of-le, lt-of-not-le, mul-assoc, mul-right-comm, mul-one, mul-div-cancel, mul-lt-mul-of-pos-right, lt-of-mul-lt-mul-right, zero-mul}
-use native.Mathlib.Omega.{arith}
-use mathlib.Core.Bool.{Bool, true, false, cond, _&&_, true≢false}
+use mathlib.Core.Bool.{Bool, true, cond, _&&_, true≢false}
 use lib.IntN.{ℤ, pos, negsuc}
 use lib.Dec.{T, leb, ltb, eqb, leb→le, ltb→lt, lit<, lit≤}
 use lib.Pow.{pow-add, pow-pos, pow-lt, pow-mono}

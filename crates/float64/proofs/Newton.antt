@@ -1,11 +1,11 @@
 -- Whole-number roots, step by step: one digit more, a step of Newton's method, and the last digits with the rounding. Assumes nothing.
 use mathlib.Core.Path.{_≡_, refl, sym, _∙_, subst}
 use Prim.Native.Nat.{ℕ, zero, suc, _+_, _-_, _*_, _/_, _%_, _^_, _≤_, _<_}
-use native.Mathlib.Nat.{le-trans, le-of-lt, mul-assoc, mul-le-mul, mul-le-mul-left, mul-le-mul-right, le-of-mul-le-mul-right, lt-of-mul-lt-mul-right, lt-of-not-le, lt-of-le-of-lt, lt-of-lt-of-le, not-le-of-lt, le-of-suc-le-suc, pow-succ', div-mul-le-self, div-add-mod', mod-lt, le-div-iff-mul-le}
+use native.Mathlib.Nat.{le-trans, mul-le-mul, mul-le-mul-left, mul-le-mul-right, le-of-mul-le-mul-right, lt-of-mul-lt-mul-right, lt-of-not-le, lt-of-le-of-lt, not-le-of-lt, le-of-suc-le-suc, pow-succ', div-mul-le-self, div-add-mod', mod-lt, le-div-iff-mul-le}
 use native.Mathlib.Numerals.{add-one}
 use native.Mathlib.Decide.{decLe}
 use native.Mathlib.Omega.{arith}
-use lib.Pow.{pow-pos, pow-mono}
+use lib.Pow.{pow-mono}
 use Rattle.float64.specs.Sqrt.{isqrt}
 use Rattle.float64.specs.Parts.{roundedRoot}
 use Rattle.float64.proofs.Root.{Root, sq-back, isqrt-root, isqrt-is}
