@@ -1,0 +1,43 @@
+-- Document 01, "Certificate at z".
+use mathlib.Core.List.{List}
+use Prim.Native.Nat.{ℕ}
+use lib.ListN.{length}
+use lib.Ieee.{Float, neg}
+use Rattle.float64.specs.Helpers.{clampOf}
+use Rattle.float64.specs.Ops.{_⊕_, _⊖_, _⊗_, half}
+use Rattle.vectors.specs.Vec.{at, list}
+use Rattle.vectors.specs.Sums.{norm2Sq, dot, sumAbs}
+use Rattle.differences.specs.Diff.{diffK, diffKT}
+
+-- the trend x, its differences D x, P and G
+pub record Certificate : Type 0 where
+  pub trend : List Float
+  pub jumps : List Float
+  pub primal : Float
+  pub dual : Float
+
+-- a - b, place by place
+unfoldable pub minus : List Float → List Float → List Float
+minus a b = list (length a) (λ i. at a i ⊖ at b i)
+
+-- z, each place clamped to lam
+unfoldable pub clamped : Float → List Float → List Float
+clamped lam z = list (length z) (λ i. clampOf (at z i) lam)
+
+-- x = y - D'z; P = 0.5·Σ(D'z)² + lam·Σ|D x|; with zc the clamped z, G = -0.5·Σ(D'zc)² + Σ zc·D y
+unfoldable pub certify : ℕ → List Float → Float → List Float → Certificate
+certify k y lam z =
+    let w = diffKT k z in
+    let x = minus y w in
+    let d = diffK k x in
+    let zc = clamped lam z in
+    record {
+      trend = x;
+      jumps = d;
+      primal = half ⊗ norm2Sq w ⊕ lam ⊗ sumAbs d;
+      dual = neg half ⊗ norm2Sq (diffKT k zc) ⊕ dot zc (diffK k y);
+    }
+
+-- gap = P - G
+abbrev pub gapOf : Certificate → Float
+gapOf c = c .primal ⊖ c .dual

@@ -1,0 +1,1 @@
+// Code follows its definitions.

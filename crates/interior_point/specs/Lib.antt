@@ -1,0 +1,2 @@
+-- The definitions that the contracts of interior_point cite.
+pub mod InteriorPoint

@@ -1,0 +1,2 @@
+-- The definitions that the contracts of l2 cite.
+pub mod L2

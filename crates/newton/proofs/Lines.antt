@@ -1,0 +1,184 @@
+-- What stays where a run is written elsewhere, and the ways through the line search.
+use mathlib.Core.Path.{_≡_, refl, sym, ap, _∙_, subst}
+use mathlib.Core.List.{List}
+use mathlib.Core.Bool.{Bool, true, false, cond, _&&_}
+use Prim.Native.Nat.{ℕ, zero, suc, _+_, _-_, _*_, _/_, _%_, _≤_, _<_}
+use native.Mathlib.Omega.{arith}
+use native.Mathlib.Numerals.{add-one}
+use borrow.Author.Tests.{lt-ltb, le-ltb}
+use Rattle.matrices.specs.Gram.{gram, product}
+use Rattle.banded.specs.Rows.{Matrix, matrix, concat}
+use Rattle.banded.proofs.Laws.{filled}
+use lib.ListN.{length, getD, set, take, drop, length-drop}
+use lib.Seq.{ext-getD, getD-take, getD-drop, length-take-le, take-all}
+use lib.Ieee.{Float, nan, binary64, add, mul, lt, ofBits}
+use Rattle.vectors.specs.Vec.{at, list, Written}
+use Rattle.vectors.proofs.Laws.{length-list, at-list, list-ext, up}
+use Rattle.newton.specs.Newton.{Dual, Trial, dmu1At, dmu2At, direction, inside, along, norm, lower, accepted, trials, barrier, rightAt, system, right}
+use Rattle.vectors.specs.Vec.{part, Kept}
+use Rattle.newton.specs.Places.{point, searchedFrom, Searched}
+use Rattle.vectors.proofs.Laws.{kept-then}
+use Rattle.vectors.proofs.Parts.{length-part, at-part, range-part, part-below, part-above, partOf-range}
+
+pub point-below : {a n : ℕ} {s₀ s : List Float} (e m : ℕ) → Kept a n s₀ s → e + m + m + m ≤ a → point e m s ≡ point e m s₀
+point-below e m w h =
+    λ i. record { z = part-below nan e m w (omega arith) i; mu1 = part-below nan (e + m) m w (omega arith) i; mu2 = part-below nan (e + m + m) m w (omega arith) i }
+
+pub point-above : {a n : ℕ} {s₀ s : List Float} (e m : ℕ) → Kept a n s₀ s → a + n ≤ e → point e m s ≡ point e m s₀
+point-above e m w h =
+    λ i. record { z = part-above nan e m w (omega arith) i; mu1 = part-above nan (e + m) m w (omega arith) i; mu2 = part-above nan (e + m + m) m w (omega arith) i }
+
+pub point-range : (m c e : ℕ) (s : List Float) → e ≡ c + c → c ≡ 3 * m → e ≤ length s → point 0 m (take (e - c) (drop c s)) ≡ point c m s
+point-range m c e s q f h =
+    let z : c + 0 ≡ c = omega arith in
+    let y : c + (0 + m) ≡ c + m = omega arith in
+    let x : c + (0 + m + m) ≡ c + m + m = omega arith in
+    λ i. record {
+      z = (partOf-range nan 0 m c e s (omega arith) h (omega arith) ∙ ap (λ (a : ℕ). part a m s) z) i;
+      mu1 = (partOf-range nan (0 + m) m c e s (omega arith) h (omega arith) ∙ ap (λ (a : ℕ). part a m s) y) i;
+      mu2 = (partOf-range nan (0 + m + m) m c e s (omega arith) h (omega arith) ∙ ap (λ (a : ℕ). part a m s) x) i;
+    }
+
+-- ---- directions
+
+pub dmu1-done : (b m : ℕ) (lam u : Float) (s : List Float)
+    → list m (λ i. dmu1At lam u (at s i) (at s (m + i)) (at s (b + i))) ≡ direction lam u (point 0 m s) (part b m s) .mu1
+unfolding direction
+dmu1-done b m lam u s =
+    list-ext m (λ i. dmu1At lam u (at s i) (at s (m + i)) (at s (b + i))) (λ i. dmu1At lam u (at (part 0 m s) i) (at (part (0 + m) m s) i) (at (part b m s) i))
+    (λ j l. rw (at-part 0 m s j j l (omega arith), at-part (0 + m) m s j (m + j) l (omega arith), at-part b m s j (b + j) l refl))
+    ∙ ap (λ (n : ℕ). list n (λ i. dmu1At lam u (at (part 0 m s) i) (at (part (0 + m) m s) i) (at (part b m s) i))) (sym (length-part 0 m s))
+
+pub dmu2-done : (b m : ℕ) (lam u : Float) (s : List Float)
+    → list m (λ i. dmu2At lam u (at s i) (at s (m + m + i)) (at s (b + i))) ≡ direction lam u (point 0 m s) (part b m s) .mu2
+unfolding direction
+dmu2-done b m lam u s =
+    list-ext m (λ i. dmu2At lam u (at s i) (at s (m + m + i)) (at s (b + i))) (λ i. dmu2At lam u (at (part 0 m s) i) (at (part (0 + m + m) m s) i) (at (part b m s) i))
+    (λ j l. rw (at-part 0 m s j j l (omega arith), at-part (0 + m + m) m s j (m + m + j) l (omega arith), at-part b m s j (b + j) l refl))
+    ∙ ap (λ (n : ℕ). list n (λ i. dmu2At lam u (at (part 0 m s) i) (at (part (0 + m + m) m s) i) (at (part b m s) i))) (sym (length-part 0 m s))
+
+-- ---- the line search
+
+module _ (k : ℕ) (g dy : List Float) (lam u : Float) where
+  pub accept-yes : (old step : Float) (q : Dual) (low : Bool) → true ≡ inside lam (q .z) → low ≡ lower (norm k g dy lam u q) step old → low ≡ accepted k g dy lam u old q step
+  unfolding accepted
+  accept-yes old step q low e h = h ∙ rw (← e)
+
+  pub accept-no : (old step : Float) (q : Dual) → false ≡ inside lam (q .z) → false ≡ accepted k g dy lam u old q step
+  unfolding accepted
+  accept-no old step q e = rw (← e)
+
+  trial-stop : (p d : Dual) (old : Float) (n : ℕ) (step : Float) (last q : Dual) → q ≡ along p d step → accepted k g dy lam u old q step ≡ true
+      → trials k g dy lam u p d old (suc n) step last ≡ record { point = q; step = step }
+  unfolding trials
+  trial-stop p d old n step last q e h = rw (← e, h)
+
+  trial-go : (p d : Dual) (old : Float) (n : ℕ) (step : Float) (last q : Dual) → q ≡ along p d step → accepted k g dy lam u old q step ≡ false
+      → trials k g dy lam u p d old (suc n) step last ≡ trials k g dy lam u p d old n (mul binary64 step (ofBits binary64 0x3fe0_0000_0000_0000)) q
+  unfolding trials
+  trial-go p d old n step last q e h = rw (← e, h)
+
+  -- nothing tried yet, or the trial at q
+  abbrev pub lastOf : ℕ → Dual → Dual → Dual
+  lastOf zero p q = p
+  lastOf (suc i) p q = q
+
+  pub record Searching (m b : ℕ) (cap old : Float) (s₀ s : List Float) (step : Float) (last : Bool) (i : ℕ) : Type 0 where
+    pub some : i ≤ 20
+    pub kept : Kept (3 * m) (3 * m) s₀ s
+    pub left : searchedFrom k g dy lam u m b old s₀ 20 cap (point 0 m s₀) ≡ searchedFrom k g dy lam u m b old s₀ (20 - i) step (lastOf i (point 0 m s₀) (point (3 * m) m s))
+    pub flag : 0 < i → last ≡ inside lam (part (3 * m) m s)
+
+  pub begins : (m b : ℕ) (cap old : Float) (s : List Float) → Searching m b cap old s s cap false 0
+  begins m b cap old s = record { some = omega arith; kept = record { size = refl; below = λ j h. refl; above = λ j h. refl }; left = refl; flag = λ h. absurd (omega arith) }
+
+  module _ (m b : ℕ) (cap old : Float) (s₀ s s′ : List Float) (step : Float) (last : Bool) (i : ℕ) (w : Searching m b cap old s₀ s step last i)
+      (room : 6 * m ≤ b) (h : i < 20) (e : point (3 * m) m s′ ≡ along (point 0 m s) (point b m s) step) (f : Kept (3 * m) (3 * m) s s′) where
+    moved-from : point (3 * m) m s′ ≡ along (point 0 m s₀) (point b m s₀) step
+    moved-from = e ∙ λ j. along (point-below 0 m (w .kept) (omega arith) j) (point-above b m (w .kept) (omega arith) j) step
+
+    more-kept : Kept (3 * m) (3 * m) s₀ s′
+    more-kept = kept-then (3 * m) (3 * m) (w .kept) f (omega arith) (omega arith) (omega arith) (omega arith)
+
+    one-left : 20 - i ≡ suc (20 - (i + 1))
+    one-left = omega arith
+
+    pub goes : (within : Bool) → within ≡ inside lam (part (3 * m) m s′) → accepted k g dy lam u old (point (3 * m) m s′) step ≡ false
+        → Searching m b cap old s₀ s′ (mul binary64 step (ofBits binary64 0x3fe0_0000_0000_0000)) within (i + 1)
+    goes within x y = record {
+      some = omega arith;
+      kept = more-kept;
+      left = w .left
+          ∙ ap (λ (n : ℕ). searchedFrom k g dy lam u m b old s₀ n step (lastOf i (point 0 m s₀) (point (3 * m) m s))) one-left
+          ∙ trial-go (point 0 m s₀) (point b m s₀) old (20 - (i + 1)) step (lastOf i (point 0 m s₀) (point (3 * m) m s)) (point (3 * m) m s′) moved-from y
+          ∙ ap (λ (n : ℕ). searchedFrom k g dy lam u m b old s₀ (20 - (i + 1)) (mul binary64 step (ofBits binary64 0x3fe0_0000_0000_0000)) (lastOf n (point 0 m s₀) (point (3 * m) m s′))) (sym (add-one i));
+      flag = λ _. x;
+    }
+
+    pub stops : true ≡ inside lam (part (3 * m) m s′) → accepted k g dy lam u old (point (3 * m) m s′) step ≡ true → Searched k g dy lam u m b cap old s₀ s′ step true
+    stops x y = record {
+      ends = w .left
+          ∙ ap (λ (n : ℕ). searchedFrom k g dy lam u m b old s₀ n step (lastOf i (point 0 m s₀) (point (3 * m) m s))) one-left
+          ∙ trial-stop (point 0 m s₀) (point b m s₀) old (20 - (i + 1)) step (lastOf i (point 0 m s₀) (point (3 * m) m s)) (point (3 * m) m s′) moved-from y;
+      in-bounds = x;
+      kept = more-kept;
+    }
+
+  pub exhausted : (m b : ℕ) (cap old : Float) (s₀ s : List Float) (step : Float) (last : Bool) → Searching m b cap old s₀ s step last 20
+      → Searched k g dy lam u m b cap old s₀ s step last
+  unfolding trials
+  exhausted m b cap old s₀ s step last w = record { ends = w .left; in-bounds = w .flag (omega arith); kept = w .kept }
+
+  -- what is accepted is inside
+  pub accepted-inside : (old step : Float) (q : Dual) → accepted k g dy lam u old q step ≡ true → true ≡ inside lam (q .z)
+  unfolding accepted
+  accepted-inside old step q h = both (inside lam (q .z)) (lower (norm k g dy lam u q) step old) h
+    where
+      both : (x y : Bool) → x && y ≡ true → true ≡ x
+      both true y t = refl
+      both false y t = sym t
+
+-- dmu1 and then dmu2 written after dz
+pub directed : (b m : ℕ) (lam u : Float) (s₀ s s′ : List Float) → m + m + m ≤ b
+    → part (b + m) m s ≡ direction lam u (point 0 m s₀) (part b m s₀) .mu1 → Kept (b + m) m s₀ s
+    → part (b + m + m) m s′ ≡ direction lam u (point 0 m s) (part b m s) .mu2 → Kept (b + m + m) m s s′
+    → point b m s′ ≡ direction lam u (point 0 m s₀) (part b m s₀)
+unfolding direction
+directed b m lam u s₀ s s′ o e v f w = λ i. record {
+  z = (part-below nan b m w (omega arith) ∙ part-below nan b m v (omega arith)) i;
+  mu1 = (part-below nan (b + m) m w (omega arith) ∙ e) i;
+  mu2 = (f ∙ λ j. direction lam u (point-below 0 m v (omega arith) j) (part-below nan b m v (omega arith) j) .mu2) i;
+}
+
+-- ---- the system
+
+pub system-first : (k : ℕ) (g : List Float) (lam : Float) (p : Dual) (r c : ℕ) → r + c < k → ofBits binary64 0 ≡ system k g lam p r c
+unfolding system gram
+system-first k g lam p r c h = rw (lt-ltb (r + c) k h, lt-ltb c k (omega arith))
+
+pub system-band : (k : ℕ) (g : List Float) (lam : Float) (p : Dual) (r c : ℕ) → k ≤ r + c → c < k → at g (k - c) ≡ system k g lam p r c
+unfolding system gram
+system-band k g lam p r c h l = rw (le-ltb (r + c) k h, lt-ltb c k l)
+
+pub system-diagonal : (k : ℕ) (g : List Float) (lam : Float) (m : ℕ) (s : List Float) (r c : ℕ) (w : Float) → c ≤ k → k ≤ c → r < m
+    → w ≡ barrier lam (at s r) (at s (m + r)) (at s (m + m + r)) → add binary64 (at g 0) w ≡ system k g lam (point 0 m s) r c
+unfolding system gram
+system-diagonal k g lam m s r c w h l o e =
+    let q : k - c ≡ 0 = omega arith in
+    rw (le-ltb (r + c) k (omega arith), le-ltb c k l, q, e, at-part 0 m s r r o (omega arith), at-part (0 + m) m s r (m + r) o (omega arith), at-part (0 + m + m) m s r (m + m + r) o (omega arith))
+
+-- the places of m rows, in order
+pub in-rows : (k m : ℕ) (a : Matrix) → list (m * (k + 1)) (λ q. a (q / (k + 1)) (q % (k + 1))) ≡ concat (matrix k a m)
+in-rows k m a =
+    let f : ℕ → Float = λ q. a (q / (k + 1)) (q % (k + 1)) in
+    let n = length-list (m * (k + 1)) f in
+    sym (take-all (m * (k + 1)) (list (m * (k + 1)) f) (omega (arith, n)))
+    ∙ filled k m a (list (m * (k + 1)) f) (omega (arith, n)) (λ q h. at-list (m * (k + 1)) f q h)
+
+pub right-done : (k : ℕ) (g dy : List Float) (lam u : Float) (m : ℕ) (s : List Float)
+    → list m (λ i. rightAt lam u (product k g (part 0 m s) i) (at dy i) (at s i)) ≡ right k g dy lam u (point 0 m s)
+unfolding right
+right-done k g dy lam u m s =
+    list-ext m (λ i. rightAt lam u (product k g (part 0 m s) i) (at dy i) (at s i)) (λ i. rightAt lam u (product k g (part 0 m s) i) (at dy i) (at (part 0 m s) i))
+    (λ j l. rw (at-part 0 m s j j l (omega arith)))
+    ∙ ap (λ (n : ℕ). list n (λ i. rightAt lam u (product k g (part 0 m s) i) (at dy i) (at (part 0 m s) i))) (sym (length-part 0 m s))

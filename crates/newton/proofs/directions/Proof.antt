@@ -1,0 +1,40 @@
+use mathlib.Core.Path.{_≡_, refl, sym, ap, _∙_}
+use Prim.Native.Nat.{_+_}
+use native.Mathlib.Omega.{arith}
+use Rattle.newton.specs.Newton.{capTo, direction}
+use Rattle.vectors.specs.Vec.{part, Kept}
+use Rattle.newton.specs.Places.{point}
+use Rattle.vectors.proofs.Laws.{kept-then}
+use Rattle.newton.proofs.Lines.{directed, point-below}
+use borrow.Author.Needs.{needs}
+use Rattle.newton.proofs.directions.Statement.{statement}
+use Rattle.newton.proofs.directions.Tie as tie
+use Rattle.newton.proofs.directions.Reads as reads
+use Rattle.newton.proofs.directions.Lts as lts
+use Rattle.newton.proofs.cap.Reads as cap-reads
+use Rattle.newton.proofs.fill_dmu1.Reads as fill-dmu1-reads
+use Rattle.newton.proofs.fill_dmu2.Reads as fill-dmu2-reads
+
+fill-dmu1-requires : tie.Need-fill-dmu1-requires
+fill-dmu1-requires c κs = search needs
+
+fill-dmu2-requires : tie.Need-fill-dmu2-requires
+fill-dmu2-requires c κs = search needs
+
+cap-requires : tie.Need-cap-requires
+cap-requires c κs = search needs
+
+same-length : tie.Need-same-length
+same-length c = search needs
+
+returns : tie.Need-returns
+returns c = let a = c .before .before .before .before .before .before .before .before .before .before .before .args in
+    let x = c .before .before .before .before .before .before .before .before .fill-dmu1 .ensures in
+    let y = c .before .before .before .before .fill-dmu2 .ensures in
+    let d = directed (a .b) (a .m) (a .lam) (a .u) (a .s .now) (c .before .before .before .before .before .before .before .before .fill-dmu1 .last .0) (c .before .before .before .before .fill-dmu2 .last .0) (omega arith) (x .0) (x .1) (y .0) (y .1) in
+    let w = kept-then (a .b + a .m) (a .m + a .m) (x .1) (y .1) (omega arith) (omega arith) (omega arith) (omega arith) in
+    (d, (c .cap .ensures ∙ (λ i. capTo (point-below 0 (a .m) w (omega arith) i) (d i) (a .m)), w))
+
+pub directions-spec : {M : Type 1} → statement M
+directions-spec =
+    tie.close (tie.spec fill-dmu1-requires fill-dmu2-requires cap-requires same-length returns)

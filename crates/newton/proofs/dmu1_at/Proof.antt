@@ -1,0 +1,15 @@
+use Rattle.newton.proofs.dmu1_at.Statement.{statement}
+use Rattle.newton.proofs.dmu1_at.Tie as tie
+use Rattle.newton.proofs.dmu1_at.Reads as reads
+use Rattle.newton.proofs.dmu1_at.Lts as lts
+
+use mathlib.Core.Path.{_≡_, refl}
+use borrow.Author.Needs.{needs}
+use Rattle.newton.specs.Newton.{dmu1At}
+
+returns : tie.Need-returns
+unfolding dmu1At
+returns c = search needs
+
+pub dmu1-at-spec : {M : Type 1} → statement M
+dmu1-at-spec = tie.close (tie.spec returns)

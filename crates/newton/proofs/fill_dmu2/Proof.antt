@@ -1,0 +1,131 @@
+use borrow.Author.Needs.{needs}
+use mathlib.Core.Path.{_≡_, refl, sym, ap, _∙_}
+use mathlib.Core.List.{List}
+use mathlib.Core.Bool.{true, false}
+use Prim.Native.Nat.{ℕ, suc, _≤_, _<_, _-_, _+_, _*_}
+use native.Mathlib.Omega.{arith}
+use native.Mathlib.Nat.{add-zero}
+use lib.ListN.{length}
+use lib.Ieee.{nan, Float, binary64, add, mul}
+use Rattle.vectors.specs.Vec.{at, Written}
+use Rattle.vectors.proofs.Laws.{none}
+use Rattle.newton.specs.Newton.{dmu2At}
+use Rattle.vectors.specs.Vec.{part, Kept}
+use Rattle.newton.specs.Places.{point}
+use Rattle.vectors.proofs.Laws.{store-more, written-kept}
+use Rattle.vectors.proofs.Parts.{store-done}
+use Rattle.newton.proofs.Lines.{dmu2-done}
+use Rattle.newton.proofs.fill_dmu2.Statement.{statement}
+use Rattle.newton.proofs.fill_dmu2.Tie as tie
+use Rattle.newton.proofs.fill_dmu2.Reads as reads
+use Rattle.newton.proofs.fill_dmu2.Lts as lts
+use Rattle.newton.proofs.dmu2_at.Reads as dmu2-at-reads
+
+abbrev falling : ℕ → ℕ → Float → Float → List Float → ℕ → Float
+falling b m lam u s i = dmu2At lam u (at s i) (at s (m + m + i)) (at s (b + i))
+
+abbrev Inv-loop : tie.InvT-loop
+Inv-loop s₀ b lam u m i₀ s i = (i ≤ m) × Written (b + m + m) (b + m + m + i) (λ j. falling b m lam u s₀ (j - (b + m + m))) s₀ s
+
+abbrev μ-loop : tie.MeasureT-loop
+μ-loop s₀ b lam u m i₀ s i = m - i
+
+loop-holds : tie.Need-loop-holds Inv-loop μ-loop
+loop-holds c = (search needs, rw add-zero none)
+
+mul-dmu2-at : tie.Need-mul-dmu2-at Inv-loop μ-loop
+mul-dmu2-at c = search needs
+
+slice-read-dmu2-at : tie.Need-slice-read-dmu2-at Inv-loop μ-loop
+slice-read-dmu2-at c = search needs
+
+add-dmu2-at : tie.Need-add-dmu2-at Inv-loop μ-loop
+add-dmu2-at c = search needs
+
+add-dmu2-at-2 : tie.Need-add-dmu2-at-2 Inv-loop μ-loop
+add-dmu2-at-2 c = search needs
+
+mul-dmu2-at-2 : tie.Need-mul-dmu2-at-2 Inv-loop μ-loop
+mul-dmu2-at-2 c = search needs
+
+slice-read-dmu2-at-2 : tie.Need-slice-read-dmu2-at-2 Inv-loop μ-loop
+slice-read-dmu2-at-2 c = search needs
+
+add-dmu2-at-3 : tie.Need-add-dmu2-at-3 Inv-loop μ-loop
+add-dmu2-at-3 c = search needs
+
+mul-dmu2-at-3 : tie.Need-mul-dmu2-at-3 Inv-loop μ-loop
+mul-dmu2-at-3 c = search needs
+
+slice-read-dmu2-at-3 : tie.Need-slice-read-dmu2-at-3 Inv-loop μ-loop
+slice-read-dmu2-at-3 c = search needs
+
+dmu2-at-requires : tie.Need-dmu2-at-requires Inv-loop μ-loop
+dmu2-at-requires c κs = search needs
+
+add-s : tie.Need-add-s Inv-loop μ-loop
+add-s c = search needs
+
+add-s-2 : tie.Need-add-s-2 Inv-loop μ-loop
+add-s-2 c = search needs
+
+add-s-3 : tie.Need-add-s-3 Inv-loop μ-loop
+add-s-3 c = search needs
+
+mul-s : tie.Need-mul-s Inv-loop μ-loop
+mul-s c = search needs
+
+slice-write-s : tie.Need-slice-write-s Inv-loop μ-loop
+slice-write-s c = search needs
+
+add-i : tie.Need-add-i Inv-loop μ-loop
+add-i c = search needs
+
+loop-less : tie.Need-loop-less Inv-loop μ-loop
+loop-less c = search needs
+
+loop-again : tie.Need-loop-again Inv-loop μ-loop
+loop-again c = let l = c .before .before .before .before .before .loop in
+    let a = c .before .before .before .before .before .before .before .args in
+    let w = l .inv .1 in
+    (search needs,
+      store-more (a .b + a .m + a .m) (l .i) (falling (a .b) (a .m) (a .lam) (a .u) (a .s .now)) (a .s .now) (l .s) (c .dmu2-at .result) w (omega (arith, w .size))
+      (c .dmu2-at .ensures ∙ rw (w .below (l .i) (omega arith), w .below (a .m + a .m + l .i) (omega arith), w .below (a .b + l .i) (omega arith))))
+
+same-length : tie.Need-same-length Inv-loop μ-loop
+same-length c = search needs
+
+returns : tie.Need-returns Inv-loop μ-loop
+returns c = let l = c .before .loop in
+    let a = c .before .before .before .args in
+    let e : l .i ≡ a .m = omega arith in
+    let w : Written (a .b + a .m + a .m) (a .b + a .m + a .m + a .m) (λ j. falling (a .b) (a .m) (a .lam) (a .u) (a .s .now) (j - (a .b + a .m + a .m))) (a .s .now) (l .s) = rw e at (l .inv .1) in
+    (store-done nan (a .b + a .m + a .m) (a .m) (falling (a .b) (a .m) (a .lam) (a .u) (a .s .now)) (a .s .now) (l .s) w ∙ dmu2-done (a .b) (a .m) (a .lam) (a .u) (a .s .now), written-kept w)
+
+pub fill-dmu2-spec : {M : Type 1} → statement M
+fill-dmu2-spec =
+    tie.close
+    (tie.spec
+    Inv-loop
+    μ-loop
+    loop-holds
+    mul-dmu2-at
+    slice-read-dmu2-at
+    add-dmu2-at
+    add-dmu2-at-2
+    mul-dmu2-at-2
+    slice-read-dmu2-at-2
+    add-dmu2-at-3
+    mul-dmu2-at-3
+    slice-read-dmu2-at-3
+    dmu2-at-requires
+    add-s
+    add-s-2
+    add-s-3
+    mul-s
+    slice-write-s
+    add-i
+    loop-less
+    loop-again
+    same-length
+    returns)

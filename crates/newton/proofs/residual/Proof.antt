@@ -1,0 +1,133 @@
+use borrow.Author.Needs.{needs}
+use mathlib.Core.Path.{_≡_, refl, sym, ap, _∙_}
+use Prim.Native.Nat.{ℕ, suc, _≤_, _<_, _-_, _+_}
+use native.Mathlib.Omega.{arith}
+use native.Mathlib.Numerals.{add-one}
+use mathlib.Core.List.{List}
+use lib.Ieee.{Float}
+use Rattle.matrices.specs.Gram.{product}
+use lib.ListN.{length}
+use Rattle.vectors.specs.Sums.{sumTo}
+use Rattle.vectors.specs.Vec.{at}
+use Rattle.vectors.proofs.Laws.{length-list}
+use Rattle.newton.specs.Newton.{squareOf, squares}
+use Rattle.vectors.specs.Vec.{part}
+use Rattle.newton.specs.Places.{point}
+use Rattle.vectors.proofs.Parts.{length-part, range-part}
+use Rattle.vectors.proofs.Sums.{sum-more}
+use Rattle.newton.proofs.Laws.{square-place}
+use Rattle.newton.proofs.residual.Statement.{statement}
+use Rattle.newton.proofs.residual.Tie as tie
+use Rattle.newton.proofs.residual.Reads as reads
+use Rattle.newton.proofs.residual.Lts as lts
+use Rattle.newton.proofs.residual_of.Reads as residual-of-reads
+use Rattle.matrices.proofs.product.Reads as product-reads
+
+abbrev Inv-loop : tie.InvT-loop
+Inv-loop s dy lam u g k m a₀ i₀ a i = (i ≤ m) × (a ≡ sumTo (squareOf k g dy lam u (point 0 m s)) i)
+
+abbrev μ-loop : tie.MeasureT-loop
+μ-loop s dy lam u g k m a₀ i₀ a i = m - i
+
+loop-holds : tie.Need-loop-holds Inv-loop μ-loop
+unfolding sumTo
+loop-holds c = (search needs, refl)
+
+sub-product : tie.Need-sub-product Inv-loop μ-loop
+sub-product c = search needs
+
+part-product-start : tie.Need-part-product-start Inv-loop μ-loop
+part-product-start c = search needs
+
+part-product-end : tie.Need-part-product-end Inv-loop μ-loop
+part-product-end c = search needs
+
+product-requires : tie.Need-product-requires Inv-loop μ-loop
+product-requires c κs = search needs
+
+mul-residual-of : tie.Need-mul-residual-of Inv-loop μ-loop
+mul-residual-of c = search needs
+
+shared-slice-read-residual-of : tie.Need-shared-slice-read-residual-of Inv-loop μ-loop
+shared-slice-read-residual-of c = search needs
+
+mul-residual-of-2 : tie.Need-mul-residual-of-2 Inv-loop μ-loop
+mul-residual-of-2 c = search needs
+
+shared-slice-read-residual-of-2 : tie.Need-shared-slice-read-residual-of-2 Inv-loop μ-loop
+shared-slice-read-residual-of-2 c = search needs
+
+add-residual-of : tie.Need-add-residual-of Inv-loop μ-loop
+add-residual-of c = search needs
+
+mul-residual-of-3 : tie.Need-mul-residual-of-3 Inv-loop μ-loop
+mul-residual-of-3 c = search needs
+
+shared-slice-read-residual-of-3 : tie.Need-shared-slice-read-residual-of-3 Inv-loop μ-loop
+shared-slice-read-residual-of-3 c = search needs
+
+add-residual-of-2 : tie.Need-add-residual-of-2 Inv-loop μ-loop
+add-residual-of-2 c = search needs
+
+add-residual-of-3 : tie.Need-add-residual-of-3 Inv-loop μ-loop
+add-residual-of-3 c = search needs
+
+mul-residual-of-4 : tie.Need-mul-residual-of-4 Inv-loop μ-loop
+mul-residual-of-4 c = search needs
+
+shared-slice-read-residual-of-4 : tie.Need-shared-slice-read-residual-of-4 Inv-loop μ-loop
+shared-slice-read-residual-of-4 c = search needs
+
+residual-of-requires : tie.Need-residual-of-requires Inv-loop μ-loop
+residual-of-requires c κs = search needs
+
+add-i : tie.Need-add-i Inv-loop μ-loop
+add-i c = search needs
+
+loop-less : tie.Need-loop-less Inv-loop μ-loop
+loop-less c = search needs
+
+loop-again : tie.Need-loop-again Inv-loop μ-loop
+loop-again c = let l = c .before .before .before .before .before .before .before .before .loop in
+    let a = c .before .before .before .before .before .before .before .before .before .before .before .args in
+    let r = a .s .now in
+    (search needs,
+      sum-more (squareOf (a .k) (a .g) (a .dy .now) (a .lam) (a .u) (point 0 (a .m) r)) (l .i) (l .a) (c .residual-of .result) (l .inv .1)
+      (c .residual-of .ensures ∙ square-place (a .k) (a .g) (a .dy .now) (a .lam) (a .u) (a .m) r (l .i) (c .before .before .before .before .before .product .result) (omega arith)
+        (c .before .before .before .before .before .product .ensures ∙ ap (λ (v : List Float). product (a .k) (a .g) v (l .i)) (range-part 0 (a .m) (a .m) r (omega arith) (omega arith)))))
+
+returns : tie.Need-returns Inv-loop μ-loop
+unfolding squares
+returns c = let l = c .before in
+    let m = l .before .before .before .args .m in
+    let s = l .before .before .before .args .s .now in
+    let e : l .loop .i ≡ m = omega arith in
+    l .loop .inv .1 ∙ rw (e, length-part 0 m s)
+
+pub residual-spec : {M : Type 1} → statement M
+residual-spec =
+    tie.close
+    (tie.spec
+    Inv-loop
+    μ-loop
+    loop-holds
+    sub-product
+    part-product-start
+    part-product-end
+    product-requires
+    mul-residual-of
+    shared-slice-read-residual-of
+    mul-residual-of-2
+    shared-slice-read-residual-of-2
+    add-residual-of
+    mul-residual-of-3
+    shared-slice-read-residual-of-3
+    add-residual-of-2
+    add-residual-of-3
+    mul-residual-of-4
+    shared-slice-read-residual-of-4
+    residual-of-requires
+    add-i
+    loop-less
+    loop-again
+    returns)

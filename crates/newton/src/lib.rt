@@ -1,0 +1,274 @@
+ghost use mathlib.Core.Path.{_≡_};
+ghost use Prim.Native.Nat.{_≤_, _<_, _+_, _*_, _^_};
+ghost use lib.ListN.{length};
+ghost use lib.Ieee.{binary64, add, mul, lt};
+ghost use mathlib.Core.Bool.{_&&_};
+ghost use Rattle.float64.specs.Helpers.{absOf};
+ghost use Rattle.banded.specs.Rows.{matrix, concat};
+ghost use Rattle.vectors.specs.Vec.{at, Written};
+ghost use Rattle.newton.specs.Newton.{barrier, rightAt, dmu1At, dmu2At, squareAt, capped, squares, norm, capTo, inside, along, direction, lower, accepted, trials, system, right};
+ghost use Rattle.vectors.specs.Vec.{part, Kept};
+ghost use Rattle.newton.specs.Places.{point, Searched};
+
+// What one place adds to the square of the residual: q is (D D') z there, u is 1 / t.
+fn residual_of(q: f64, dy: f64, z: f64, mu1: f64, mu2: f64, lam: f64, u: f64) -> f64
+    ensures { λ r. ⌜ r ≡ squareAt lam u q dy z mu1 mu2 ⌝ }
+{
+    let f1 = z - lam;
+    let f2 = -z - lam;
+    let rd = q - dy + mu1 - mu2;
+    let rc1 = -mu1 * f1 - u;
+    let rc2 = -mu2 * f2 - u;
+    rd * rd + rc1 * rc1 + rc2 * rc2
+}
+
+// The square of the residual at the point in s: z, mu1, mu2, m places each.
+pub fn residual(s: &[f64], dy: &[f64], lam: f64, u: f64, g: [f64; 3], k: usize, m: usize) -> f64
+    requires { ⌜ (k ≤ 2) × ((m + m + m ≤ length (now s)) × (m ≤ length (now dy))) ⌝ }
+    ensures { λ r. ⌜ r ≡ squares k g (now (dy .entry)) lam u (point 0 m (now (s .entry))) ⌝ }
+{
+    let mut a = 0.0;
+    let mut i = 0;
+    while i < m {
+        let q = matrices::product(&s[0..m], g, k, i);
+        let e = residual_of(q, dy[i], s[i], s[m + i], s[m + m + i], lam, u);
+        a = a + e;
+        i += 1;
+    }
+    a
+}
+
+fn dmu1_at(z: f64, mu1: f64, dz: f64, lam: f64, u: f64) -> f64
+    ensures { λ r. ⌜ r ≡ dmu1At lam u z mu1 dz ⌝ }
+{
+    let f1 = z - lam;
+    -(mu1 + (u + dz * mu1) / f1)
+}
+
+fn dmu2_at(z: f64, mu2: f64, dz: f64, lam: f64, u: f64) -> f64
+    ensures { λ r. ⌜ r ≡ dmu2At lam u z mu2 dz ⌝ }
+{
+    let f2 = -z - lam;
+    -(mu2 + (u - dz * mu2) / f2)
+}
+
+// The lesser of step and the step at which mu is left at a hundredth, if it falls.
+fn cap_of(step: f64, mu: f64, dmu: f64) -> f64
+    ensures { λ r. ⌜ r ≡ capped step mu dmu ⌝ }
+{
+    if dmu < 0.0 {
+        return float64::min(step, 0.99 * (-mu / dmu));
+    }
+    step
+}
+
+// The greatest step, for the point in s and the direction from b on.
+pub fn cap(s: &[f64], b: usize, m: usize) -> f64
+    requires { ⌜ (m + m + m ≤ b) × (b + m + m + m ≤ length (now s)) ⌝ }
+    ensures { λ r. ⌜ r ≡ capTo (point 0 m (now (s .entry))) (point b m (now (s .entry))) m ⌝ }
+{
+    let mut step = 1.0;
+    let mut i = 0;
+    while i < m {
+        let x = cap_of(step, s[m + i], s[b + m + i]);
+        step = cap_of(x, s[m + m + i], s[b + m + m + i]);
+        i += 1;
+    }
+    step
+}
+
+fn still(all: bool, x: f64, lam: f64) -> bool
+    ensures { λ r. ⌜ r ≡ all && lt (absOf x) lam ⌝ }
+{
+    let a = float64::abs(x);
+    if all {
+        return a < lam;
+    }
+    false
+}
+
+// Whether every |v| is below lam.
+pub fn inside(v: &[f64], lam: f64) -> bool
+    ensures { λ r. ⌜ r ≡ inside lam (now (v .entry)) ⌝ }
+{
+    let mut all = true;
+    let mut i = 0;
+    while i < v.len() {
+        all = still(all, v[i], lam);
+        i += 1;
+    }
+    all
+}
+
+// The point at a step from that in the first 3 m places, in the 3 m after them. From b on stands the direction.
+pub fn move_to(s: &mut [f64], b: usize, step: f64, m: usize)
+    requires { ⌜ (6 * m ≤ b) × (b + 3 * m ≤ length (now s)) ⌝ }
+    ensures { λ _. ⌜ (point (3 * m) m (now (s .exit)) ≡ along (point 0 m (now (s .entry))) (point b m (now (s .entry))) step)
+        × Kept (3 * m) (3 * m) (now (s .entry)) (now (s .exit)) ⌝ }
+{
+    let c = 3 * m;
+    let mut i = 0;
+    while i < c {
+        s[c + i] = s[i] + step * s[b + i];
+        i += 1;
+    }
+}
+
+// dmu1, and then dmu2, after the direction's dz, which stands from b on.
+fn fill_dmu1(s: &mut [f64], b: usize, lam: f64, u: f64, m: usize)
+    requires { ⌜ (m + m + m ≤ b) × (b + m + m + m ≤ length (now s)) ⌝ }
+    ensures { λ _. ⌜ (part (b + m) m (now (s .exit)) ≡ direction lam u (point 0 m (now (s .entry))) (part b m (now (s .entry))) .mu1)
+        × Kept (b + m) m (now (s .entry)) (now (s .exit)) ⌝ }
+{
+    let mut i = 0;
+    while i < m {
+        let x = dmu1_at(s[i], s[m + i], s[b + i], lam, u);
+        s[b + m + i] = x;
+        i += 1;
+    }
+}
+
+fn fill_dmu2(s: &mut [f64], b: usize, lam: f64, u: f64, m: usize)
+    requires { ⌜ (m + m + m ≤ b) × (b + m + m + m ≤ length (now s)) ⌝ }
+    ensures { λ _. ⌜ (part (b + m + m) m (now (s .exit)) ≡ direction lam u (point 0 m (now (s .entry))) (part b m (now (s .entry))) .mu2)
+        × Kept (b + m + m) m (now (s .entry)) (now (s .exit)) ⌝ }
+{
+    let mut i = 0;
+    while i < m {
+        let x = dmu2_at(s[i], s[m + m + i], s[b + i], lam, u);
+        s[b + m + m + i] = x;
+        i += 1;
+    }
+}
+
+// The whole direction, whose dz stands from b on, and the greatest step.
+pub fn directions(s: &mut [f64], b: usize, lam: f64, u: f64, m: usize) -> f64
+    requires { ⌜ (m + m + m ≤ b) × (b + m + m + m ≤ length (now s)) ⌝ }
+    ensures { λ r. ⌜ (point b m (now (s .exit)) ≡ direction lam u (point 0 m (now (s .entry))) (part b m (now (s .entry))))
+        × ((r ≡ capTo (point 0 m (now (s .entry))) (direction lam u (point 0 m (now (s .entry))) (part b m (now (s .entry)))) m)
+        × Kept (b + m) (m + m) (now (s .entry)) (now (s .exit))) ⌝ }
+{
+    fill_dmu1(s, b, lam, u, m);
+    fill_dmu2(s, b, lam, u, m);
+    cap(s, b, m)
+}
+
+fn low_enough(s: &[f64], dy: &[f64], lam: f64, u: f64, g: [f64; 3], k: usize, m: usize, step: f64, old: f64) -> bool
+    requires { ⌜ (k ≤ 2) × ((m + m + m ≤ length (now s)) × (m ≤ length (now dy))) ⌝ }
+    ensures { λ r. ⌜ r ≡ lower (norm k g (now (dy .entry)) lam u (point 0 m (now (s .entry)))) step old ⌝ }
+{
+    let a = residual(s, dy, lam, u, g, k, m);
+    float64::sqrt(a) <= (1.0 - 0.01 * step) * old
+}
+
+pub struct Tried {
+    pub inside: bool,
+    pub good: bool,
+}
+
+// One trial: the point at a step, whether it is inside, and whether it is accepted.
+fn attempt(s: &mut [f64], b: usize, dy: &[f64], lam: f64, u: f64, g: [f64; 3], k: usize, m: usize, step: f64, old: f64) -> Tried
+    requires { ⌜ (k ≤ 2) × ((6 * m ≤ b) × ((b + 3 * m ≤ length (now s)) × (m ≤ length (now dy)))) ⌝ }
+    ensures { λ r. ⌜ (point (3 * m) m (now (s .exit)) ≡ along (point 0 m (now (s .entry))) (point b m (now (s .entry))) step)
+        × (Kept (3 * m) (3 * m) (now (s .entry)) (now (s .exit))
+        × ((r .inside ≡ inside lam (part (3 * m) m (now (s .exit))))
+        × (r .good ≡ accepted k g (now (dy .entry)) lam u old (point (3 * m) m (now (s .exit))) step))) ⌝ }
+{
+    let c = 3 * m;
+    let d = c + m;
+    let e = c + c;
+    move_to(s, b, step, m);
+    let within = inside(&s[c..d], lam);
+    if within {
+        let low = low_enough(&s[c..e], dy, lam, u, g, k, m, step, old);
+        return Tried { inside: true, good: low };
+    }
+    Tried { inside: false, good: false }
+}
+
+pub struct Trial {
+    pub step: f64,
+    pub inside: bool,
+}
+
+// Up to 20 trials; the last stands after the point.
+pub fn line_search(s: &mut [f64], b: usize, dy: &[f64], lam: f64, u: f64, g: [f64; 3], k: usize, m: usize, cap: f64, old: f64) -> Trial
+    requires { ⌜ (k ≤ 2) × ((6 * m ≤ b) × ((b + 3 * m ≤ length (now s)) × (m ≤ length (now dy)))) ⌝ }
+    ensures { λ r. ⌜ Searched k g (now (dy .entry)) lam u m b cap old (now (s .entry)) (now (s .exit)) (r .step) (r .inside) ⌝ }
+{
+    let mut step = cap;
+    let mut last = false;
+    let mut i: usize = 0;
+    while i < 20 {
+        let a = attempt(s, b, dy, lam, u, g, k, m, step, old);
+        if a.good {
+            return Trial { step: step, inside: true };
+        }
+        last = a.inside;
+        step = step * 0.5;
+        i += 1;
+    }
+    Trial { step: step, inside: last }
+}
+
+fn weight(z: f64, mu1: f64, mu2: f64, lam: f64) -> f64
+    ensures { λ r. ⌜ r ≡ barrier lam z mu1 mu2 ⌝ }
+{
+    let f1 = z - lam;
+    let f2 = -z - lam;
+    -mu1 / f1 - mu2 / f2
+}
+
+// Place c of row r of the system of the point in the first places of s.
+fn system_at(s: &[f64], lam: f64, g: [f64; 3], k: usize, m: usize, r: usize, c: usize) -> f64
+    requires { ⌜ (k ≤ 2) × ((c ≤ k) × ((r < m) × ((m + m + m ≤ length (now s)) × (r + c < 2 ^ 62)))) ⌝ }
+    ensures { λ x. ⌜ x ≡ system k g lam (point 0 m (now (s .entry))) r c ⌝ }
+{
+    if r + c < k {
+        return 0.0;
+    }
+    if c < k {
+        return g[k - c];
+    }
+    let w = weight(s[r], s[m + r], s[m + m + r], lam);
+    g[0] + w
+}
+
+// The m rows of the system, from place a on.
+pub fn fill_system(s: &mut [f64], a: usize, lam: f64, g: [f64; 3], k: usize, m: usize)
+    requires { ⌜ (k ≤ 2) × ((m + m + m ≤ a) × (a + m * (k + 1) ≤ length (now s))) ⌝ }
+    ensures { λ _. ⌜ (part a (m * (k + 1)) (now (s .exit)) ≡ concat (matrix k (system k g lam (point 0 m (now (s .entry)))) m))
+        × Kept a (m * (k + 1)) (now (s .entry)) (now (s .exit)) ⌝ }
+{
+    let w = k + 1;
+    let n = m * w;
+    let mut p = 0;
+    while p < n {
+        let x = system_at(s, lam, g, k, m, p / w, p % w);
+        s[a + p] = x;
+        p += 1;
+    }
+}
+
+fn right_of(q: f64, dy: f64, z: f64, lam: f64, u: f64) -> f64
+    ensures { λ r. ⌜ r ≡ rightAt lam u q dy z ⌝ }
+{
+    let f1 = z - lam;
+    let f2 = -z - lam;
+    -q + dy + u / f1 - u / f2
+}
+
+// The right side, from place a on.
+pub fn fill_right(s: &mut [f64], a: usize, dy: &[f64], lam: f64, u: f64, g: [f64; 3], k: usize, m: usize)
+    requires { ⌜ (k ≤ 2) × ((m + m + m ≤ a) × ((a + m ≤ length (now s)) × (m ≤ length (now dy)))) ⌝ }
+    ensures { λ _. ⌜ (part a m (now (s .exit)) ≡ right k g (now (dy .entry)) lam u (point 0 m (now (s .entry))))
+        × Kept a m (now (s .entry)) (now (s .exit)) ⌝ }
+{
+    let mut i = 0;
+    while i < m {
+        let q = matrices::product(&s[0..m], g, k, i);
+        let x = right_of(q, dy[i], s[i], lam, u);
+        s[a + i] = x;
+        i += 1;
+    }
+}

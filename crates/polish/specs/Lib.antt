@@ -1,0 +1,2 @@
+-- The definitions that the contracts of polish cite.
+pub mod Polish

@@ -1,0 +1,89 @@
+-- Document 01, "Interior point": how the counts of the search run, for any state and any step. Definitions only.
+use Prim.Native.Nat.{ℕ, zero, suc}
+use mathlib.Core.Bool.{Bool, true, false, cond}
+use lib.Dec.{eqb}
+use lib.Ieee.{Float, binary64, ofBits, lt, le}
+use Rattle.float64.specs.Ops.{_⊖_, _⊗_}
+
+-- 0.99
+abbrev pub mark : Float
+mark = ofBits binary64 0x3fef_ae14_7ae1_47ae
+
+-- what an iteration does to the state: a bad pivot loses it
+pub data Turn (S : Type 0) : Type 0 where
+  lost : Turn S
+  moved : S → Turn S
+
+-- a problem: one iteration, and the two objectives P and G at a state
+pub record Problem (S : Type 0) : Type 0 where
+  pub move : S → Turn S
+  pub primal : S → Float
+  pub dual : S → Float
+
+-- the gap is P - G
+abbrev pub gap : {S : Type 0} → Problem S → S → Float
+gap L s = L .primal s ⊖ L .dual s
+
+-- where the search stands before an iteration
+pub record Point (S : Type 0) : Type 0 where
+  pub state : S
+  pub steps : ℕ
+  pub best : Float
+  pub gains : ℕ
+  pub stall : ℕ
+
+-- how it ended: the gap is small enough, the limit is spent, it stalled, or a pivot was lost
+pub data Reason : Type 0 where
+  small : Reason
+  spent : Reason
+  stalled : Reason
+  pivot : Reason
+
+-- where it ended
+pub record Ended (S : Type 0) : Type 0 where
+  pub state : S
+  pub steps : ℕ
+  pub best : Float
+  pub gains : ℕ
+  pub reason : Reason
+
+-- the best gap starts as the first gap
+abbrev pub start : {S : Type 0} → Problem S → S → Point S
+start L s = record { state = s; steps = 0; best = gap L s; gains = 0; stall = 0 }
+
+abbrev pub ended : {S : Type 0} → Point S → Reason → Ended S
+ended p r = record { state = p .state; steps = p .steps; best = p .best; gains = p .gains; reason = r }
+
+-- gap ≤ tol·P
+abbrev pub enough : {S : Type 0} → Problem S → Float → Point S → Bool
+enough L tol p = le (gap L (p .state)) (tol ⊗ L .primal (p .state))
+
+-- the gap at t is below 0.99 of the best, the product rounded
+abbrev pub better : {S : Type 0} → Problem S → Point S → S → Bool
+better L p t = lt (gap L t) (mark ⊗ p .best)
+
+-- an improvement's gap becomes the best and ends the stall; else the stall count rises
+abbrev pub advance : {S : Type 0} → Problem S → Point S → S → Bool → Point S
+advance L p t true = record { state = t; steps = suc (p .steps); best = gap L t; gains = suc (p .gains); stall = 0 }
+advance L p t false = record { state = t; steps = suc (p .steps); best = p .best; gains = p .gains; stall = suc (p .stall) }
+
+pub data Next (S : Type 0) : Type 0 where
+  stop : Ended S → Next S
+  go : Point S → Next S
+
+-- an iteration: it counts also where a bad pivot ends it
+abbrev pub turned : {S : Type 0} → Problem S → Point S → Turn S → Next S
+turned L p lost = stop (record { state = p .state; steps = suc (p .steps); best = p .best; gains = p .gains; reason = pivot })
+turned L p (moved t) = go (advance L p t (better L p t))
+
+-- before each iteration: is the gap small enough, and else, is the stall count 10
+unfoldable pub iterate : {S : Type 0} → Problem S → Float → Point S → Next S
+iterate L tol p = cond (enough L tol p) (stop (ended p small)) (cond (eqb (p .stall) 10) (stop (ended p stalled)) (turned L p (L .move (p .state))))
+
+-- r is how many iterations the limit still allows
+unfoldable pub run : {S : Type 0} → Problem S → Float → ℕ → Point S → Ended S
+run L tol zero p = ended p (cond (enough L tol p) small spent)
+run L tol (suc r) p = elim (iterate L tol p) [ stop e ↦ e | go q ↦ run L tol r q ]
+
+abbrev pub searched : {S : Type 0} → Problem S → Float → ℕ → S → Ended S
+searched L tol limit s = run L tol limit (start L s)
