@@ -4,18 +4,18 @@ use mathlib.Core.Logic.{⊎-elim}
 use mathlib.Core.List.{List, [], _∷_, _++_}
 use mathlib.Core.Path.{_≡_, refl, sym, ap, _∙_}
 use Prim.Native.Nat.{ℕ, zero, suc, _+_, _-_, _*_, _/_, _%_, _≤_, _<_}
-use native.Mathlib.Nat.{mul-le-mul-right, add-mul, one-mul, suc-mul, mul-suc, zero-mul, zero-add, eq-or-lt-of-le, le-of-suc-le-suc, ne-of-lt, ne-of-gt, mod-lt, div-add-mod', div-lt-iff-lt-mul}
+use native.Mathlib.Nat.{mul-le-mul-right, add-mul, one-mul, suc-mul, mul-suc, zero-mul, zero-add, eq-or-lt-of-le, le-of-suc-le-suc, ne-of-lt, ne-of-gt, mod-lt, div-add-mod', div-lt-iff-lt-mul, min-le-left}
 use native.Mathlib.Numerals.{add-one}
 use native.Mathlib.Omega.{arith}
 use lib.Dec.{ltb}
-use lib.ListN.{length, getD, set, take, drop, length-append, length-set, length-drop, List·getD-append}
+use lib.ListN.{length, getD, set, take, drop, length-append, length-set, length-take, length-drop, List·getD-append}
 use lib.Seq.{getD-at, getD-set-same, getD-set-other, getD-take, getD-drop, getD-append-add, length-take-le, ext-getD}
 use lib.Ieee.{Float, nan, binary64, ofBits, mul, sub, div}
 use borrow.Author.Tests.{ltb-true, ltb-false}
 use Rattle.vectors.specs.Vec.{at, list}
 use Rattle.vectors.proofs.Laws.{length-list, at-list, cond-cong}
 use Rattle.banded.specs.Rows.{Matrix, line, look, less, taken, rest, entry, rowTo, row, rows, sound, good, matrix, concat}
-use Rattle.banded.specs.Run.{flat, Shape, Holds, Factored}
+use Rattle.banded.specs.Run.{flat, Shape, Holds, Stands, Factored}
 
 -- ---- places of rows
 
@@ -238,6 +238,17 @@ pub kept-after : (n : ℕ) (s s₀ : List Float) → length s ≡ length s₀ �
 kept-after n s s₀ e h =
     ext-getD nan (drop n s) (drop n s₀) (length-drop n s ∙ rw e (sym (length-drop n s₀)))
     (λ i l. getD-drop n s i nan ∙ h (n + i) (omega arith) ∙ sym (getD-drop n s₀ i nan))
+
+-- the n places from b on, as a list
+pub part-stands : (b n : ℕ) (s : List Float) → Stands b (take n (drop b s)) s
+part-stands b n s j h = let u : j < n = omega (arith, length-take n (drop b s), min-le-left n (length (drop b s))) in
+    sym (getD-take n (drop b s) j nan u ∙ getD-drop b s j nan)
+
+pub stands-part : (b n : ℕ) (x s : List Float) → length x ≡ n → b + n ≤ length s → Stands b x s → take n (drop b s) ≡ x
+stands-part b n x s e room h =
+    let l : length (take n (drop b s)) ≡ n = length-take-le n (drop b s) (omega (arith, length-drop b s)) in
+    ext-getD nan (take n (drop b s)) x (l ∙ sym e)
+    (λ i u. getD-take n (drop b s) i nan (omega arith) ∙ getD-drop b s i nan ∙ h i (omega arith))
 
 -- a run that was filled with a matrix place by place, from the first on
 pub filled : (k m : ℕ) (a : Matrix) (s : List Float) → m * (k + 1) ≤ length s → ((q : ℕ) → q < m * (k + 1) → at s q ≡ a (q / (k + 1)) (q % (k + 1)))

@@ -1,20 +1,20 @@
--- Orders 1 and 2, away from the first rows and from the last: what the general definitions come to there. And the test of a pivot.
+-- Orders 1 and 2, away from the first rows: what the general definitions come to there. And the test of a pivot.
 use mathlib.Core.Bool.{Bool, true, false, not, cond, _&&_}
 use mathlib.Core.List.{List}
 use mathlib.Core.Path.{_≡_, refl, sym, ap, _∙_}
-use Prim.Native.Nat.{ℕ, zero, suc, _+_, _-_, _*_, _≤_, _<_, min}
-use native.Mathlib.Nat.{ne-of-lt, ne-of-gt, min-eq-left, zero-add}
+use Prim.Native.Nat.{ℕ, zero, suc, _+_, _-_, _*_, _≤_, _<_}
+use native.Mathlib.Nat.{ne-of-lt, ne-of-gt, zero-add}
 use native.Mathlib.Omega.{arith}
 use lib.Dec.{T, ltb}
 use lib.ListN.{length, set, length-set}
 use lib.Seq.{getD-set-same, getD-set-other}
-use lib.Ieee.{Float, nan, inf, fin, binary64, lt, ofBits, nanBits, sub}
+use lib.Ieee.{Float, nan, inf, fin, binary64, lt, ofBits, nanBits}
 use borrow.Author.Tests.{le-ltb}
 use Rattle.float64.specs.Helpers.{isFinite}
 use Rattle.float64.specs.Ops.{_⊖_, _⊗_, _⊘_, c0, infinity}
 use Rattle.vectors.specs.Vec.{at}
 use Rattle.banded.specs.Rows.{Matrix, less, taken, rest, entry, good}
-use Rattle.banded.specs.Solve.{forwardAt, backAt}
+use Rattle.banded.specs.Solve.{forwardAt}
 use Rattle.banded.specs.Run.{flat, Factored, Eliminated}
 use Rattle.banded.proofs.Laws.{less-ext, row-none, row-more}
 use Rattle.banded.proofs.Elimination.{eliminated}
@@ -56,11 +56,6 @@ module _ (k : ℕ) (l : Matrix) (v : Float) (r : ℕ) (far : k ≤ r) where
       let n : k - 0 ≡ k = omega arith in
       rw (z, n) (less-ext v _ _ k (λ n h. rw (zero-add n)))
 
--- and, going back, a row with k more after it
-pub back-far : (k : ℕ) (l : Matrix) (v : Float) (r : ℕ) (x : ℕ → Float) (m : ℕ) → r + k < m → backAt k l x v r (m - (r + 1)) ≡ less v (λ t. l (r + 1 + t) (k - (t + 1)) ⊗ x t) k
-unfolding backAt
-back-far k l v r x m h = rw (min-eq-left {n = k} {m = m - (r + 1)} (omega arith))
-
 -- ---- order 1
 
 module _ (l : Matrix) (v : Float) (r : ℕ) (far : 1 ≤ r) where
@@ -78,10 +73,6 @@ module _ (l : Matrix) (v : Float) (r : ℕ) (far : 1 ≤ r) where
   pub forward-1 : (u : ℕ → Float) → forwardAt 1 l u v r ≡ v ⊖ l r 0 ⊗ u (r - 1)
   unfolding less
   forward-1 u = forward-far 1 l v r far u ∙ rw before
-
-pub back-1 : (l : Matrix) (v : Float) (i m : ℕ) (x : ℕ → Float) → i + 1 < m → backAt 1 l x v i (m - (i + 1)) ≡ v ⊖ l (i + 1) 0 ⊗ x 0
-unfolding less
-back-1 l v i m x h = let z : i + 1 + 0 ≡ i + 1 = omega arith in back-far 1 l v i x m h ∙ rw z
 
 -- ---- order 2
 
@@ -107,10 +98,6 @@ module _ (l : Matrix) (v : Float) (r : ℕ) (far : 2 ≤ r) where
   pub forward-2 : (u : ℕ → Float) → forwardAt 2 l u v r ≡ v ⊖ l r 0 ⊗ u (r - 2) ⊖ l r 1 ⊗ u (r - 1)
   unfolding less
   forward-2 u = forward-far 2 l v r far u ∙ rw (before1, before2)
-
-pub back-2 : (l : Matrix) (v : Float) (i m : ℕ) (x : ℕ → Float) → i + 2 < m → backAt 2 l x v i (m - (i + 1)) ≡ v ⊖ l (i + 1) 1 ⊗ x 0 ⊖ l (i + 2) 0 ⊗ x 1
-unfolding less
-back-2 l v i m x h = let z : i + 1 + 0 ≡ i + 1 = omega arith in let o : i + 1 + 1 ≡ i + 2 = omega arith in back-far 2 l v i x m h ∙ rw (z, o)
 
 -- ---- a row of either order, stored place by place
 
@@ -203,27 +190,3 @@ module _ (m r : ℕ) (s : List Float) (b a e x : Float) (far : 2 ≤ r) (h : r <
       let u1 : at t3 (m * 3 + (r - 1)) ≡ at s (m * 3 + r - 1) = third .after (m * 3 + (r - 1)) (omega arith) ∙ ap (at s) (omega arith) in
       eliminated (m * 3 + r) third h refl (omega arith) (x-is ∙ sym (forward-2 (flat 2 t3) (at t3 (m * 3 + r)) r far (λ j. at t3 (m * 3 + j)) ∙ rw (v, p, q, u2, u1)))
       (ap good (sym (getD-set-same t2 (r * 3 + 2) e nan (omega arith))))
-
--- ---- a place of the solution of either order, from the one or two after it
-
-pub step-1 : (s : List Float) (m i : ℕ) (x : Float) → 0 < i → i < m → x ≡ at s (m * 2 + i)
-    → at s (m * 2 + i - 1) ⊘ at s (i * 2 - 1) ⊖ at s (i * 2) ⊗ x
-    ≡ backAt 1 (flat 1 s) (λ n. at s (m * 2 + (i - 1 + 1 + n))) (at s (m * 2 + (i - 1)) ⊘ flat 1 s (i - 1) 1) (i - 1) (m - (i - 1 + 1))
-step-1 s m i x h g e =
-    let u : at s (m * 2 + (i - 1)) ≡ at s (m * 2 + i - 1) = ap (at s) (omega arith) in
-    let d : at s ((i - 1) * 2 + 1) ≡ at s (i * 2 - 1) = ap (at s) (omega arith) in
-    let l : at s ((i - 1 + 1) * 2 + 0) ≡ at s (i * 2) = ap (at s) (omega arith) in
-    let y : at s (m * 2 + (i - 1 + 1 + 0)) ≡ x = ap (at s) (omega arith) ∙ sym e in
-    sym (back-1 (flat 1 s) (at s (m * 2 + (i - 1)) ⊘ flat 1 s (i - 1) 1) (i - 1) m (λ n. at s (m * 2 + (i - 1 + 1 + n))) (omega arith) ∙ rw (u, d, l, y))
-
-pub step-2 : (s : List Float) (m i : ℕ) (x1 x2 : Float) → 0 < i → i + 1 < m → x1 ≡ at s (m * 3 + i) → x2 ≡ at s (m * 3 + i + 1)
-    → at s (m * 3 + i - 1) ⊘ at s (i * 3 - 1) ⊖ at s (i * 3 + 1) ⊗ x1 ⊖ at s (i * 3 + 3) ⊗ x2
-    ≡ backAt 2 (flat 2 s) (λ n. at s (m * 3 + (i - 1 + 1 + n))) (at s (m * 3 + (i - 1)) ⊘ flat 2 s (i - 1) 2) (i - 1) (m - (i - 1 + 1))
-step-2 s m i x1 x2 h g e1 e2 =
-    let u : at s (m * 3 + (i - 1)) ≡ at s (m * 3 + i - 1) = ap (at s) (omega arith) in
-    let d : at s ((i - 1) * 3 + 2) ≡ at s (i * 3 - 1) = ap (at s) (omega arith) in
-    let l1 : at s ((i - 1 + 1) * 3 + 1) ≡ at s (i * 3 + 1) = ap (at s) (omega arith) in
-    let l2 : at s ((i - 1 + 2) * 3 + 0) ≡ at s (i * 3 + 3) = ap (at s) (omega arith) in
-    let y1 : at s (m * 3 + (i - 1 + 1 + 0)) ≡ x1 = ap (at s) (omega arith) ∙ sym e1 in
-    let y2 : at s (m * 3 + (i - 1 + 1 + 1)) ≡ x2 = ap (at s) (omega arith) ∙ sym e2 in
-    sym (back-2 (flat 2 s) (at s (m * 3 + (i - 1)) ⊘ flat 2 s (i - 1) 2) (i - 1) m (λ n. at s (m * 3 + (i - 1 + 1 + n))) (omega arith) ∙ rw (u, d, l1, l2, y1, y2))

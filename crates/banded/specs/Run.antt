@@ -1,13 +1,13 @@
 -- Document 01, "Differences and bands": flat rows of k + 1 numbers, the Rust's rows one after the other. A run begins with m of them; the right side of a system comes after.
 use mathlib.Core.Path.{_≡_}
-use mathlib.Core.Bool.{Bool, true}
+use mathlib.Core.Bool.{Bool}
 use mathlib.Core.List.{List}
-use Prim.Native.Nat.{ℕ, _+_, _-_, _*_, _<_, _≤_}
+use Prim.Native.Nat.{ℕ, _+_, _*_, _<_, _≤_}
 use lib.ListN.{length}
 use lib.Ieee.{Float}
-use Rattle.vectors.specs.Vec.{at, part, Kept}
-use Rattle.banded.specs.Rows.{Matrix, line, look, entry, rows, sound, good, matrix, concat}
-use Rattle.banded.specs.Solve.{forwardAt, divided, back, solve}
+use Rattle.vectors.specs.Vec.{at}
+use Rattle.banded.specs.Rows.{Matrix, line, look, entry, good}
+use Rattle.banded.specs.Solve.{forwardAt}
 
 -- place j of row i
 abbrev pub flat : ℕ → List Float → Matrix
@@ -43,15 +43,3 @@ pub record Eliminated (k m r : ℕ) (s₀ s : List Float) (ok : Bool) : Type 0 w
   pub made : (c : ℕ) → c ≤ k → flat k s r c ≡ entry k (flat k s) (flat k s₀ r c) r c
   pub carried : at s (m * (k + 1) + r) ≡ forwardAt k (flat k s) (λ j. at s (m * (k + 1) + j)) (at s₀ (m * (k + 1) + r)) r
   pub pivot : ok ≡ good (flat k s r k)
-
--- s is s₀ but for the last t of the m places after the rows, which are now divided by the pivots and carried back
-pub record Backed (k m t : ℕ) (s₀ s : List Float) : Type 0 where
-  pub kept : Kept (m * (k + 1) + (m - t)) t s₀ s
-  pub made : (f : List (List Float)) (u : List Float) → Holds k m f s₀ → length u ≡ m → Stands (m * (k + 1)) u s₀ → Stands (m * (k + 1) + (m - t)) (back k f (divided k f u) t) s
-
--- s₀ holds, from place p on, the m rows of a matrix and then a right side. ok says whether the pivots of its factor are all good. If so s holds the solution in the place of the right side. All places but those of the system stay.
-pub record Solved (p k m : ℕ) (s₀ s : List Float) (ok : Bool) : Type 0 where
-  pub kept : Kept p (m * (k + 1) + m) s₀ s
-  pub answer : (a : Matrix) → part p (m * (k + 1)) s₀ ≡ concat (matrix k a m) → ok ≡ sound k a m
-  pub solution : (a : Matrix) → part p (m * (k + 1)) s₀ ≡ concat (matrix k a m) → ok ≡ true
-      → part (p + m * (k + 1)) m s ≡ solve k (rows k a m) (part (p + m * (k + 1)) m s₀)

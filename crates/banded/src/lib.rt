@@ -1,14 +1,12 @@
-// The L D L' factor of a banded symmetric matrix and the solution of its system, in one run: m rows of k + 1 numbers, then m places of right side.
-pub mod solve;
-
+// The L D L' factor of a banded symmetric matrix, in place. A run holds m rows of k + 1 numbers and then m places of right side, which is carried forward beside the rows.
 ghost use mathlib.Core.Path.{_≡_};
 ghost use mathlib.Core.Bool.{true};
 ghost use Prim.Native.Nat.{_≤_, _<_, _-_, _+_, _*_};
 ghost use lib.ListN.{length, take, drop};
 ghost use Rattle.vectors.specs.Vec.{at};
 ghost use Rattle.banded.specs.Rows.{Matrix, entry, rows, sound, good, matrix, concat};
-ghost use Rattle.banded.specs.Solve.{forwardAt, forward, solve};
-ghost use Rattle.banded.specs.Run.{flat, Factored, Eliminated, Solved};
+ghost use Rattle.banded.specs.Solve.{forwardAt, forward};
+ghost use Rattle.banded.specs.Run.{flat, Factored, Eliminated};
 
 // Place c of row r of rows of w numbers.
 pub fn get(s: &[f64], w: usize, r: usize, c: usize) -> f64
@@ -171,27 +169,4 @@ pub fn factor(s: &mut [f64], k: usize, m: usize) -> bool
         r += 1;
     }
     true
-}
-
-// Whatever matrix a the first m rows of s are: whether every pivot of its factor is good, and if so the solution for the m places after them, in those places. What comes after those stays.
-pub fn factor_solve(s: &mut [f64], k: usize, m: usize) -> bool
-    requires { ⌜ (1 ≤ m) × (m * (k + 1) + m ≤ length (now s)) ⌝ }
-    ensures { λ ok. ⌜ (drop (m * (k + 1) + m) (now (s .exit)) ≡ drop (m * (k + 1) + m) (now (s .entry)))
-        × ((a : Matrix) → take (m * (k + 1)) (now (s .entry)) ≡ concat (matrix k a m)
-        → (ok ≡ sound k a m) × (ok ≡ true → take m (drop (m * (k + 1)) (now (s .exit))) ≡ solve k (rows k a m) (take m (drop (m * (k + 1)) (now (s .entry)))))) ⌝ }
-{
-    if !factor(s, k, m) {
-        return false;
-    }
-    solve::solve(s, k, m);
-    true
-}
-
-// The same for the system that stands from place p of s on. All other places stay.
-pub fn factor_solve_at(s: &mut [f64], p: usize, k: usize, m: usize) -> bool
-    requires { ⌜ (1 ≤ m) × (p + (m * (k + 1) + m) ≤ length (now s)) ⌝ }
-    ensures { λ ok. ⌜ Solved p k m (now (s .entry)) (now (s .exit)) ok ⌝ }
-{
-    let e = p + (m * (k + 1) + m);
-    factor_solve(&mut s[p..e], k, m)
 }

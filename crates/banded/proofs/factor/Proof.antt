@@ -11,9 +11,8 @@ use lib.ListN.{length, take, drop, length-set, length-drop}
 use Rattle.banded.specs.Rows.{Matrix, matrix, rows}
 use Rattle.banded.specs.Solve.{forward}
 use Rattle.banded.specs.Run.{Holds, Stands}
-use Rattle.banded.proofs.Laws.{rows-fit, kept-after, holds-of, of-holds, shape-matrix}
+use Rattle.banded.proofs.Laws.{kept-after, holds-of, of-holds, shape-matrix, part-stands, stands-part}
 use Rattle.banded.proofs.Elimination.{Reached, Ahead, reached-none, ahead-none, ahead-more, factor-more, factor-bad, length-forward}
-use Rattle.banded.proofs.Substitution.{part-stands, stands-part}
 use Rattle.banded.proofs.factor.Statement.{statement}
 use Rattle.banded.proofs.factor.Tie as tie
 use Rattle.banded.proofs.factor.Reads as reads

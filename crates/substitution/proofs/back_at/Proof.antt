@@ -6,17 +6,17 @@ use native.Mathlib.Omega.{arith}
 use native.Mathlib.Numerals.{add-one}
 use lib.ListN.{length}
 use Rattle.vectors.specs.Vec.{at}
 use Rattle.banded.proofs.Laws.{rows-fit, within}
 use Rattle.banded.specs.Run.{flat}
 use Rattle.float64.specs.Ops.{_⊘_, _⊗_}
 use Rattle.banded.specs.Rows.{less}
 use Rattle.banded.specs.Solve.{backAt}
-use Rattle.banded.proofs.solve.back_at.Statement.{statement}
-use Rattle.banded.proofs.solve.back_at.Tie as tie
-use Rattle.banded.proofs.solve.back_at.Reads as reads
-use Rattle.banded.proofs.solve.back_at.Lts as lts
+use Rattle.substitution.proofs.back_at.Statement.{statement}
+use Rattle.substitution.proofs.back_at.Tie as tie
+use Rattle.substitution.proofs.back_at.Reads as reads
+use Rattle.substitution.proofs.back_at.Lts as lts
 use Rattle.banded.proofs.get.Reads as get-reads
-use Rattle.banded.proofs.solve.smaller.Reads as smaller-reads
+use Rattle.substitution.proofs.smaller.Reads as smaller-reads
 
 abbrev Inv-loop : tie.InvT-loop
 Inv-loop s k m i b d v₀ n t₀ v t = (t ≤ n) × (v ≡ less (at s (m * (k + 1) + i) ⊘ flat k s i k) (λ n. flat k s (i + 1 + n) (k - (n + 1)) ⊗ at s (m * (k + 1) + (i + 1 + n))) t)

@@ -1,14 +1,16 @@
-// The solution of a system from its factor and the right side carried forward: division by the pivots, and back.
+// The solution of a banded system from its factor and the right side carried forward: division by the pivots, and back. Then both in one call.
 ghost use mathlib.Core.Path.{_≡_};
+ghost use mathlib.Core.Bool.{true};
 ghost use mathlib.Core.List.{List};
 ghost use Prim.Native.Nat.{_≤_, _<_, _-_, _+_, _*_, min};
 ghost use lib.ListN.{length, take, drop};
 ghost use lib.Ieee.{Float};
 ghost use Rattle.float64.specs.Ops.{_⊘_};
 ghost use Rattle.vectors.specs.Vec.{at};
-ghost use Rattle.banded.specs.Rows.{concat};
-ghost use Rattle.banded.specs.Solve.{backAt, divided, back};
-ghost use Rattle.banded.specs.Run.{flat, Shape, Backed};
+ghost use Rattle.banded.specs.Rows.{Matrix, rows, sound, matrix, concat};
+ghost use Rattle.banded.specs.Solve.{backAt, divided, back, solve as solve_of};
+ghost use Rattle.banded.specs.Run.{flat, Shape};
+ghost use Rattle.substitution.specs.Solved.{Backed, Solved};
 
 fn smaller(a: usize, b: usize) -> usize
     ensures { λ r. ⌜ r ≡ min a b ⌝ }
@@ -23,13 +25,13 @@ fn back_at(s: &[f64], k: usize, m: usize, i: usize) -> f64
         (at (now (s .entry)) (m * (k + 1) + i) ⊘ flat k (now (s .entry)) i k) i (m - (i + 1)) ⌝ }
 {
     let b = m * (k + 1);
-    let d = crate::get(s, k + 1, i, k);
+    let d = banded::get(s, k + 1, i, k);
     let mut v = s[b + i] / d;
     let n = smaller(k, m - (i + 1));
     let mut t = 0;
     while t < n {
         let r = i + 1 + t;
-        let a = crate::get(s, k + 1, r, k - (t + 1));
+        let a = banded::get(s, k + 1, r, k - (t + 1));
         v = v - a * s[b + r];
         t += 1;
     }
@@ -114,4 +116,27 @@ pub fn solve(s: &mut [f64], k: usize, m: usize)
     let n = smaller(k, m);
     back_any(s, k, m, 0, n);
     back_rest(s, k, m, n);
+}
+
+// Whatever matrix a the first m rows of s are: whether every pivot of its factor is good, and if so the solution for the m places after them, in those places. What comes after those stays.
+pub fn factor_solve(s: &mut [f64], k: usize, m: usize) -> bool
+    requires { ⌜ (1 ≤ m) × (m * (k + 1) + m ≤ length (now s)) ⌝ }
+    ensures { λ ok. ⌜ (drop (m * (k + 1) + m) (now (s .exit)) ≡ drop (m * (k + 1) + m) (now (s .entry)))
+        × ((a : Matrix) → take (m * (k + 1)) (now (s .entry)) ≡ concat (matrix k a m)
+        → (ok ≡ sound k a m) × (ok ≡ true → take m (drop (m * (k + 1)) (now (s .exit))) ≡ solve_of k (rows k a m) (take m (drop (m * (k + 1)) (now (s .entry)))))) ⌝ }
+{
+    if !banded::factor(s, k, m) {
+        return false;
+    }
+    solve(s, k, m);
+    true
+}
+
+// The same for the system that stands from place p of s on. All other places stay.
+pub fn factor_solve_at(s: &mut [f64], p: usize, k: usize, m: usize) -> bool
+    requires { ⌜ (1 ≤ m) × (p + (m * (k + 1) + m) ≤ length (now s)) ⌝ }
+    ensures { λ ok. ⌜ Solved p k m (now (s .entry)) (now (s .exit)) ok ⌝ }
+{
+    let e = p + (m * (k + 1) + m);
+    factor_solve(&mut s[p..e], k, m)
 }

@@ -8,13 +8,14 @@ use Prim.Native.Nat.{ℕ, suc, _≤_, _<_, _-_, _+_, _*_}
 use native.Mathlib.Omega.{arith}
 use lib.ListN.{length, length-set}
 use Rattle.vectors.specs.Vec.{at}
-use Rattle.banded.specs.Run.{Backed}
-use Rattle.banded.proofs.Orders.{at-same, step-2}
-use Rattle.banded.proofs.Substitution.{backed-more}
-use Rattle.banded.proofs.solve.back2.Statement.{statement}
-use Rattle.banded.proofs.solve.back2.Tie as tie
-use Rattle.banded.proofs.solve.back2.Reads as reads
-use Rattle.banded.proofs.solve.back2.Lts as lts
+use Rattle.substitution.specs.Solved.{Backed}
+use Rattle.banded.proofs.Orders.{at-same}
+use Rattle.substitution.proofs.Orders.{step-2}
+use Rattle.substitution.proofs.Laws.{backed-more}
+use Rattle.substitution.proofs.back2.Statement.{statement}
+use Rattle.substitution.proofs.back2.Tie as tie
+use Rattle.substitution.proofs.back2.Reads as reads
+use Rattle.substitution.proofs.back2.Lts as lts
 
 abbrev Inv-loop : tie.InvT-loop
 Inv-loop s₀ m b i₀ x1₀ x2₀ s i x1 x2 = (i + 1 < m) × (length s ≡ length s₀) × (x1 ≡ at s (m * 3 + i)) × (x2 ≡ at s (m * 3 + i + 1)) × ((v : List Float) → Backed 2 m 2 v s₀ → Backed 2 m (m - i) v s)

@@ -5,19 +5,19 @@ use Prim.Native.Nat.{ℕ, suc, _≤_, _<_, _-_, _+_, _*_, min}
 use native.Mathlib.Omega.{arith}
 use lib.ListN.{length, take, drop, length-drop}
 use lib.Seq.{length-take-le}
 use Rattle.banded.specs.Rows.{rows}
 use Rattle.banded.specs.Solve.{divided, back}
 use Rattle.banded.proofs.Laws.{shape-rows}
-use Rattle.banded.proofs.Substitution.{solve-is}
+use Rattle.substitution.proofs.Laws.{solve-is}
 use mathlib.Core.List.{List}
 use lib.Ieee.{Float}
 use borrow.Author.Needs.{needs}
-use Rattle.banded.proofs.factor_solve.Statement.{statement}
-use Rattle.banded.proofs.factor_solve.Tie as tie
-use Rattle.banded.proofs.factor_solve.Reads as reads
-use Rattle.banded.proofs.factor_solve.Lts as lts
+use Rattle.substitution.proofs.factor_solve.Statement.{statement}
+use Rattle.substitution.proofs.factor_solve.Tie as tie
+use Rattle.substitution.proofs.factor_solve.Reads as reads
+use Rattle.substitution.proofs.factor_solve.Lts as lts
 use Rattle.banded.proofs.factor.Reads as factor-reads
-use Rattle.banded.proofs.solve.solve.Reads as solve-reads
+use Rattle.substitution.proofs.solve.Reads as solve-reads
 
 factor-requires : tie.Need-factor-requires
 factor-requires c κs = search needs

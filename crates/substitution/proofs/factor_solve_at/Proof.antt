@@ -3,14 +3,14 @@ use Prim.Native.Nat.{ℕ, suc, _≤_, _<_, _-_, _+_, _*_, min}
 use native.Mathlib.Omega.{arith}
 use lib.ListN.{length, take, drop, length-drop}
 use lib.Seq.{length-take-le}
 use Rattle.banded.proofs.Laws.{rows-fit}
-use Rattle.banded.proofs.Substitution.{solved-at}
+use Rattle.substitution.proofs.Laws.{solved-at}
 use borrow.Author.Needs.{needs}
-use Rattle.banded.proofs.factor_solve_at.Statement.{statement}
-use Rattle.banded.proofs.factor_solve_at.Tie as tie
-use Rattle.banded.proofs.factor_solve_at.Reads as reads
-use Rattle.banded.proofs.factor_solve_at.Lts as lts
-use Rattle.banded.proofs.factor_solve.Reads as factor-solve-reads
+use Rattle.substitution.proofs.factor_solve_at.Statement.{statement}
+use Rattle.substitution.proofs.factor_solve_at.Tie as tie
+use Rattle.substitution.proofs.factor_solve_at.Reads as reads
+use Rattle.substitution.proofs.factor_solve_at.Lts as lts
+use Rattle.substitution.proofs.factor_solve.Reads as factor-solve-reads
 
 add-e : tie.Need-add-e
 add-e c = let st = c .before in

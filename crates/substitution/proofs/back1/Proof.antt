@@ -6,13 +6,14 @@ use Prim.Native.Nat.{ℕ, suc, _≤_, _<_, _-_, _+_, _*_}
 use native.Mathlib.Omega.{arith}
 use lib.ListN.{length, length-set}
 use Rattle.vectors.specs.Vec.{at}
-use Rattle.banded.specs.Run.{Backed}
-use Rattle.banded.proofs.Orders.{at-same, step-1}
-use Rattle.banded.proofs.Substitution.{backed-more}
-use Rattle.banded.proofs.solve.back1.Statement.{statement}
-use Rattle.banded.proofs.solve.back1.Tie as tie
-use Rattle.banded.proofs.solve.back1.Reads as reads
-use Rattle.banded.proofs.solve.back1.Lts as lts
+use Rattle.substitution.specs.Solved.{Backed}
+use Rattle.banded.proofs.Orders.{at-same}
+use Rattle.substitution.proofs.Orders.{step-1}
+use Rattle.substitution.proofs.Laws.{backed-more}
+use Rattle.substitution.proofs.back1.Statement.{statement}
+use Rattle.substitution.proofs.back1.Tie as tie
+use Rattle.substitution.proofs.back1.Reads as reads
+use Rattle.substitution.proofs.back1.Lts as lts
 
 abbrev Inv-loop : tie.InvT-loop
 Inv-loop s₀ m b i₀ x₀ s i x = (i < m) × (length s ≡ length s₀) × (x ≡ at s (m * 2 + i)) × ((v : List Float) → Backed 1 m 1 v s₀ → Backed 1 m (m - i) v s)

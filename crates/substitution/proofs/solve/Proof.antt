@@ -4,17 +4,17 @@ use native.Mathlib.Omega.{arith}
 use native.Mathlib.Nat.{min-le-right}
 use lib.ListN.{length, take, drop, length-drop}
 use lib.Seq.{length-take-le}
 use Rattle.banded.specs.Solve.{divided, back}
-use Rattle.banded.proofs.Laws.{holds-of, kept-after}
-use Rattle.banded.proofs.Substitution.{backed-none, part-stands, stands-part, length-back, kept-take}
+use Rattle.banded.proofs.Laws.{holds-of, kept-after, part-stands, stands-part}
+use Rattle.substitution.proofs.Laws.{backed-none, length-back, kept-take}
 use borrow.Author.Needs.{needs}
-use Rattle.banded.proofs.solve.solve.Statement.{statement}
-use Rattle.banded.proofs.solve.solve.Tie as tie
-use Rattle.banded.proofs.solve.solve.Reads as reads
-use Rattle.banded.proofs.solve.solve.Lts as lts
-use Rattle.banded.proofs.solve.back_any.Reads as back-any-reads
-use Rattle.banded.proofs.solve.back_rest.Reads as back-rest-reads
-use Rattle.banded.proofs.solve.smaller.Reads as smaller-reads
+use Rattle.substitution.proofs.solve.Statement.{statement}
+use Rattle.substitution.proofs.solve.Tie as tie
+use Rattle.substitution.proofs.solve.Reads as reads
+use Rattle.substitution.proofs.solve.Lts as lts
+use Rattle.substitution.proofs.back_any.Reads as back-any-reads
+use Rattle.substitution.proofs.back_rest.Reads as back-rest-reads
+use Rattle.substitution.proofs.smaller.Reads as smaller-reads
 
 smaller-requires : tie.Need-smaller-requires
 smaller-requires c κs = search needs

@@ -5,14 +5,14 @@ use mathlib.Core.Path.{_≡_, refl, sym, ap, _∙_}
 use Prim.Native.Nat.{ℕ, suc, _≤_, _<_, _-_, _+_, _*_}
 use native.Mathlib.Omega.{arith}
 use lib.ListN.{length, length-set}
-use Rattle.banded.specs.Run.{Backed}
+use Rattle.substitution.specs.Solved.{Backed}
 use Rattle.banded.proofs.Laws.{rows-fit}
-use Rattle.banded.proofs.Substitution.{backed-more}
-use Rattle.banded.proofs.solve.back_any.Statement.{statement}
-use Rattle.banded.proofs.solve.back_any.Tie as tie
-use Rattle.banded.proofs.solve.back_any.Reads as reads
-use Rattle.banded.proofs.solve.back_any.Lts as lts
-use Rattle.banded.proofs.solve.back_at.Reads as back-at-reads
+use Rattle.substitution.proofs.Laws.{backed-more}
+use Rattle.substitution.proofs.back_any.Statement.{statement}
+use Rattle.substitution.proofs.back_any.Tie as tie
+use Rattle.substitution.proofs.back_any.Reads as reads
+use Rattle.substitution.proofs.back_any.Lts as lts
+use Rattle.substitution.proofs.back_at.Reads as back-at-reads
 
 abbrev Inv-loop : tie.InvT-loop
 Inv-loop s₀ k m from to b t₀ s t = (t ≤ to) × (length s ≡ length s₀) × ((v : List Float) → Backed k m from v s₀ → Backed k m t v s)

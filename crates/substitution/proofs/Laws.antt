@@ -14,11 +14,12 @@ use Rattle.float64.specs.Ops.{_⊘_}
 use Rattle.vectors.specs.Vec.{at, list, part, Kept}
 use Rattle.vectors.proofs.Laws.{length-list, at-list, kept-none}
 use Rattle.vectors.proofs.Parts.{putBack, first-part, range-part, partOf-range, kept-put, part-put}
 use Rattle.banded.specs.Rows.{Matrix, look, less, rows, sound, matrix, concat}
 use Rattle.banded.specs.Solve.{backAt, forward, divided, back, solve}
-use Rattle.banded.specs.Run.{flat, Shape, Holds, Stands, Backed, Solved}
+use Rattle.banded.specs.Run.{flat, Shape, Holds, Stands}
+use Rattle.substitution.specs.Solved.{Backed, Solved}
 use Rattle.banded.proofs.Laws.{above, less-ext}
 use Rattle.banded.proofs.Elimination.{length-forward}
 
 pub rows-kept : {k m b n : ℕ} {f : List (List Float)} {s₀ s : List Float} → Holds k m f s₀ → Kept b n s₀ s → m * (k + 1) ≤ b → Holds k m f s
 rows-kept {k} {m} {b} {n} {f} {s₀} {s} h w e =
@@ -30,17 +31,6 @@ stands-cons b {c} s {x} {y} u h e fits q zero z = rw add-zero (getD-set-same s b
 stands-cons b {c} s {x} {y} u h e fits q (suc j) z =
     let f : b + suc j ≡ c + j = omega arith in
     rw f (getD-set-other s b (c + j) x nan (ne-of-gt (omega arith)) ∙ h j (omega arith))
-
--- the n places from b on, as a list
-pub part-stands : (b n : ℕ) (s : List Float) → Stands b (take n (drop b s)) s
-part-stands b n s j h = let u : j < n = omega (arith, length-take n (drop b s), min-le-left n (length (drop b s))) in
-    sym (getD-take n (drop b s) j nan u ∙ getD-drop b s j nan)
-
-pub stands-part : (b n : ℕ) (x s : List Float) → length x ≡ n → b + n ≤ length s → Stands b x s → take n (drop b s) ≡ x
-stands-part b n x s e room h =
-    let l : length (take n (drop b s)) ≡ n = length-take-le n (drop b s) (omega (arith, length-drop b s)) in
-    ext-getD nan (take n (drop b s)) x (l ∙ sym e)
-    (λ i u. getD-take n (drop b s) i nan (omega arith) ∙ getD-drop b s i nan ∙ h i (omega arith))
 
 -- ---- lengths
 

@@ -3,15 +3,15 @@ use Prim.Native.Nat.{ℕ, suc, _≤_, _<_, _-_, _+_, _*_, min}
 use native.Mathlib.Omega.{arith}
 use native.Mathlib.Nat.{min-eq-left}
 use lib.ListN.{length}
-use Rattle.banded.proofs.Substitution.{more-than}
+use Rattle.substitution.proofs.Laws.{more-than}
 use borrow.Author.Needs.{needs}
-use Rattle.banded.proofs.solve.back_rest.Statement.{statement}
-use Rattle.banded.proofs.solve.back_rest.Tie as tie
-use Rattle.banded.proofs.solve.back_rest.Reads as reads
-use Rattle.banded.proofs.solve.back_rest.Lts as lts
-use Rattle.banded.proofs.solve.back1.Reads as back1-reads
-use Rattle.banded.proofs.solve.back2.Reads as back2-reads
-use Rattle.banded.proofs.solve.back_any.Reads as back-any-reads
+use Rattle.substitution.proofs.back_rest.Statement.{statement}
+use Rattle.substitution.proofs.back_rest.Tie as tie
+use Rattle.substitution.proofs.back_rest.Reads as reads
+use Rattle.substitution.proofs.back_rest.Lts as lts
+use Rattle.substitution.proofs.back1.Reads as back1-reads
+use Rattle.substitution.proofs.back2.Reads as back2-reads
+use Rattle.substitution.proofs.back_any.Reads as back-any-reads
 
 returns : tie.Need-returns
 returns c = λ v h. rw (c .if1 .taken) at h
