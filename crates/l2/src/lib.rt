@@ -8,6 +8,20 @@ ghost use Rattle.vectors.specs.Vec.{part};
 ghost use Rattle.l2.specs.L2.{dualL2};
 ghost use Rattle.l2.specs.Solved.{SolvedL2, Ended};
 
+// The rows of the system and then y in the first places of s, solved: the trend stands after the rows. Whether every pivot was good.
+pub fn solve_l2(s: &mut [f64], y: &[f64], lam: f64, k: usize) -> bool
+    requires { ⌜ (k ≤ 2) × ((1 ≤ length (now y)) × ((length (now y) ≤ 65536) × (length (now y) * (k + 1) + length (now y) ≤ length (now s)))) ⌝ }
+    ensures { λ r. ⌜ SolvedL2 k (now (y .entry)) lam (now (s .entry)) (now (s .exit)) r ⌝ }
+{
+    let n = y.len();
+    let c = differences::stencil(k);
+    matrices::ridge::fill_ridge(s, c, lam, k, n);
+    let b = n * (k + 1);
+    let e = b + n;
+    vectors::copy(&mut s[b..e], y);
+    substitution::factor_solve(s, k, n)
+}
+
 pub struct Ends {
     pub gap: f64,
     pub objective: f64,

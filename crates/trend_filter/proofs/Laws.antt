@@ -1,24 +1,25 @@
 -- Laws of answers: a refusal, a fit that was written, and that past the questions nothing is refused early. Assumes nothing.
-use mathlib.Core.Path.{_≡_, refl, sym, ap, subst, _∙_}
+use mathlib.Core.Path.{_≡_, refl, sym, ap, ap₂, subst, _∙_}
 use mathlib.Core.Bool.{Bool, true, false, cond}
-use mathlib.Core.List.{List}
+use mathlib.Core.List.{List, _++_}
 use Prim.Native.Nat.{ℕ, _+_, _-_, _≤_}
 use lib.Dec.{eqb}
 use lib.Ieee.{Float}
-use lib.ListN.{length, drop, getD}
-use lib.Seq.{getD-drop}
+use lib.ListN.{length, take, drop}
+use lib.Seq.{take-at, drop-at, drop-drop}
 use native.Mathlib.Omega.{arith}
-use Rattle.vectors.specs.Vec.{KeptOf, put}
+use Rattle.vectors.specs.Vec.{put}
+use Rattle.differences.specs.Diff.{diffK}
 use borrow.Author.Tests.{eq-eqb, ne-eqb}
 use Rattle.l2.specs.L2.{soundL2}
 use Rattle.fit.specs.Questions.{Asked, Lent, question}
-use Rattle.fit.specs.Fit.{Fit as FitOf, Outcome, refused, fitted, soundDD, fitL1, fitL2, fitBy, fit}
+use Rattle.fit.specs.Fit.{Fit as FitOf, Outcome, refused, fitted, lamMaxOf, closed, soundDD, fitL1, fitL2, fitBy, fit}
 use Rattle.fit.proofs.Passed.{fit-passed}
 use Rattle.trend_filter.specs.declared.Summary.{Summary}
 use Rattle.trend_filter.specs.declared.Answer.{Answer}
 use Rattle.trend_filter.specs.declared.Answer.the-variants.{Fit, Refused}
-use Rattle.trend_filter.specs.Answers.{answerOf, after, early, Gives}
-use Rattle.trend_filter.specs.Inner.{Shows}
+use Rattle.trend_filter.specs.Answers.{summaryOf, answerOf, after, early, Gives}
+use Rattle.trend_filter.specs.Inner.{closedOf, WroteOut, Shows}
 
 pub gives-refused : (q : ℕ) (t c : List Float) (k : List ℕ) → Gives (refused q) (Refused q) t t c c k k
 unfolding answerOf after
@@ -71,12 +72,31 @@ sound-fit a l e s = fit-passed a l e ∙ ap (λ (b : Bool). cond b (fitBy a) (re
 pub unsound-fit : (a : Asked) (l : Lent) → question a l ≡ 0 → soundDD a ≡ false → fit a l ≡ refused 10
 unsound-fit a l e s = fit-passed a l e ∙ ap (λ (b : Bool). cond b (fitBy a) (refused 10)) s
 
--- a run of which all places from q on stayed
-pub kept-drop : {A : Type 0} (z : A) (q : ℕ) (s₀ s : List A) → length s ≡ length s₀ → drop q s ≡ drop q s₀ → KeptOf z 0 q s₀ s
-kept-drop {A} z q s₀ s n e = record {
-  size = n;
-  below = λ j h. absurd (omega arith);
-  above = λ j h.
-      let r : q + (j - q) ≡ j = omega arith in
-      ap (λ (p : ℕ). getD s p z) (sym r) ∙ sym (getD-drop q s (j - q) z) ∙ ap (λ (v : List A). getD v (j - q) z) e ∙ getD-drop q s₀ (j - q) z ∙ ap (λ (p : ℕ). getD s₀ p z) r;
+-- ---- what is written out
+
+-- the first places, once t was written there
+pub take-put : {A : Type 0} (s t : List A) (m : ℕ) → length t ≡ m → take m (put s 0 t) ≡ t
+take-put s t m e = take-at t (drop (0 + length t) s) m e
+
+-- u over t
+pub put-over : {A : Type 0} (s t u : List A) → length t ≤ length u → put (put s 0 t) 0 u ≡ put s 0 u
+put-over {A} s t u h =
+    let d = length u - length t in
+    let v = put s 0 t in
+    let e : 0 + length u ≡ length t + d = omega arith in
+    let f : 0 + length t + d ≡ 0 + length u = omega arith in
+    ap (λ (r : List A). u ++ r)
+    (ap (λ (n : ℕ). drop n v) e ∙ sym (drop-drop d (length t) v) ∙ ap (drop d) (drop-at t (drop (0 + length t) s) (length t) refl)
+    ∙ drop-drop d (0 + length t) s ∙ ap (λ (n : ℕ). drop n s) f)
+
+-- a closed path with the trend x
+pub closed-shows : (a : Asked) (x : List Float) (gap objective : Float) {count : ℕ} {top : Float} {r : Summary} {t₀ t c₀ c : List Float} {k₀ k : List ℕ}
+    → r ≡ closedOf count top gap objective → top ≡ lamMaxOf a → WroteOut (a .order) (a .y) x count t₀ t c₀ c k₀ k
+    → Shows (closed a x (diffK (a .order) x) gap objective) r t₀ t c₀ c k₀ k
+unfolding closed summaryOf
+closed-shows a x gap objective e f w = record {
+  summary = e ∙ ap₂ (λ (n : ℕ) (p : Float). closedOf n p gap objective) (w .count-is) f;
+  trend = w .trend;
+  cycle = w .cycle;
+  knots = w .knots;
 }

@@ -1,4 +1,6 @@
 // The trend of a series: the questions, the preparation, the fit by its penalty, and the answer.
+mod closed;
+
 ghost use mathlib.Core.Path.{_≡_};
 ghost use Prim.Native.Nat.{ℕ, _≤_, _<_, _-_, _+_, _*_};
 ghost use lib.ListN.{length};
@@ -10,7 +12,7 @@ ghost use Rattle.fit.specs.Questions.{question};
 ghost use Rattle.fit.specs.Fit.{fitL1, fitL2, fitBy, fit};
 ghost use Rattle.questions.specs.Groups.{asking, lending};
 ghost use Rattle.trend_filter.specs.Answers.{Gives, Answered};
-ghost use Rattle.trend_filter.specs.Inner.{Room, Prepared, closedOf, Shows};
+ghost use Rattle.trend_filter.specs.Inner.{Room, Prepared, Shows};
 
 use matrices::Peak;
 
@@ -40,23 +42,7 @@ pub enum Answer {
     Refused(u32),
 }
 
-// The numbers of a closed path.
-fn closed(knots: usize, lam_max: f64, gap: f64, objective: f64) -> Summary
-    ensures { λ r. ⌜ r ≡ closedOf knots «lam_max» gap objective ⌝ }
-{
-    Summary {
-        knots: knots,
-        lam_max: lam_max,
-        gap: gap,
-        first_gap: gap,
-        best_gap: gap,
-        objective: objective,
-        n_iter: 0,
-        improvements: 0,
-        converged: true,
-    }
-}
-
+// L2: refused where a pivot of its system is bad.
 fn fit_l2(y: &[f64], lam: f64, k: usize, lam_max: f64, trend: &mut [f64], cycle: &mut [f64], knots: &mut [u32], work: &mut [f64]) -> Answer
     requires { ⌜ Room k (length (now y)) (length (now trend)) (length (now cycle)) (length (now knots))
         × ((40 * length (now y) ≤ length (now work)) × («lam_max» ≡ lamMax k (gramRow k) (length (now y) - k) (now y))) ⌝ }
@@ -64,7 +50,16 @@ fn fit_l2(y: &[f64], lam: f64, k: usize, lam_max: f64, trend: &mut [f64], cycle:
             (now (trend .entry)) (now (trend .exit)) (now (cycle .entry)) (now (cycle .exit)) (now (knots .entry)) (now (knots .exit)))
         × Kept 0 (16 * length (now (y .entry))) (now (work .entry)) (now (work .exit)) ⌝ }
 {
-    Answer::Refused(10)
+    if !l2::solve_l2(work, y, lam, k) {
+        return Answer::Refused(10);
+    }
+    let n = y.len();
+    let a = n * (k + 1);
+    let b = a + n;
+    let e = b + n;
+    let o = l2::objectives(&mut work[a..e], y, lam, k);
+    let count = closed::write_out(trend, cycle, knots, y, &work[a..b], k);
+    Answer::Fit(closed::closed(count, lam_max, o.gap, o.objective))
 }
 
 fn fit_l1(y: &[f64], lam: f64, tol: f64, max_iter: u64, k: usize, lam_max: f64, trend: &mut [f64], cycle: &mut [f64], knots: &mut [u32], work: &mut [f64], marks: &mut [u32]) -> Summary
@@ -76,7 +71,7 @@ fn fit_l1(y: &[f64], lam: f64, tol: f64, max_iter: u64, k: usize, lam_max: f64, 
         × (Kept 0 (40 * length (now (y .entry))) (now (work .entry)) (now (work .exit))
         × KeptOf 0 0 (2 * length (now (y .entry))) (now (marks .entry)) (now (marks .exit))) ⌝ }
 {
-    closed(0, lam_max, 0.0, 0.0)
+    closed::closed(0, lam_max, 0.0, 0.0)
 }
 
 // D y, the factor of D D', z* after it in work, and lam_max.
