@@ -1,11 +1,15 @@
--- Document 01, "Known fits and edges": the starred fits and refusals as one table (`Rattle.fit.proofs.Known` works it out).
+-- Document 01, "Known fits and edges": the starred ones as one table (`Rattle.fit.proofs.Known` proves it).
 use mathlib.Core.Bool.{true}
+use mathlib.Core.Path.{_≡_}
 use mathlib.Core.List.{List, [], _∷_}
-use Prim.Native.Nat.{ℕ, _*_}
+use Prim.Native.Nat.{ℕ, _*_, _≤_, _<_}
 use lib.IntN.{pos}
+use lib.Dec.{T}
+use lib.ListN.{length}
 use lib.Ieee.{Float, binary64, neg, nan, ofBits, ofInt}
-use Rattle.fit.specs.Questions.{Asked, Lent}
-use Rattle.fit.specs.Fit.{Fit, Outcome, refused, fitted, fit}
+use Rattle.float64.specs.Sqrt.{sqrtOf}
+use Rattle.fit.specs.Questions.{Asked, Lent, oneOrTwo}
+use Rattle.fit.specs.Fit.{Outcome, refused, fitted, fit}
 
 -- what is asked and lent, and what comes of it
 pub record Case : Type 0 where
@@ -79,3 +83,22 @@ table =
     -- L2, order 2, lam 1e308
     ∷ record { asked = asking-2 zeros (ofBits binary64 0x7fe1_ccf3_85eb_c8a0) 2; lent = room 3; outcome = refused 10 }
     ∷ []
+
+-- 4, 2^-1074 and 1 + 2^-52, and their roots 2, 2^-537 and 1
+abbrev pub squares : List Float
+squares = whole 4 ∷ ofBits binary64 1 ∷ ofBits binary64 0x3ff0_0000_0000_0001 ∷ []
+
+abbrev pub roots : List Float
+roots = whole 2 ∷ ofBits binary64 0x1e60_0000_0000_0000 ∷ whole 1 ∷ []
+
+abbrev pub rooted : List Float → List Float
+rooted [] = []
+rooted (x ∷ v) = sqrtOf x ∷ rooted v
+
+-- all of it
+pub record Known : Type 0 where
+  pub fits : worked table ≡ stated table
+  pub square-roots : rooted squares ≡ roots
+  -- n 65,536 passes question 3, and 65,537 does not, whatever y holds
+  pub passes : (a : Asked) (l : Lent) → length (a .y) ≤ 65536 → fit a l ≡ refused 3 → ⊥
+  pub refuses : (a : Asked) (l : Lent) → T (oneOrTwo (a .order)) → T (oneOrTwo (a .penalty)) → 65536 < length (a .y) → fit a l ≡ refused 3
