@@ -1,5 +1,5 @@
 -- The starred ones of document 01's known fits and edges: worked out from the definitions, and question 3 by its law.
-use mathlib.Core.Path.{_≡_, refl}
+use mathlib.Core.Path.{refl}
 use lib.Ieee.{ofBits, ofInt, add, sub, mul, div, neg, lt, le, eq, isNan}
 use Rattle.float64.specs.Helpers.{absOf, isFinite, maxOf, minOf, clampOf}
 use Rattle.float64.specs.Sqrt.{isqrtOf, isqrt, nearestRoot, sqrtOf}

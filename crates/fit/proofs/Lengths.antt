@@ -1,10 +1,10 @@
 -- How long the lists of a fit are: trend and cycle have a place for each of y, and a knot is one of the n - k differences.
-use mathlib.Core.Path.{_≡_, refl, sym, ap, _∙_, subst}
-use Prim.Native.Nat.{ℕ, zero, suc, _+_, _-_, _≤_, _<_}
+use mathlib.Core.Path.{_≡_, refl, ap, _∙_, subst}
+use Prim.Native.Nat.{ℕ, zero, suc, _-_, _≤_}
 use native.Mathlib.Nat.{le-refl, le-trans, le-of-eq}
 use native.Mathlib.Omega.{arith}
 use mathlib.Core.Bool.{Bool, true, false, cond}
-use mathlib.Core.List.{List, [], _∷_, _++_}
+use mathlib.Core.List.{List, [], _∷_}
 use mathlib.Core.Option.{Option, none, some}
 use lib.Dec.{T, eqb}
 use lib.ListN.{length, length-append}
@@ -22,7 +22,7 @@ use Rattle.interior_point.specs.InteriorPoint.{State}
 use Rattle.l2.specs.L2.{soundL2, trendL2}
 use Rattle.fit.specs.Questions.{Asked, Lent}
 use Rattle.fit.specs.Fit.{Fit, Outcome, refused, fitted, places, closed, fitL2, fitZero, fitFlat, better, polished, searchOf, keptOf, fitEnd, lamZero, lamHigh, fitL1, fitBy, fit}
-use Rattle.fit.proofs.Passed.{Passed, passed}
+use Rattle.fit.proofs.Passed.{passed}
 
 pub record Lengths (a : Asked) (f : Fit) : Type 0 where
   pub trend : length (f .trend) ≡ length (a .y)
