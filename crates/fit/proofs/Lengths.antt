@@ -11,11 +11,13 @@ use lib.ListN.{length, length-append}
 use lib.Ieee.{Float, lt}
 use Rattle.float64.specs.Helpers.{absOf}
 use Rattle.vectors.specs.Vec.{at}
-use Rattle.vectors.proofs.Laws.{length-list}
-use Rattle.differences.specs.Diff.{diff, diffK}
+use Rattle.differences.specs.Diff.{diffK}
+use Rattle.differences.proofs.Laws.{length-diffK}
 use Rattle.banded.specs.Solve.{forward, divided, solve}
-use Rattle.banded.proofs.Steps.{length-forward, length-divided, length-back}
-use Rattle.certificate.specs.Certificate.{Certificate, minus, certify}
+use Rattle.banded.proofs.Elimination.{length-forward}
+use Rattle.substitution.proofs.Laws.{length-divided, length-back}
+use Rattle.certificate.specs.Certificate.{Certificate, certify}
+use Rattle.certificate.proofs.Laws.{length-minus}
 use Rattle.certificate.specs.Knots.{aboveTo, knots}
 use Rattle.step_bound.specs.Search.{Ended}
 use Rattle.interior_point.specs.InteriorPoint.{State}
@@ -30,22 +32,6 @@ pub record Lengths (a : Asked) (f : Fit) : Type 0 where
   pub knots : length (f .knots) ≤ places a
 
 -- ---- of the parts
-pub length-minus : (u v : List Float) → length (minus u v) ≡ length u
-unfolding minus
-length-minus u v = length-list (length u) _
-
-length-diff : (w : List Float) → length (diff w) ≡ length w - 1
-unfolding diff
-length-diff w = length-list (length w - 1) _
-
-pub length-diffK : (k : ℕ) (w : List Float) → length (diffK k w) ≡ length w - k
-unfolding diffK
-length-diffK zero w = omega arith
-length-diffK (suc k) w = length-diff (diffK k w) ∙ rest (length (diffK k w)) (length w) k (length-diffK k w)
-  where
-    rest : (d n k : ℕ) → d ≡ n - k → d - 1 ≡ n - suc k
-    rest d n k e = omega arith
-
 pub length-solve : (k : ℕ) (f : List (List Float)) (b : List Float) → length (solve k f b) ≡ length b
 unfolding solve
 length-solve k f b =
