@@ -1,16 +1,13 @@
 -- How long the lists of a fit are: trend and cycle have a place for each of y, and a knot is one of the n - k differences.
 use mathlib.Core.Path.{_≡_, refl, ap, _∙_, subst}
-use Prim.Native.Nat.{ℕ, zero, suc, _-_, _≤_}
-use native.Mathlib.Nat.{le-refl, le-trans, le-of-eq}
-use native.Mathlib.Omega.{arith}
+use Prim.Native.Nat.{ℕ, _-_, _≤_}
+use native.Mathlib.Nat.{le-trans, le-of-eq}
 use mathlib.Core.Bool.{Bool, true, false, cond}
-use mathlib.Core.List.{List, [], _∷_}
+use mathlib.Core.List.{List}
 use mathlib.Core.Option.{Option, none, some}
 use lib.Dec.{T, eqb}
-use lib.ListN.{length, length-append}
-use lib.Ieee.{Float, lt}
-use Rattle.float64.specs.Helpers.{absOf}
-use Rattle.vectors.specs.Vec.{at}
+use lib.ListN.{length}
+use lib.Ieee.{Float}
 use Rattle.differences.specs.Diff.{diffK}
 use Rattle.differences.proofs.Laws.{length-diffK}
 use Rattle.banded.specs.Solve.{forward, divided, solve}
@@ -18,7 +15,8 @@ use Rattle.banded.proofs.Elimination.{length-forward}
 use Rattle.substitution.proofs.Laws.{length-divided, length-back}
 use Rattle.certificate.specs.Certificate.{Certificate, certify}
 use Rattle.certificate.proofs.Laws.{length-minus}
-use Rattle.certificate.specs.Knots.{aboveTo, knots}
+use Rattle.certificate.proofs.Above.{above-few}
+use Rattle.certificate.specs.Knots.{knots}
 use Rattle.step_bound.specs.Search.{Ended}
 use Rattle.interior_point.specs.InteriorPoint.{State}
 use Rattle.l2.specs.L2.{soundL2, trendL2}
@@ -39,22 +37,9 @@ length-solve k f b =
     let w = divided k f u in
     length-back k f w (length w) ∙ length-divided k f u ∙ length-forward k f b (length b)
 
-one-more : (b : Bool) (n : ℕ) → length (cond b (n ∷ []) []) ≤ 1
-one-more true n = le-refl 1
-one-more false n = omega arith
-
-length-above : (t : Float) (d : List Float) (n : ℕ) → length (aboveTo t d n) ≤ n
-unfolding aboveTo
-length-above t d zero = le-refl 0
-length-above t d (suc n) =
-    let e = length-append (aboveTo t d n) (cond (lt t (absOf (at d n))) (n ∷ []) []) in
-    let h = length-above t d n in
-    let o = one-more (lt t (absOf (at d n))) n in
-    omega (arith, e, h, o)
-
 pub length-knots : (k : ℕ) (y d : List Float) → length (knots k y d) ≤ length d
 unfolding knots
-length-knots k y d = length-above _ d (length d)
+length-knots k y d = above-few _ d (length d)
 
 -- ---- of a certificate
 record Sizes (a : Asked) (c : Certificate) : Type 0 where
