@@ -1,1 +1,73 @@
-// Code follows its definitions.
+// The polish: the places that the multipliers hold at a bound stay there, the others come from one more banded solve, and the candidate is certified.
+mod marks;
+mod system;
+
+ghost use mathlib.Core.Path.{_≡_};
+ghost use mathlib.Core.Bool.{cond};
+ghost use Prim.Native.Nat.{ℕ, _≤_, _<_, _-_, _+_, _*_};
+ghost use lib.ListN.{length, take, getD};
+ghost use lib.Ieee.{Float};
+ghost use Rattle.vectors.specs.Vec.{at, part, Kept, Written};
+ghost use Rattle.differences.specs.Diff.{diffK, gramRow};
+ghost use Rattle.polish.specs.Polish.{Hold, isFree, heldAt, freeTo, candidateAt, candidate};
+ghost use Rattle.polish.specs.Marks.{holdOf, heldBy, Marks, found, Polished, wins};
+
+// Whether there is a candidate, and the gap and P of its certificate.
+pub struct Candidate {
+    pub there: bool,
+    pub gap: f64,
+    pub primal: f64,
+}
+
+// A place of the candidate that h marks: where it is held, or place p of s.
+fn candidate_at(s: &[f64], p: usize, h: u32, lam: f64) -> f64
+    requires { ⌜ p < length (now s) ⌝ }
+    ensures { λ r. ⌜ r ≡ cond (isFree (holdOf h)) (at (now (s .entry)) p) (heldAt lam (holdOf h)) ⌝ }
+{
+    if h == 0 {
+        return s[p];
+    }
+    marks::held_value(h, lam)
+}
+
+// The candidate, from place a on: where it is held, or the next place of the solution, which stands from b on.
+fn fill_candidate(s: &mut [f64], marks: &[u32], lam: f64, b: usize, a: usize, n: usize, m: usize)
+    requires { ⌜ (n + m ≤ length (now marks)) × ((b + m ≤ a) × (a + m ≤ length (now s))) ⌝ }
+    ensures { λ _. ⌜ Written a (a + m) (λ j. candidateAt lam (heldBy n (now (marks .entry))) (part b m (now (s .entry))) (j - a)) (now (s .entry)) (now (s .exit)) ⌝ }
+{
+    let mut q = 0;
+    let mut i = 0;
+    while i < m {
+        let h = marks[n + i];
+        let x = candidate_at(s, b + q, h, lam);
+        s[a + i] = x;
+        q = q + marks::one_if_free(h);
+        i += 1;
+    }
+}
+
+// The candidate, from place 12 n on, for the q free places that the marks give; whether there is one.
+fn make_candidate(s: &mut [f64], marks: &[u32], dy: &[f64], lam: f64, k: usize, n: usize, q: usize) -> bool
+    requires { ⌜ (k ≤ 2) × ((k < n) × ((13 * n ≤ length (now s)) × ((2 * n ≤ length (now marks)) × ((n ≤ length (now dy) + k) × ((q + k ≤ n) × ((j : ℕ) → j < q → getD (now marks) j 0 + k < n)))))) ⌝ }
+    ensures { λ r. ⌜ ((h : ℕ → Hold) → Marks h n (n - k) (now (marks .entry)) q → candidate k (gramRow k) (now (dy .entry)) lam h (n - k) ≡ found r (part (12 * n) (n - k) (now (s .exit))))
+        × Kept (7 * n) (6 * n) (now (s .entry)) (now (s .exit)) ⌝ }
+{
+    let m = n - k;
+    let c = 7 * n;
+    let e = 11 * n;
+    if !system::settle(&mut s[c..e], marks, dy, lam, k, n, q) {
+        return false;
+    }
+    let b = c + q * (k + 1);
+    let a = 12 * n;
+    fill_candidate(s, marks, lam, b, a, n, m);
+    true
+}
+
+fn none() -> Candidate {
+    Candidate {
+        there: false,
+        gap: 0.0,
+        primal: 0.0,
+    }
+}
