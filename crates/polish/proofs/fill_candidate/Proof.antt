@@ -1,3 +1,14 @@
+use borrow.Author.Needs.{needs}
+use mathlib.Core.Path.{_≡_, refl, sym, ap, _∙_}
+use native.Mathlib.Omega.{arith}
+use Rattle.polish.proofs.Laws.{one-le, count-more, place-is}
+use Rattle.vectors.proofs.Laws.{none, store-more}
+use native.Mathlib.Nat.{add-zero}
+use lib.ListN.{length, getD, take}
+use Rattle.vectors.specs.Vec.{at, list, part, Written, Kept, KeptOf}
+use Rattle.polish.specs.Marks.{markOf, holdOf, heldBy, Marks}
+use Rattle.polish.specs.Polish.{isFree, heldAt, holdAt, freeTo, compressed, lessHeld, lessTo, rightOf, candidateAt}
+use Prim.Native.Nat.{ℕ, suc, _≤_, _<_, _-_, _+_, _*_, _/_, _%_, min}
 use Rattle.polish.proofs.fill_candidate.Statement.{statement}
 use Rattle.polish.proofs.fill_candidate.Tie as tie
 use Rattle.polish.proofs.fill_candidate.Reads as reads
@@ -6,74 +17,74 @@ use Rattle.polish.proofs.candidate_at.Reads as candidate-at-reads
 use Rattle.polish.proofs.marks.one_if_free.Reads as one-if-free-reads
 
 abbrev Inv-loop : tie.InvT-loop
-Inv-loop s₀ marks lam b a n m q₀ i₀ s q i = ?
+Inv-loop s₀ marks lam b a n m q₀ i₀ s q i = (i ≤ m) × ((q ≤ i) × ((q ≡ length (freeTo (heldBy n marks) i)) × Written a (a + i) (λ j. candidateAt lam (heldBy n marks) (part b m s₀) (j - a)) s₀ s))
 
 abbrev μ-loop : tie.MeasureT-loop
-μ-loop s₀ marks lam b a n m q₀ i₀ s q i = ?
+μ-loop s₀ marks lam b a n m q₀ i₀ s q i = m - i
 
--- src/lib.rt:40:5
 loop-holds : tie.Need-loop-holds Inv-loop μ-loop
-loop-holds c = ?
+unfolding freeTo
+loop-holds c = (search needs, (search needs, (refl, rw add-zero none)))
 
--- src/lib.rt:41:23
 add-h : tie.Need-add-h Inv-loop μ-loop
-add-h c = ?
+add-h c = search needs
 
--- src/lib.rt:41:17
 mul-h : tie.Need-mul-h Inv-loop μ-loop
-mul-h c = ?
+mul-h c = search needs
 
--- src/lib.rt:41:17
 shared-slice-read-h : tie.Need-shared-slice-read-h Inv-loop μ-loop
-shared-slice-read-h c = ?
+shared-slice-read-h c = search needs
 
--- src/lib.rt:42:33
 add-candidate-at : tie.Need-add-candidate-at Inv-loop μ-loop
-add-candidate-at c = ?
+add-candidate-at c = search needs
 
--- src/lib.rt:42:13
 candidate-at-requires : tie.Need-candidate-at-requires Inv-loop μ-loop
-candidate-at-requires c κs = ?
+candidate-at-requires c κs = search needs
 
--- src/lib.rt:43:11
 add-s : tie.Need-add-s Inv-loop μ-loop
-add-s c = ?
+add-s c = search needs
 
--- src/lib.rt:43:9
 mul-s : tie.Need-mul-s Inv-loop μ-loop
-mul-s c = ?
+mul-s c = search needs
 
--- src/lib.rt:43:9
 slice-write-s : tie.Need-slice-write-s Inv-loop μ-loop
-slice-write-s c = ?
+slice-write-s c = search needs
 
--- src/lib.rt:44:17
 one-if-free-requires : tie.Need-one-if-free-requires Inv-loop μ-loop
-one-if-free-requires c κs = ?
+one-if-free-requires c κs = search needs
 
--- src/lib.rt:44:13
 add-q : tie.Need-add-q Inv-loop μ-loop
-add-q c = ?
+add-q c = let l = c .before .before .before .before .before in
+    let a = l .before .before .before .args in
+    omega (arith, c .one-if-free .ensures, one-le (isFree (heldBy (a .n) (a .marks .now) (l .loop .i))))
 
--- src/lib.rt:45:9
 add-i : tie.Need-add-i Inv-loop μ-loop
-add-i c = ?
+add-i c = search needs
 
--- src/lib.rt:40:5
 loop-less : tie.Need-loop-less Inv-loop μ-loop
-loop-less c = ?
+loop-less c = search needs
 
--- src/lib.rt:40:5
 loop-again : tie.Need-loop-again Inv-loop μ-loop
-loop-again c = ?
+loop-again c = let l = c .before .before .before .before .before in
+    let a = l .before .before .before .args in
+    let h = heldBy (a .n) (a .marks .now) in
+    let i = l .loop .i in
+    let q = l .loop .q in
+    let w = l .loop .inv .1 .1 .1 in
+    let x = c .before .candidate-at .result in
+    (search needs,
+    (omega (arith, c .one-if-free .ensures, one-le (isFree (h i))),
+    (count-more h i (l .loop .inv .1 .1 .0) (c .one-if-free .ensures),
+    store-more (a .a) i (candidateAt (a .lam) h (part (a .b) (a .m) (a .s .now))) (a .s .now) (l .loop .s) x w (omega arith)
+    (place-is (a .lam) h (a .b) (a .m) i q (a .s .now) (l .loop .s) x (l .loop .inv .1 .1 .0) (omega arith) (w .below (a .b + q) (omega arith)) (c .before .candidate-at .ensures)))))
 
--- src/lib.rt:34:1
 same-length : tie.Need-same-length Inv-loop μ-loop
-same-length c = ?
+same-length c = search needs
 
--- src/lib.rt:34:1
 returns : tie.Need-returns Inv-loop μ-loop
-returns c = ?
+returns c = let l = c .before .loop in
+    let e : l .i ≡ c .before .before .before .before .args .m = omega arith in
+    rw e at (l .inv .1 .1 .1)
 
 pub fill-candidate-spec : {M : Type 1} → statement M
 fill-candidate-spec =

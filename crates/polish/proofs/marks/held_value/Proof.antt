@@ -1,19 +1,20 @@
+use borrow.Author.Needs.{needs}
+use mathlib.Core.Path.{_≡_, refl, sym, ap, _∙_}
+use native.Mathlib.Omega.{arith}
+use borrow.Author.Tests.{lt-ltb, le-ltb, le-leb, lt-leb, eq-eqb, ne-eqb}
 use Rattle.polish.proofs.marks.held_value.Statement.{statement}
 use Rattle.polish.proofs.marks.held_value.Tie as tie
 use Rattle.polish.proofs.marks.held_value.Reads as reads
 use Rattle.polish.proofs.marks.held_value.Lts as lts
 
--- src/marks.rt:16:9
 returns : tie.Need-returns
-returns c = ?
+returns c = simp (eq-eqb _ _ (c .if1 .taken))
 
--- src/marks.rt:19:9
 returns-2 : tie.Need-returns-2
-returns-2 c = ?
+returns-2 c = simp (ne-eqb _ _ (c .before .if1 .left), eq-eqb _ _ (c .if2 .taken))
 
--- src/marks.rt:12:1
 returns-3 : tie.Need-returns-3
-returns-3 c = ?
+returns-3 c = simp (ne-eqb _ _ (c .before .if1 .left), ne-eqb _ _ (c .if2 .left))
 
 pub held-value-spec : {M : Type 1} → statement M
 held-value-spec = tie.close (tie.spec returns returns-2 returns-3)

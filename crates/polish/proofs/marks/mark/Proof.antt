@@ -1,3 +1,14 @@
+use borrow.Author.Needs.{needs}
+use mathlib.Core.Path.{_≡_, refl, sym, ap, _∙_}
+use native.Mathlib.Omega.{arith}
+use lib.ListN.{length, length-set}
+use Rattle.polish.proofs.Laws.{one-le, marks-none, marks-more, marks-kept}
+use Rattle.vectors.proofs.Laws.{kept-none}
+use Rattle.newton.specs.Places.{point}
+use Rattle.vectors.specs.Vec.{at, list, part, Written, Kept, KeptOf}
+use Rattle.polish.specs.Marks.{markOf, holdOf, heldBy, Marks}
+use Rattle.polish.specs.Polish.{isFree, heldAt, holdAt, freeTo, compressed, lessHeld, lessTo, rightOf, candidateAt}
+use Prim.Native.Nat.{ℕ, suc, _≤_, _<_, _-_, _+_, _*_, _/_, _%_, min}
 use Rattle.polish.proofs.marks.mark.Statement.{statement}
 use Rattle.polish.proofs.marks.mark.Tie as tie
 use Rattle.polish.proofs.marks.mark.Reads as reads
@@ -6,70 +17,64 @@ use Rattle.polish.proofs.marks.mark_at.Reads as mark-at-reads
 use Rattle.polish.proofs.marks.one_if_free.Reads as one-if-free-reads
 
 abbrev Inv-loop : tie.InvT-loop
-Inv-loop s marks₀ lam n m q₀ i₀ marks q i = ?
+Inv-loop s marks₀ lam n m q₀ i₀ marks q i = (i ≤ m) × ((q ≤ i) × (Marks (holdAt lam (point n m s)) n i marks q × KeptOf 0 0 (n + i) marks₀ marks))
 
 abbrev μ-loop : tie.MeasureT-loop
-μ-loop s marks₀ lam n m q₀ i₀ marks q i = ?
+μ-loop s marks₀ lam n m q₀ i₀ marks q i = m - i
 
--- src/marks.rt:54:5
 loop-holds : tie.Need-loop-holds Inv-loop μ-loop
-loop-holds c = ?
+loop-holds c = (search needs, (search needs, (marks-none _ _ _, kept-none _ _ _)))
 
--- src/marks.rt:55:13
 mark-at-requires : tie.Need-mark-at-requires Inv-loop μ-loop
-mark-at-requires c κs = ?
+mark-at-requires c κs = search needs
 
--- src/marks.rt:56:15
 add-marks : tie.Need-add-marks Inv-loop μ-loop
-add-marks c = ?
+add-marks c = search needs
 
--- src/marks.rt:56:9
 mul-marks : tie.Need-mul-marks Inv-loop μ-loop
-mul-marks c = ?
+mul-marks c = search needs
 
--- src/marks.rt:56:9
 slice-write-marks : tie.Need-slice-write-marks Inv-loop μ-loop
-slice-write-marks c = ?
+slice-write-marks c = search needs
 
--- src/marks.rt:57:20
 cast-marks : tie.Need-cast-marks Inv-loop μ-loop
-cast-marks c = ?
+cast-marks c = search needs
 
--- src/marks.rt:57:9
 mul-marks-2 : tie.Need-mul-marks-2 Inv-loop μ-loop
-mul-marks-2 c = ?
+mul-marks-2 c = search needs
 
--- src/marks.rt:57:9
 slice-write-marks-2 : tie.Need-slice-write-marks-2 Inv-loop μ-loop
-slice-write-marks-2 c = ?
+slice-write-marks-2 c = let l = c .before .before .loop in
+    let e : l .q < length (l .marks) = omega arith in
+    simp length-set e
 
--- src/marks.rt:58:17
 one-if-free-requires : tie.Need-one-if-free-requires Inv-loop μ-loop
-one-if-free-requires c κs = ?
+one-if-free-requires c κs = search needs
 
--- src/marks.rt:58:13
 add-q : tie.Need-add-q Inv-loop μ-loop
-add-q c = ?
+add-q c = omega (arith, c .one-if-free .ensures, one-le (isFree (holdOf (c .before .mark-at .result))))
 
--- src/marks.rt:59:9
 add-i : tie.Need-add-i Inv-loop μ-loop
-add-i c = ?
+add-i c = search needs
 
--- src/marks.rt:54:5
 loop-less : tie.Need-loop-less Inv-loop μ-loop
-loop-less c = ?
+loop-less c = search needs
 
--- src/marks.rt:54:5
 loop-again : tie.Need-loop-again Inv-loop μ-loop
-loop-again c = ?
+loop-again c = let l = c .before .before .before .loop in
+    let w = l .inv .1 .1 .0 in
+    (search needs,
+    (omega (arith, c .one-if-free .ensures, one-le (isFree (holdOf (c .before .mark-at .result)))),
+    (marks-more w (omega arith) (omega arith) (c .before .mark-at .ensures) _ (c .one-if-free .ensures),
+    marks-kept w (omega arith) (omega arith) (c .before .mark-at .ensures) (l .inv .1 .1 .1))))
 
--- src/marks.rt:48:1
 same-length : tie.Need-same-length Inv-loop μ-loop
-same-length c = ?
+same-length c = search needs
 
--- src/marks.rt:48:1
 returns : tie.Need-returns Inv-loop μ-loop
-returns c = ?
+returns c = let l = c .before .loop in
+    let e : l .i ≡ c .before .before .before .before .args .m = omega arith in
+    (rw e at (l .inv .1 .1 .0), rw e at (l .inv .1 .1 .1))
 
 pub mark-spec : {M : Type 1} → statement M
 mark-spec =

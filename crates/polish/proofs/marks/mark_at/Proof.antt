@@ -1,68 +1,72 @@
 use borrow.Author.Needs.{needs}
+use mathlib.Core.Path.{_≡_, refl, sym, ap, _∙_}
+use native.Mathlib.Omega.{arith}
+use Rattle.vectors.proofs.Parts.{at-part}
+use Rattle.polish.specs.Polish.{isFree, heldAt, holdAt, freeTo, compressed, lessHeld, lessTo, rightOf, candidateAt}
+use Prim.Native.Nat.{ℕ, suc, _≤_, _<_, _-_, _+_, _*_, _/_, _%_, min}
 use Rattle.polish.proofs.marks.mark_at.Statement.{statement}
 use Rattle.polish.proofs.marks.mark_at.Tie as tie
 use Rattle.polish.proofs.marks.mark_at.Reads as reads
 use Rattle.polish.proofs.marks.mark_at.Lts as lts
 
--- src/marks.rt:35:15
 add-z : tie.Need-add-z
 add-z c = search needs
 
--- src/marks.rt:35:13
 mul-z : tie.Need-mul-z
 mul-z c = search needs
 
--- src/marks.rt:35:13
 shared-slice-read-z : tie.Need-shared-slice-read-z
 shared-slice-read-z c = search needs
 
--- src/marks.rt:36:17
 add-mu1 : tie.Need-add-mu1
 add-mu1 c = search needs
 
--- src/marks.rt:36:17
 add-mu1-2 : tie.Need-add-mu1-2
 add-mu1-2 c = search needs
 
--- src/marks.rt:36:15
 mul-mu1 : tie.Need-mul-mu1
 mul-mu1 c = search needs
 
--- src/marks.rt:36:15
 shared-slice-read-mu1 : tie.Need-shared-slice-read-mu1
 shared-slice-read-mu1 c = search needs
 
--- src/marks.rt:38:9
 returns : tie.Need-returns
-returns c = ?
+unfolding holdAt
+returns c = let a = c .before .before .before .args in
+    let z = at-part (a .a) (a .m) (a .s .now) (a .i) (a .a + a .i) (omega arith) refl in
+    let u = at-part (a .a + a .m) (a .m) (a .s .now) (a .i) (a .a + a .m + a .i) (omega arith) refl in
+    rw (z, u, c .if1 .taken)
 
--- src/marks.rt:40:17
 add-mu2 : tie.Need-add-mu2
 add-mu2 c = search needs
 
--- src/marks.rt:40:17
 add-mu2-2 : tie.Need-add-mu2-2
 add-mu2-2 c = search needs
 
--- src/marks.rt:40:17
 add-mu2-3 : tie.Need-add-mu2-3
 add-mu2-3 c = search needs
 
--- src/marks.rt:40:15
 mul-mu2 : tie.Need-mul-mu2
 mul-mu2 c = search needs
 
--- src/marks.rt:40:15
 shared-slice-read-mu2 : tie.Need-shared-slice-read-mu2
 shared-slice-read-mu2 c = search needs
 
--- src/marks.rt:42:9
 returns-2 : tie.Need-returns-2
-returns-2 c = ?
+unfolding holdAt
+returns-2 c = let a = c .before .before .before .before .before .args in
+    let z = at-part (a .a) (a .m) (a .s .now) (a .i) (a .a + a .i) (omega arith) refl in
+    let u = at-part (a .a + a .m) (a .m) (a .s .now) (a .i) (a .a + a .m + a .i) (omega arith) refl in
+    let v = at-part (a .a + a .m + a .m) (a .m) (a .s .now) (a .i) (a .a + a .m + a .m + a .i) (omega arith) refl in
+    rw (z, u, v, c .before .before .if1 .left, c .if2 .taken)
 
--- src/marks.rt:31:1
 returns-3 : tie.Need-returns-3
-returns-3 c = ?
+unfolding holdAt
+returns-3 c = let a = c .before .before .before .before .before .args in
+    let z = at-part (a .a) (a .m) (a .s .now) (a .i) (a .a + a .i) (omega arith) refl in
+    let u = at-part (a .a + a .m) (a .m) (a .s .now) (a .i) (a .a + a .m + a .i) (omega arith) refl in
+    let v = at-part (a .a + a .m + a .m) (a .m) (a .s .now) (a .i) (a .a + a .m + a .m + a .i) (omega arith) refl in
+    rw (z, u, v, c .before .before .if1 .left, c .if2 .left)
 
 pub mark-at-spec : {M : Type 1} → statement M
 mark-at-spec =

@@ -1,4 +1,10 @@
 use borrow.Author.Needs.{needs}
+use mathlib.Core.Path.{_≡_, refl, sym, ap, _∙_}
+use native.Mathlib.Omega.{arith}
+use Rattle.polish.specs.Polish.{isFree, heldAt, holdAt, freeTo, compressed, lessHeld, lessTo, rightOf, candidateAt}
+use lib.ListN.{length, getD, take}
+use Prim.Native.Nat.{ℕ, suc, _≤_, _<_, _-_, _+_, _*_, _/_, _%_, min}
+use borrow.Author.Tests.{lt-ltb, le-ltb, le-leb, lt-leb, eq-eqb, ne-eqb}
 use Rattle.polish.proofs.system.band_at.Statement.{statement}
 use Rattle.polish.proofs.system.band_at.Tie as tie
 use Rattle.polish.proofs.system.band_at.Reads as reads
@@ -6,65 +12,59 @@ use Rattle.polish.proofs.system.band_at.Lts as lts
 use Rattle.polish.proofs.system.over.Reads as over-reads
 use Rattle.polish.proofs.system.wide.Reads as wide-reads
 
--- src/system.rt:37:8
 add-if1 : tie.Need-add-if1
 add-if1 c = search needs
 
--- src/system.rt:38:9
 returns : tie.Need-returns
-returns c = ?
+unfolding compressed
+returns c = simp (lt-ltb _ _ (c .if1 .taken))
 
--- src/system.rt:40:18
 mul-wide : tie.Need-mul-wide
 mul-wide c = search needs
 
--- src/system.rt:40:18
 shared-slice-read-wide : tie.Need-shared-slice-read-wide
 shared-slice-read-wide c = search needs
 
--- src/system.rt:40:9
 wide-requires : tie.Need-wide-requires
 wide-requires c κs = search needs
 
--- src/system.rt:41:23
 add-wide : tie.Need-add-wide
 add-wide c = search needs
 
--- src/system.rt:41:23
 sub-wide : tie.Need-sub-wide
 sub-wide c = search needs
 
--- src/system.rt:41:18
 mul-wide-2 : tie.Need-mul-wide-2
 mul-wide-2 c = search needs
 
--- src/system.rt:41:18
 shared-slice-read-wide-2 : tie.Need-shared-slice-read-wide-2
 shared-slice-read-wide-2 c = search needs
 
--- src/system.rt:41:9
 wide-requires-2 : tie.Need-wide-requires-2
 wide-requires-2 c κs = search needs
 
--- src/system.rt:42:9
 over-requires : tie.Need-over-requires
 over-requires c κs = search needs
 
--- src/system.rt:44:16
 mul-result : tie.Need-mul-result
 mul-result c = search needs
 
--- src/system.rt:44:16
 array-read-result : tie.Need-array-read-result
 array-read-result c = search needs
 
--- src/system.rt:44:9
 returns-2 : tie.Need-returns-2
-returns-2 c = ?
+unfolding compressed
+returns-2 c = let a = c .before .before .before .before .before .before .before .before .args in
+    let o = c .before .over in
+    let e : o .result ≡ getD (a .free .now) (a .p) 0 - getD (a .free .now) (a .p + a .c - a .k) 0 = o .ensures ∙ rw (c .before .before .before .before .wide .ensures, c .before .before .wide2 .ensures) in
+    rw (le-ltb _ _ (c .before .before .before .before .before .before .if1 .left), ← e, le-leb _ _ (c .if2 .taken))
 
--- src/system.rt:33:1
 returns-3 : tie.Need-returns-3
-returns-3 c = ?
+unfolding compressed
+returns-3 c = let a = c .before .before .before .before .before .before .before .before .args in
+    let o = c .before .over in
+    let e : o .result ≡ getD (a .free .now) (a .p) 0 - getD (a .free .now) (a .p + a .c - a .k) 0 = o .ensures ∙ rw (c .before .before .before .before .wide .ensures, c .before .before .wide2 .ensures) in
+    rw (le-ltb _ _ (c .before .before .before .before .before .before .if1 .left), ← e, lt-leb _ _ (c .if2 .left))
 
 pub band-at-spec : {M : Type 1} → statement M
 band-at-spec =

@@ -1,3 +1,12 @@
+use borrow.Author.Needs.{needs}
+use mathlib.Core.Path.{_≡_, refl, sym, ap, _∙_}
+use native.Mathlib.Omega.{arith}
+use Rattle.banded.proofs.Laws.{filled}
+use Rattle.vectors.proofs.Laws.{none, up}
+use native.Mathlib.Nat.{mod-lt, div-lt-iff-lt-mul}
+use Rattle.vectors.specs.Vec.{at, list, part, Written, Kept, KeptOf}
+use Rattle.polish.specs.Polish.{isFree, heldAt, holdAt, freeTo, compressed, lessHeld, lessTo, rightOf, candidateAt}
+use Prim.Native.Nat.{ℕ, suc, _≤_, _<_, _-_, _+_, _*_, _/_, _%_, min}
 use Rattle.polish.proofs.system.fill_bands.Statement.{statement}
 use Rattle.polish.proofs.system.fill_bands.Tie as tie
 use Rattle.polish.proofs.system.fill_bands.Reads as reads
@@ -5,62 +14,59 @@ use Rattle.polish.proofs.system.fill_bands.Lts as lts
 use Rattle.polish.proofs.system.band_at.Reads as band-at-reads
 
 abbrev Inv-loop : tie.InvT-loop
-Inv-loop s₀ free g k q w e p₀ s p = ?
+Inv-loop s₀ free g k q w e p₀ s p = (p ≤ q * (k + 1)) × Written 0 p (λ j. compressed k g free (j / (k + 1)) (j % (k + 1))) s₀ s
 
 abbrev μ-loop : tie.MeasureT-loop
-μ-loop s₀ free g k q w e p₀ s p = ?
+μ-loop s₀ free g k q w e p₀ s p = q * (k + 1) - p
 
--- src/system.rt:55:13
 add-w : tie.Need-add-w Inv-loop μ-loop
-add-w c = ?
+add-w c = search needs
 
--- src/system.rt:56:13
 mul-e : tie.Need-mul-e Inv-loop μ-loop
-mul-e c = ?
+mul-e c = search needs
 
--- src/system.rt:58:5
 loop-holds : tie.Need-loop-holds Inv-loop μ-loop
-loop-holds c = ?
+loop-holds c = (search needs, none)
 
--- src/system.rt:59:37
 div-band-at : tie.Need-div-band-at Inv-loop μ-loop
-div-band-at c = ?
+div-band-at c = search needs
 
--- src/system.rt:59:44
 rem-band-at : tie.Need-rem-band-at Inv-loop μ-loop
-rem-band-at c = ?
+rem-band-at c = search needs
 
--- src/system.rt:59:13
 band-at-requires : tie.Need-band-at-requires Inv-loop μ-loop
-band-at-requires c κs = ?
+band-at-requires c κs = let a = c .before .before .before .before .args in
+    let p = c .before .loop .p in
+    let w = a .k + 1 in
+    let b : p < a .q * w = omega arith in
+    let r : p / w < a .q = div-lt-iff-lt-mul {k = w} (omega arith) .1 b in
+    (omega arith, (omega (arith, mod-lt p {m = w} (omega arith)), omega arith))
 
--- src/system.rt:60:9
 mul-s : tie.Need-mul-s Inv-loop μ-loop
-mul-s c = ?
+mul-s c = search needs
 
--- src/system.rt:60:9
 slice-write-s : tie.Need-slice-write-s Inv-loop μ-loop
-slice-write-s c = ?
+slice-write-s c = search needs
 
--- src/system.rt:61:9
 add-p : tie.Need-add-p Inv-loop μ-loop
-add-p c = ?
+add-p c = search needs
 
--- src/system.rt:58:5
 loop-less : tie.Need-loop-less Inv-loop μ-loop
-loop-less c = ?
+loop-less c = search needs
 
--- src/system.rt:58:5
 loop-again : tie.Need-loop-again Inv-loop μ-loop
-loop-again c = ?
+loop-again c = (search needs, up (c .before .before .loop .inv .1) (omega arith) (omega arith) (c .band-at .ensures))
 
--- src/system.rt:50:1
 same-length : tie.Need-same-length Inv-loop μ-loop
-same-length c = ?
+same-length c = search needs
 
--- src/system.rt:50:1
 returns : tie.Need-returns Inv-loop μ-loop
-returns c = ?
+returns c = let a = c .before .before .before .before .args in
+    let e : c .before .loop .p ≡ a .q * (a .k + 1) = omega arith in
+    let w = rw e at (c .before .loop .inv .1) in
+    let size = w .size in
+    (filled (a .k) (a .q) (compressed (a .k) (a .g) (a .free .now)) _ (omega arith) (λ j h. w .inside j (omega arith) h),
+    record { size = size; below = w .below; above = λ j h. w .above j (omega arith) })
 
 pub fill-bands-spec : {M : Type 1} → statement M
 fill-bands-spec =

@@ -1,3 +1,12 @@
+use borrow.Author.Needs.{needs}
+use mathlib.Core.Path.{_≡_, refl, sym, ap, _∙_}
+use native.Mathlib.Omega.{arith}
+use Rattle.polish.proofs.Laws.{less-more}
+use native.Mathlib.Nat.{sub-self}
+use Rattle.vectors.specs.Vec.{at, list, part, Written, Kept, KeptOf}
+use Rattle.polish.specs.Marks.{markOf, holdOf, heldBy, Marks}
+use Rattle.polish.specs.Polish.{isFree, heldAt, holdAt, freeTo, compressed, lessHeld, lessTo, rightOf, candidateAt}
+use Prim.Native.Nat.{ℕ, suc, _≤_, _<_, _-_, _+_, _*_, _/_, _%_, min}
 use Rattle.polish.proofs.system.right_at.Statement.{statement}
 use Rattle.polish.proofs.system.right_at.Tie as tie
 use Rattle.polish.proofs.system.right_at.Reads as reads
@@ -7,70 +16,60 @@ use Rattle.polish.proofs.system.over.Reads as over-reads
 use Rattle.polish.proofs.system.smaller.Reads as smaller-reads
 
 abbrev Inv-loop : tie.InvT-loop
-Inv-loop marks dy lam g k n m i lo hi v₀ j₀ v j = ?
+Inv-loop marks dy lam g k n m i lo hi v₀ j₀ v j = (lo ≤ j) × (j ≤ hi) × (v ≡ lessTo lam g (heldBy n marks) i lo (at dy i) (j - lo))
 
 abbrev μ-loop : tie.MeasureT-loop
-μ-loop marks dy lam g k n m i lo hi v₀ j₀ v j = ?
+μ-loop marks dy lam g k n m i lo hi v₀ j₀ v j = hi - j
 
--- src/system.rt:83:9
 over-requires : tie.Need-over-requires Inv-loop μ-loop
-over-requires c κs = ?
+over-requires c κs = search needs
 
--- src/system.rt:84:22
 add-smaller : tie.Need-add-smaller Inv-loop μ-loop
-add-smaller c = ?
+add-smaller c = search needs
 
--- src/system.rt:84:22
 add-smaller-2 : tie.Need-add-smaller-2 Inv-loop μ-loop
-add-smaller-2 c = ?
+add-smaller-2 c = search needs
 
--- src/system.rt:84:9
 smaller-requires : tie.Need-smaller-requires Inv-loop μ-loop
-smaller-requires c κs = ?
+smaller-requires c κs = search needs
 
--- src/system.rt:85:17
 mul-v : tie.Need-mul-v Inv-loop μ-loop
-mul-v c = ?
+mul-v c = search needs
 
--- src/system.rt:85:17
 shared-slice-read-v : tie.Need-shared-slice-read-v Inv-loop μ-loop
-shared-slice-read-v c = ?
+shared-slice-read-v c = search needs
 
--- src/system.rt:87:5
 loop-holds : tie.Need-loop-holds Inv-loop μ-loop
-loop-holds c = ?
+unfolding lessTo
+loop-holds c = (search needs, omega arith, rw sub-self)
 
--- src/system.rt:88:23
 add-h : tie.Need-add-h Inv-loop μ-loop
-add-h c = ?
+add-h c = search needs
 
--- src/system.rt:88:17
 mul-h : tie.Need-mul-h Inv-loop μ-loop
-mul-h c = ?
+mul-h c = search needs
 
--- src/system.rt:88:17
 shared-slice-read-h : tie.Need-shared-slice-read-h Inv-loop μ-loop
-shared-slice-read-h c = ?
+shared-slice-read-h c = search needs
 
--- src/system.rt:89:9
 less-held-requires : tie.Need-less-held-requires Inv-loop μ-loop
-less-held-requires c κs = ?
+less-held-requires c κs = search needs
 
--- src/system.rt:90:9
 add-j : tie.Need-add-j Inv-loop μ-loop
-add-j c = ?
+add-j c = search needs
 
--- src/system.rt:87:5
 loop-less : tie.Need-loop-less Inv-loop μ-loop
-loop-less c = ?
+loop-less c = search needs
 
--- src/system.rt:87:5
 loop-again : tie.Need-loop-again Inv-loop μ-loop
-loop-again c = ?
+loop-again c = let l = c .before .before .before in
+    (search needs, search needs, less-more _ _ _ _ _ _ _ _ _ (l .loop .inv .2) (omega arith) (c .less-held .ensures))
 
--- src/system.rt:79:1
 returns : tie.Need-returns Inv-loop μ-loop
-returns c = ?
+unfolding rightOf
+returns c = let l = c .before in
+    let e : l .loop .j ≡ l .before .before .smaller .result = omega arith in
+    rw (e ∙ l .before .before .smaller .ensures, l .before .before .before .over .ensures) at (l .loop .inv .2)
 
 pub right-at-spec : {M : Type 1} → statement M
 right-at-spec =
