@@ -71,3 +71,35 @@ fn none() -> Candidate {
         primal: 0.0,
     }
 }
+
+// Whether the candidate replaces the iterate, whose gap is given: only if its gap is finite and strictly smaller.
+pub fn won(q: Candidate, gap: f64) -> bool
+    ensures { λ r. ⌜ r ≡ wins q gap ⌝ }
+{
+    if !q.there {
+        return false;
+    }
+    if !float64::is_finite(q.gap) {
+        return false;
+    }
+    q.gap < gap
+}
+
+fn either<'a>(a: &'a [f64], b: &'a [f64], second: bool) -> &'a [f64]
+    ensures { λ r. ⌜ now r ≡ cond second (now (b .entry)) (now (a .entry)) ⌝ }
+{
+    if second {
+        return b;
+    }
+    a
+}
+
+// The iterate's trend or the candidate's, where it stands.
+pub fn winner(work: &[f64], n: usize, second: bool) -> &[f64]
+    requires { ⌜ 12 * n ≤ length (now work) ⌝ }
+    ensures { λ r. ⌜ now r ≡ cond second (part (11 * n) n (now (work .entry))) (part 0 n (now (work .entry))) ⌝ }
+{
+    let a = 11 * n;
+    let e = 12 * n;
+    either(&work[0..n], &work[a..e], second)
+}

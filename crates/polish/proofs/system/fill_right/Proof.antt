@@ -36,7 +36,8 @@ wide-requires : tie.Need-wide-requires Inv-loop μ-loop
 wide-requires c κs = search needs
 
 sub-right-at : tie.Need-sub-right-at Inv-loop μ-loop
-sub-right-at c = search needs
+sub-right-at c = let l = c .before .before .before in
+    omega (arith, l .before .before .before .before .pre .1 .1 .1 .1 .1 (l .loop .p) (omega arith))
 
 right-at-requires : tie.Need-right-at-requires Inv-loop μ-loop
 right-at-requires c κs = let l = c .before .before .before in
