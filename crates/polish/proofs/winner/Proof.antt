@@ -1,6 +1,8 @@
 use borrow.Author.Needs.{needs}
 use mathlib.Core.Path.{_≡_, refl, sym, ap, _∙_}
 use native.Mathlib.Omega.{arith}
+use Rattle.vectors.proofs.Parts.{range-part}
+use Prim.Native.Nat.{_*_}
 use Rattle.polish.proofs.winner.Statement.{statement}
 use Rattle.polish.proofs.winner.Tie as tie
 use Rattle.polish.proofs.winner.Reads as reads
@@ -38,7 +40,9 @@ either-requires : tie.Need-either-requires
 either-requires c κs = search needs
 
 returns : tie.Need-returns
-returns c = search needs
+returns c = let a = c .before .before .before .before .args in
+    let w = a .work .now in
+    c .either .ensures ∙ rw (range-part (11 * a .n) (12 * a .n) (a .n) w (omega arith) (omega arith), range-part 0 (a .n) (a .n) w (omega arith) (omega arith))
 
 pub winner-spec : {M : Type 1} → statement M
 winner-spec =
