@@ -1,3 +1,4 @@
 -- The definitions that the contracts of polish cite.
 pub mod Polish
 pub mod Marks
+pub mod Stub

@@ -48,7 +48,7 @@ isSome none = false
 isSome (some z) = true
 
 -- r has the gap and P of the certificate at z, and the run w its trend from 11 n on
-pub record Certified (k : ℕ) (y : List Float) (lam : Float) (w z : List Float) (r : Candidate) : Type 0 where
+pub record Rated (k : ℕ) (y : List Float) (lam : Float) (w z : List Float) (r : Candidate) : Type 0 where
   pub gap : r .gap ≡ gapOf (certify k y lam z)
   pub primal : r .primal ≡ certify k y lam z .primal
   pub trend : part (11 * length y) (length y) w ≡ certify k y lam z .trend
@@ -56,7 +56,7 @@ pub record Certified (k : ℕ) (y : List Float) (lam : Float) (w z : List Float)
 -- r says whether there is a candidate; if so its certificate is there. Only the 6 n places from 7 n on and the first 2 n marks may have changed.
 pub record Polished (k : ℕ) (y : List Float) (lam : Float) (w₀ w : List Float) (v₀ v : List ℕ) (r : Candidate) : Type 0 where
   pub there : r .there ≡ isSome (polishFrom k y lam w₀)
-  pub certified : (z : List Float) → polishFrom k y lam w₀ ≡ some z → Certified k y lam w z r
+  pub rated : (z : List Float) → polishFrom k y lam w₀ ≡ some z → Rated k y lam w z r
   pub kept : Kept (7 * length y) (6 * length y) w₀ w
   pub marks : KeptOf 0 0 (2 * length y) v₀ v
 

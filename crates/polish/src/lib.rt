@@ -1,9 +1,10 @@
 // The polish: the places that the multipliers hold at a bound stay there, the others come from one more banded solve, and the candidate is certified.
 mod marks;
 mod system;
+mod stub;
 
 ghost use mathlib.Core.Path.{_≡_};
-ghost use mathlib.Core.Bool.{cond};
+ghost use mathlib.Core.Bool.{false, cond};
 ghost use Prim.Native.Nat.{ℕ, _≤_, _<_, _-_, _+_, _*_};
 ghost use lib.ListN.{length, take, getD};
 ghost use lib.Ieee.{Float};
@@ -64,11 +65,35 @@ fn make_candidate(s: &mut [f64], marks: &[u32], dy: &[f64], lam: f64, k: usize, 
     true
 }
 
-fn none() -> Candidate {
+fn none() -> Candidate
+    ensures { λ r. ⌜ r .there ≡ false ⌝ }
+{
     Candidate {
         there: false,
         gap: 0.0,
         primal: 0.0,
+    }
+}
+
+// The polish of where the search ended: work holds the iterate's trend, z, mu1 and mu2, dy D y. The candidate and its trend are left from place 11 n on.
+pub fn polish_l1(work: &mut [f64], marks: &mut [u32], y: &[f64], dy: &[f64], lam: f64, k: usize) -> Candidate
+    requires { ⌜ (1 ≤ k) × ((k ≤ 2) × ((k < length (now y)) × ((length (now y) ≤ 65536) × ((13 * length (now y) ≤ length (now work)) × ((2 * length (now y) ≤ length (now marks))
+        × (take (length (now y) - k) (now dy) ≡ diffK k (now y))))))) ⌝ }
+    ensures { λ r. ⌜ Polished k (now (y .entry)) lam (now (work .entry)) (now (work .exit)) (now (marks .entry)) (now (marks .exit)) r ⌝ }
+{
+    let n = y.len();
+    let m = n - k;
+    let q = marks::mark(work, marks, lam, n, m);
+    if !make_candidate(work, marks, dy, lam, k, n, q) {
+        return none();
+    }
+    let a = 11 * n;
+    let e = 12 * n + m;
+    let c = stub::certify_l1(&mut work[a..e], y, dy, lam, k);
+    Candidate {
+        there: true,
+        gap: c.primal - c.dual,
+        primal: c.primal,
     }
 }
 
