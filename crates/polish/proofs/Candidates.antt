@@ -1,22 +1,23 @@
 -- The compressed system solved on a run, and the candidate made of its solution. Assumes nothing.
 use mathlib.Core.Bool.{Bool, true, false, cond}
-use mathlib.Core.List.{List, [], _∷_, _++_}
-use mathlib.Core.Option.{Option, none, some}
+use mathlib.Core.List.{List}
+use mathlib.Core.Option.{some}
 use mathlib.Core.Path.{_≡_, refl, sym, ap, _∙_}
-use Prim.Native.Nat.{ℕ, zero, suc, _+_, _-_, _*_, _≤_, _<_}
+use Prim.Native.Nat.{ℕ, _+_, _-_, _*_, _≤_, _<_}
 use native.Mathlib.Omega.{arith}
 use native.Mathlib.Nat.{mul-le-mul-left}
 use lib.ListN.{length, getD, take, drop, length-drop}
 use lib.Seq.{getD-drop, length-take-le}
 use lib.Ieee.{Float, nan}
-use Rattle.vectors.specs.Vec.{at, list, partOf, part, Kept, KeptOf}
+use Rattle.vectors.specs.Vec.{at, list, partOf, part, Kept}
 use Rattle.vectors.proofs.Laws.{list-ext, cond-cong}
-use Rattle.vectors.proofs.Parts.{first-part, range-part, part-below, at-part, putBack, kept-put, part-put}
+use Rattle.vectors.proofs.Parts.{range-part, at-part, putBack, kept-put, part-put}
 use Rattle.banded.specs.Rows.{Matrix, rows, sound, matrix, concat}
 use Rattle.banded.specs.Solve.{solve, forward, divided, back}
+use Rattle.substitution.proofs.Laws.{kept-take}
 use Rattle.polish.specs.Polish.{Hold, isFree, heldAt, freeTo, compressed, rightOf, solved, candidateAt, candidate}
 use Rattle.polish.specs.Marks.{holdOf, heldBy, Marks, found}
-use Rattle.polish.proofs.Laws.{hold-mark, count-le, free-index, free-ext, matrix-ext, band-ext, right-ext}
+use Rattle.polish.proofs.Laws.{hold-mark, free-index, free-ext, matrix-ext, band-ext, right-ext}
 
 -- with nothing to solve
 pub solved-none : (k : ℕ) (a : Matrix) (b : ℕ) (s : List Float) (f : ℕ → Float) (q : ℕ) → q ≡ 0
@@ -44,8 +45,7 @@ module _ (k q n : ℕ) (g dy : List Float) (lam : Float) (v : List ℕ) (s₀ s�
   holds : (f : List ℕ) → ((j : ℕ) → j < q → getD v j 0 ≡ getD f j 0) → take b s₂ ≡ concat (matrix k (compressed k g f) q)
   holds f e =
       let l₁ = one .size in
-      let l₂ = two .size in
-      first-part b s₂ (omega arith) ∙ part-below nan 0 b two (omega arith) ∙ sym (first-part b s₁ (omega arith)) ∙ bands
+      kept-take two (omega arith) ∙ bands
       ∙ ap concat (matrix-ext k (compressed k g v) (compressed k g f) q (band-ext k g v f q e))
 
   pub settled : (f : List ℕ) → ((j : ℕ) → j < q → getD v j 0 ≡ getD f j 0)

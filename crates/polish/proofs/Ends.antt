@@ -1,37 +1,33 @@
 -- How a polish ends, from the marks, the candidate and its certificate. Assumes nothing.
-use mathlib.Core.Bool.{Bool, true, false, cond}
-use mathlib.Core.List.{List, [], _∷_, _++_}
+use mathlib.Core.Bool.{true, false}
+use mathlib.Core.List.{List}
 use mathlib.Core.Option.{Option, none, some}
-use mathlib.Core.Path.{_≡_, refl, sym, ap, ap₂, _∙_}
-use Prim.Native.Nat.{ℕ, zero, suc, _+_, _-_, _*_, _≤_, _<_, min}
-use native.Mathlib.Nat.{add-zero, min-le-right}
+use mathlib.Core.Path.{_≡_, sym, ap, _∙_}
+use Prim.Native.Nat.{ℕ, _+_, _-_, _*_, _≤_, _<_}
+use native.Mathlib.Nat.{add-zero}
 use native.Mathlib.Omega.{arith}
-use lib.ListN.{length, getD, take, drop, length-take}
+use lib.ListN.{length, getD, take, drop}
 use lib.Seq.{getD-take}
 use lib.Ieee.{Float, nan}
 use Rattle.float64.specs.Ops.{_⊖_}
-use Rattle.vectors.specs.Vec.{at, list, part, Kept, KeptOf}
-use Rattle.vectors.proofs.Laws.{length-list, list-ext, kept-then}
+use Rattle.vectors.specs.Vec.{at, part, Kept, KeptOf}
+use Rattle.vectors.proofs.Laws.{list-ext, kept-then}
 use Rattle.vectors.proofs.Parts.{length-part, partOf-range, putBack, part-put}
-use Rattle.differences.specs.Diff.{diff, diffK, gramRow}
-use Rattle.certificate.specs.Certificate.{certify, gapOf}
+use Rattle.differences.specs.Diff.{diffK, gramRow}
+use Rattle.differences.proofs.Laws.{length-diffK}
 use Rattle.newton.specs.Places.{point}
-use Rattle.polish.specs.Polish.{Hold, holdAt, freeTo, compressed, rightOf, solved, candidate, polish}
-use Rattle.polish.specs.Marks.{Marks, found, polishFrom, isSome, Rated, Polished}
-use Rattle.polish.specs.Stub.{Certified}
+use Rattle.polish.specs.Polish.{Hold, holdAt, freeTo, rightOf, solved, candidate, polish}
+use Rattle.polish.specs.Marks.{Marks, polishFrom, Polished}
+use Rattle.certificate.specs.Run.{Certified}
+use Rattle.certificate.proofs.Laws.{room}
 use Rattle.polish.specs.declared.Candidate.{Candidate}
 use Rattle.polish.proofs.Laws.{count-le, free-lt}
 use Rattle.polish.proofs.Candidates.{kept-part}
 
-pub length-diffK : (k : ℕ) (y : List Float) → length (diffK k y) ≡ length y - k
-unfolding diffK diff
-length-diffK zero y = omega arith
-length-diffK (suc k) y = length-list (length (diffK k y) - 1) _ ∙ omega (arith, length-diffK k y)
-
 -- dy holds D y in its first places
 module _ (k : ℕ) (y dy : List Float) (is : take (length y - k) dy ≡ diffK k y) where
   pub dy-long : length y - k ≤ length dy
-  dy-long = omega (arith, length-take (length y - k) dy, ap length is, length-diffK k y, min-le-right (length y - k) (length dy))
+  dy-long = room dy (diffK k y) (length y - k) is (length-diffK k y)
 
   dy-at : (i : ℕ) → i < length y - k → at dy i ≡ at (diffK k y) i
   dy-at i l = sym (getD-take (length y - k) dy i nan l) ∙ ap (λ (v : List Float). at v i) is

@@ -3,21 +3,20 @@ use mathlib.Core.Bool.{Bool, true, false, cond}
 use mathlib.Core.Logic.{⊎-elim}
 use mathlib.Core.List.{List, [], _∷_, _++_}
 use mathlib.Core.Path.{_≡_, refl, sym, ap, _∙_}
-use Prim.Native.Nat.{ℕ, zero, suc, _+_, _-_, _*_, _≤_, _<_, min}
-use native.Mathlib.Nat.{eq-or-lt-of-le, le-of-suc-le-suc, ne-of-lt, ne-of-gt, min-le-left, min-le-right}
+use Prim.Native.Nat.{ℕ, zero, suc, _+_, _-_, _≤_, _<_, min}
+use native.Mathlib.Nat.{eq-or-lt-of-le, le-of-suc-le-suc, ne-of-lt, ne-of-gt, min-le-right}
 use native.Mathlib.Numerals.{add-one}
 use native.Mathlib.Omega.{arith}
 use borrow.Author.Tests.{eq-eqb, ne-eqb}
-use lib.Dec.{ltb, eqb}
+use lib.Dec.{eqb}
 use lib.ListN.{length, getD, set, length-append, length-set, List·getD-append}
 use lib.Seq.{getD-at, getD-set-same, getD-set-other}
 use lib.Ieee.{Float}
-use Rattle.float64.specs.Ops.{c0}
 use Rattle.vectors.specs.Vec.{at, list, part, KeptOf}
 use Rattle.vectors.proofs.Laws.{list-ext}
 use Rattle.vectors.proofs.Parts.{at-part}
 use Rattle.banded.specs.Rows.{Matrix, matrix}
-use Rattle.polish.specs.Polish.{Hold, free, at-lam, at-minus-lam, isFree, heldAt, freeTo, between, compressed, lessHeld, lessTo, rightOf, candidateAt}
+use Rattle.polish.specs.Polish.{Hold, free, at-lam, at-minus-lam, isFree, heldAt, freeTo, compressed, lessHeld, lessTo, rightOf, candidateAt}
 use Rattle.polish.specs.Marks.{markOf, holdOf, heldBy, Marks}
 
 -- ---- marks

@@ -78,4 +78,5 @@ candidate k g dy lam h m =
     cond (sound k (compressed k g f) (length f)) (some (list m (candidateAt lam h (solved k g dy lam h m)))) none
 
 unfoldable pub polish : ℕ → List Float → List Float → Float → Dual → Option (List Float)
+unfolding solved candidate
 polish k g dy lam p = candidate k g dy lam (holdAt lam p) (length (p .z))

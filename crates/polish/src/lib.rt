@@ -1,7 +1,6 @@
 // The polish: the places that the multipliers hold at a bound stay there, the others come from one more banded solve, and the candidate is certified.
 mod marks;
 mod system;
-mod stub;
 
 ghost use mathlib.Core.Path.{_≡_};
 ghost use mathlib.Core.Bool.{false, cond};
@@ -89,7 +88,7 @@ pub fn polish_l1(work: &mut [f64], marks: &mut [u32], y: &[f64], dy: &[f64], lam
     }
     let a = 11 * n;
     let e = 12 * n + m;
-    let c = stub::certify_l1(&mut work[a..e], y, dy, lam, k);
+    let c = certificate::certify_l1(&mut work[a..e], y, dy, lam, k);
     Candidate {
         there: true,
         gap: c.primal - c.dual,

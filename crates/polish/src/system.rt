@@ -3,10 +3,10 @@ ghost use mathlib.Core.Path.{_≡_};
 ghost use mathlib.Core.Bool.{true};
 ghost use mathlib.Core.List.{List};
 ghost use Prim.Native.Nat.{ℕ, _≤_, _<_, _-_, _+_, _*_, min};
-ghost use lib.ListN.{length, take, drop, getD};
+ghost use lib.ListN.{length, take, getD};
 ghost use Rattle.vectors.specs.Vec.{list, part, Kept};
 ghost use Rattle.differences.specs.Diff.{gramRow};
-ghost use Rattle.banded.specs.Rows.{Matrix, rows, sound, matrix, concat};
+ghost use Rattle.banded.specs.Rows.{rows, sound, matrix, concat};
 ghost use Rattle.banded.specs.Solve.{solve};
 ghost use Rattle.polish.specs.Polish.{compressed, lessHeld, rightOf};
 ghost use Rattle.polish.specs.Marks.{holdOf, heldBy};
@@ -107,20 +107,6 @@ fn fill_right(s: &mut [f64], b: usize, marks: &[u32], dy: &[f64], lam: f64, g: [
     }
 }
 
-// Whatever matrix a the first m rows of s are: whether every pivot of its factor is good, and if so the solution for the m places after them, in those places. What comes after those stays.
-fn factor_solve(s: &mut [f64], k: usize, m: usize) -> bool
-    requires { ⌜ (1 ≤ m) × (m * (k + 1) + m ≤ length (now s)) ⌝ }
-    ensures { λ ok. ⌜ (drop (m * (k + 1) + m) (now (s .exit)) ≡ drop (m * (k + 1) + m) (now (s .entry)))
-        × ((a : Matrix) → take (m * (k + 1)) (now (s .entry)) ≡ concat (matrix k a m)
-        → (ok ≡ sound k a m) × (ok ≡ true → take m (drop (m * (k + 1)) (now (s .exit))) ≡ solve k (rows k a m) (take m (drop (m * (k + 1)) (now (s .entry)))))) ⌝ }
-{
-    if !banded::factor(s, k, m) {
-        return false;
-    }
-    banded::solve::solve(s, k, m);
-    true
-}
-
 // The system in the first places of s, solved: the solution stands after its rows. Whether every pivot was good.
 pub fn settle(s: &mut [f64], marks: &[u32], dy: &[f64], lam: f64, k: usize, n: usize, q: usize) -> bool
     requires { ⌜ (k ≤ 2) × ((q * (k + 1) + q ≤ length (now s)) × ((2 * n ≤ length (now marks)) × ((n ≤ length (now dy) + k) × ((q ≤ n) × ((j : ℕ) → j < q → getD (now marks) j 0 + k < n))))) ⌝ }
@@ -135,5 +121,5 @@ pub fn settle(s: &mut [f64], marks: &[u32], dy: &[f64], lam: f64, k: usize, n: u
     let b = q * (k + 1);
     fill_bands(s, marks, g, k, q);
     fill_right(s, b, marks, dy, lam, g, k, n, q);
-    factor_solve(s, k, q)
+    substitution::factor_solve(s, k, q)
 }

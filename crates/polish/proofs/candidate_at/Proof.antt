@@ -1,12 +1,8 @@
 use borrow.Author.Needs.{needs}
-use mathlib.Core.Path.{_≡_, refl, sym, ap, _∙_}
-use native.Mathlib.Omega.{arith}
+use mathlib.Core.Path.{sym, _∙_}
 use Rattle.polish.proofs.Laws.{free-place, held-place}
 use Rattle.polish.proofs.candidate_at.Statement.{statement}
 use Rattle.polish.proofs.candidate_at.Tie as tie
-use Rattle.polish.proofs.candidate_at.Reads as reads
-use Rattle.polish.proofs.candidate_at.Lts as lts
-use Rattle.polish.proofs.marks.held_value.Reads as held-value-reads
 
 mul-result : tie.Need-mul-result
 mul-result c = search needs

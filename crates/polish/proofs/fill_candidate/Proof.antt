@@ -1,20 +1,16 @@
 use borrow.Author.Needs.{needs}
-use mathlib.Core.Path.{_≡_, refl, sym, ap, _∙_}
+use mathlib.Core.Path.{_≡_, refl}
 use native.Mathlib.Omega.{arith}
 use Rattle.polish.proofs.Laws.{one-le, count-more, place-is}
 use Rattle.vectors.proofs.Laws.{none, store-more}
 use native.Mathlib.Nat.{add-zero}
-use lib.ListN.{length, getD, take}
-use Rattle.vectors.specs.Vec.{at, list, part, Written, Kept, KeptOf}
-use Rattle.polish.specs.Marks.{markOf, holdOf, heldBy, Marks}
-use Rattle.polish.specs.Polish.{isFree, heldAt, holdAt, freeTo, compressed, lessHeld, lessTo, rightOf, candidateAt}
-use Prim.Native.Nat.{ℕ, suc, _≤_, _<_, _-_, _+_, _*_, _/_, _%_, min}
+use lib.ListN.{length}
+use Rattle.vectors.specs.Vec.{part, Written}
+use Rattle.polish.specs.Marks.{heldBy}
+use Rattle.polish.specs.Polish.{isFree, freeTo, candidateAt}
+use Prim.Native.Nat.{_≤_, _-_, _+_}
 use Rattle.polish.proofs.fill_candidate.Statement.{statement}
 use Rattle.polish.proofs.fill_candidate.Tie as tie
-use Rattle.polish.proofs.fill_candidate.Reads as reads
-use Rattle.polish.proofs.fill_candidate.Lts as lts
-use Rattle.polish.proofs.candidate_at.Reads as candidate-at-reads
-use Rattle.polish.proofs.marks.one_if_free.Reads as one-if-free-reads
 
 abbrev Inv-loop : tie.InvT-loop
 Inv-loop s₀ marks lam b a n m q₀ i₀ s q i = (i ≤ m) × ((q ≤ i) × ((q ≡ length (freeTo (heldBy n marks) i)) × Written a (a + i) (λ j. candidateAt lam (heldBy n marks) (part b m s₀) (j - a)) s₀ s))

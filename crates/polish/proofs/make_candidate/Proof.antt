@@ -1,5 +1,5 @@
 use borrow.Author.Needs.{needs}
-use mathlib.Core.Path.{_≡_, refl, sym, ap, _∙_}
+use mathlib.Core.Path.{_≡_, refl, sym, _∙_}
 use native.Mathlib.Omega.{arith}
 use Rattle.polish.proofs.Candidates.{room, kept-part, part-size, solution-at, candidate-none, candidate-some}
 use Rattle.polish.specs.Marks.{heldBy}
@@ -8,18 +8,14 @@ use Rattle.vectors.proofs.Parts.{putBack, store-done}
 use Rattle.vectors.proofs.Laws.{kept-then, written-kept}
 use Rattle.vectors.specs.Vec.{part}
 use Rattle.differences.specs.Diff.{gramRow}
-use lib.Ieee.{Float, nan}
+use lib.Ieee.{nan}
 use lib.ListN.{length, take, drop}
-use Prim.Native.Nat.{ℕ, suc, _≤_, _<_, _-_, _+_, _*_, _/_, _%_, min}
-use mathlib.Core.List.{List, []}
+use Prim.Native.Nat.{_≤_, _<_, _-_, _+_, _*_}
 use mathlib.Core.Bool.{true, false}
+use mathlib.Core.List.{[]}
 use borrow.Author.Tests.{not-true, not-false}
 use Rattle.polish.proofs.make_candidate.Statement.{statement}
 use Rattle.polish.proofs.make_candidate.Tie as tie
-use Rattle.polish.proofs.make_candidate.Reads as reads
-use Rattle.polish.proofs.make_candidate.Lts as lts
-use Rattle.polish.proofs.fill_candidate.Reads as fill-candidate-reads
-use Rattle.polish.proofs.system.settle.Reads as settle-reads
 
 sub-m : tie.Need-sub-m
 sub-m c = search needs

@@ -1,22 +1,16 @@
 use borrow.Author.Needs.{needs}
-use mathlib.Core.Path.{_≡_, refl, sym, ap, _∙_}
+use mathlib.Core.Path.{_≡_, refl, _∙_}
 use native.Mathlib.Omega.{arith}
 use Rattle.polish.proofs.Ends.{dy-long, polish-is, marks-in, ended-none, ended-some}
 use Rattle.polish.proofs.Candidates.{part-size}
 use Rattle.polish.specs.Polish.{holdAt}
 use Rattle.newton.specs.Places.{point}
 use lib.ListN.{length, take, drop}
-use Prim.Native.Nat.{ℕ, suc, _≤_, _<_, _-_, _+_, _*_, _/_, _%_, min}
+use Prim.Native.Nat.{_≤_, _<_, _-_, _+_, _*_}
 use mathlib.Core.Bool.{true, false}
 use borrow.Author.Tests.{not-true, not-false}
 use Rattle.polish.proofs.polish_l1.Statement.{statement}
 use Rattle.polish.proofs.polish_l1.Tie as tie
-use Rattle.polish.proofs.polish_l1.Reads as reads
-use Rattle.polish.proofs.polish_l1.Lts as lts
-use Rattle.polish.proofs.make_candidate.Reads as make-candidate-reads
-use Rattle.polish.proofs.marks.mark.Reads as mark-reads
-use Rattle.polish.proofs.none.Reads as none-reads
-use Rattle.polish.proofs.stub.certify_l1.Reads as certify-l1-reads
 
 sub-m : tie.Need-sub-m
 sub-m c = search needs

@@ -1,13 +1,10 @@
 use borrow.Author.Needs.{needs}
-use mathlib.Core.Path.{_≡_, refl, sym, ap, _∙_}
+use mathlib.Core.Path.{_∙_}
 use native.Mathlib.Omega.{arith}
 use Rattle.vectors.proofs.Parts.{range-part}
 use Prim.Native.Nat.{_*_}
 use Rattle.polish.proofs.winner.Statement.{statement}
 use Rattle.polish.proofs.winner.Tie as tie
-use Rattle.polish.proofs.winner.Reads as reads
-use Rattle.polish.proofs.winner.Lts as lts
-use Rattle.polish.proofs.either.Reads as either-reads
 
 mul-a : tie.Need-mul-a
 mul-a c = search needs

@@ -1,14 +1,10 @@
 use borrow.Author.Needs.{needs}
-use mathlib.Core.Path.{_≡_, refl, sym, ap, _∙_}
-use native.Mathlib.Omega.{arith}
+use mathlib.Core.Path.{_≡_, sym, _∙_}
 use borrow.Author.Tests.{not-true, not-false}
 use Rattle.float64.specs.Helpers.{isFinite}
 use mathlib.Core.Bool.{true, false}
 use Rattle.polish.proofs.won.Statement.{statement}
 use Rattle.polish.proofs.won.Tie as tie
-use Rattle.polish.proofs.won.Reads as reads
-use Rattle.polish.proofs.won.Lts as lts
-use Rattle.float64.proofs.is_finite.Reads as is-finite-reads
 
 returns : tie.Need-returns
 returns c = let q = c .before .before .args .q in

@@ -1,11 +1,6 @@
-use borrow.Author.Needs.{needs}
-use mathlib.Core.Path.{_≡_, refl, sym, ap, _∙_}
-use native.Mathlib.Omega.{arith}
-use borrow.Author.Tests.{lt-ltb, le-ltb, le-leb, lt-leb, eq-eqb, ne-eqb}
+use borrow.Author.Tests.{eq-eqb, ne-eqb}
 use Rattle.polish.proofs.marks.held_value.Statement.{statement}
 use Rattle.polish.proofs.marks.held_value.Tie as tie
-use Rattle.polish.proofs.marks.held_value.Reads as reads
-use Rattle.polish.proofs.marks.held_value.Lts as lts
 
 returns : tie.Need-returns
 returns c = simp (eq-eqb _ _ (c .if1 .taken))

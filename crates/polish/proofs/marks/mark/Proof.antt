@@ -1,20 +1,16 @@
 use borrow.Author.Needs.{needs}
-use mathlib.Core.Path.{_≡_, refl, sym, ap, _∙_}
+use mathlib.Core.Path.{_≡_}
 use native.Mathlib.Omega.{arith}
 use lib.ListN.{length, length-set}
 use Rattle.polish.proofs.Laws.{one-le, marks-none, marks-more, marks-kept}
 use Rattle.vectors.proofs.Laws.{kept-none}
 use Rattle.newton.specs.Places.{point}
-use Rattle.vectors.specs.Vec.{at, list, part, Written, Kept, KeptOf}
-use Rattle.polish.specs.Marks.{markOf, holdOf, heldBy, Marks}
-use Rattle.polish.specs.Polish.{isFree, heldAt, holdAt, freeTo, compressed, lessHeld, lessTo, rightOf, candidateAt}
-use Prim.Native.Nat.{ℕ, suc, _≤_, _<_, _-_, _+_, _*_, _/_, _%_, min}
+use Rattle.vectors.specs.Vec.{KeptOf}
+use Rattle.polish.specs.Marks.{holdOf, Marks}
+use Rattle.polish.specs.Polish.{isFree, holdAt}
+use Prim.Native.Nat.{_≤_, _<_, _-_, _+_}
 use Rattle.polish.proofs.marks.mark.Statement.{statement}
 use Rattle.polish.proofs.marks.mark.Tie as tie
-use Rattle.polish.proofs.marks.mark.Reads as reads
-use Rattle.polish.proofs.marks.mark.Lts as lts
-use Rattle.polish.proofs.marks.mark_at.Reads as mark-at-reads
-use Rattle.polish.proofs.marks.one_if_free.Reads as one-if-free-reads
 
 abbrev Inv-loop : tie.InvT-loop
 Inv-loop s marks₀ lam n m q₀ i₀ marks q i = (i ≤ m) × ((q ≤ i) × (Marks (holdAt lam (point n m s)) n i marks q × KeptOf 0 0 (n + i) marks₀ marks))

@@ -1,13 +1,11 @@
 use borrow.Author.Needs.{needs}
-use mathlib.Core.Path.{_≡_, refl, sym, ap, _∙_}
+use mathlib.Core.Path.{refl}
 use native.Mathlib.Omega.{arith}
 use Rattle.vectors.proofs.Parts.{at-part}
-use Rattle.polish.specs.Polish.{isFree, heldAt, holdAt, freeTo, compressed, lessHeld, lessTo, rightOf, candidateAt}
-use Prim.Native.Nat.{ℕ, suc, _≤_, _<_, _-_, _+_, _*_, _/_, _%_, min}
+use Rattle.polish.specs.Polish.{holdAt}
+use Prim.Native.Nat.{_+_}
 use Rattle.polish.proofs.marks.mark_at.Statement.{statement}
 use Rattle.polish.proofs.marks.mark_at.Tie as tie
-use Rattle.polish.proofs.marks.mark_at.Reads as reads
-use Rattle.polish.proofs.marks.mark_at.Lts as lts
 
 add-z : tie.Need-add-z
 add-z c = search needs

@@ -1,11 +1,7 @@
-use borrow.Author.Needs.{needs}
-use mathlib.Core.Path.{_≡_, refl, sym, ap, _∙_}
-use native.Mathlib.Omega.{arith}
+use mathlib.Core.Path.{sym}
 use Rattle.polish.proofs.Laws.{free-place, held-place}
 use Rattle.polish.proofs.marks.one_if_free.Statement.{statement}
 use Rattle.polish.proofs.marks.one_if_free.Tie as tie
-use Rattle.polish.proofs.marks.one_if_free.Reads as reads
-use Rattle.polish.proofs.marks.one_if_free.Lts as lts
 
 returns : tie.Need-returns
 returns c = sym (free-place _ 1 0 (c .if1 .taken))

@@ -1,16 +1,11 @@
 use borrow.Author.Needs.{needs}
-use mathlib.Core.Path.{_≡_, refl, sym, ap, _∙_}
-use native.Mathlib.Omega.{arith}
-use Rattle.polish.specs.Polish.{isFree, heldAt, holdAt, freeTo, compressed, lessHeld, lessTo, rightOf, candidateAt}
-use lib.ListN.{length, getD, take}
-use Prim.Native.Nat.{ℕ, suc, _≤_, _<_, _-_, _+_, _*_, _/_, _%_, min}
-use borrow.Author.Tests.{lt-ltb, le-ltb, le-leb, lt-leb, eq-eqb, ne-eqb}
+use mathlib.Core.Path.{_≡_, _∙_}
+use Rattle.polish.specs.Polish.{compressed}
+use lib.ListN.{getD}
+use Prim.Native.Nat.{_-_, _+_}
+use borrow.Author.Tests.{lt-ltb, le-ltb, le-leb, lt-leb}
 use Rattle.polish.proofs.system.band_at.Statement.{statement}
 use Rattle.polish.proofs.system.band_at.Tie as tie
-use Rattle.polish.proofs.system.band_at.Reads as reads
-use Rattle.polish.proofs.system.band_at.Lts as lts
-use Rattle.polish.proofs.system.over.Reads as over-reads
-use Rattle.polish.proofs.system.wide.Reads as wide-reads
 
 add-if1 : tie.Need-add-if1
 add-if1 c = search needs

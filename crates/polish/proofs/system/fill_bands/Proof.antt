@@ -1,17 +1,14 @@
 use borrow.Author.Needs.{needs}
-use mathlib.Core.Path.{_≡_, refl, sym, ap, _∙_}
+use mathlib.Core.Path.{_≡_}
 use native.Mathlib.Omega.{arith}
 use Rattle.banded.proofs.Laws.{filled}
 use Rattle.vectors.proofs.Laws.{none, up}
 use native.Mathlib.Nat.{mod-lt, div-lt-iff-lt-mul}
-use Rattle.vectors.specs.Vec.{at, list, part, Written, Kept, KeptOf}
-use Rattle.polish.specs.Polish.{isFree, heldAt, holdAt, freeTo, compressed, lessHeld, lessTo, rightOf, candidateAt}
-use Prim.Native.Nat.{ℕ, suc, _≤_, _<_, _-_, _+_, _*_, _/_, _%_, min}
+use Rattle.vectors.specs.Vec.{Written}
+use Rattle.polish.specs.Polish.{compressed}
+use Prim.Native.Nat.{_≤_, _<_, _-_, _+_, _*_, _/_, _%_}
 use Rattle.polish.proofs.system.fill_bands.Statement.{statement}
 use Rattle.polish.proofs.system.fill_bands.Tie as tie
-use Rattle.polish.proofs.system.fill_bands.Reads as reads
-use Rattle.polish.proofs.system.fill_bands.Lts as lts
-use Rattle.polish.proofs.system.band_at.Reads as band-at-reads
 
 abbrev Inv-loop : tie.InvT-loop
 Inv-loop s₀ free g k q w e p₀ s p = (p ≤ q * (k + 1)) × Written 0 p (λ j. compressed k g free (j / (k + 1)) (j % (k + 1))) s₀ s

@@ -1,21 +1,17 @@
 use borrow.Author.Needs.{needs}
-use mathlib.Core.Path.{_≡_, refl, sym, ap, _∙_}
+use mathlib.Core.Path.{_≡_, _∙_}
 use native.Mathlib.Omega.{arith}
 use Rattle.vectors.proofs.Parts.{store-done}
 use Rattle.vectors.proofs.Laws.{none, store-more, written-kept}
 use native.Mathlib.Nat.{add-zero}
 use lib.Ieee.{nan}
-use lib.ListN.{length, getD, take}
-use Rattle.vectors.specs.Vec.{at, list, part, Written, Kept, KeptOf}
-use Rattle.polish.specs.Marks.{markOf, holdOf, heldBy, Marks}
-use Rattle.polish.specs.Polish.{isFree, heldAt, holdAt, freeTo, compressed, lessHeld, lessTo, rightOf, candidateAt}
-use Prim.Native.Nat.{ℕ, suc, _≤_, _<_, _-_, _+_, _*_, _/_, _%_, min}
+use lib.ListN.{getD}
+use Rattle.vectors.specs.Vec.{Written}
+use Rattle.polish.specs.Marks.{heldBy}
+use Rattle.polish.specs.Polish.{rightOf}
+use Prim.Native.Nat.{_≤_, _-_, _+_}
 use Rattle.polish.proofs.system.fill_right.Statement.{statement}
 use Rattle.polish.proofs.system.fill_right.Tie as tie
-use Rattle.polish.proofs.system.fill_right.Reads as reads
-use Rattle.polish.proofs.system.fill_right.Lts as lts
-use Rattle.polish.proofs.system.right_at.Reads as right-at-reads
-use Rattle.polish.proofs.system.wide.Reads as wide-reads
 
 abbrev Inv-loop : tie.InvT-loop
 Inv-loop s₀ b marks dy lam g k n q p₀ s p = (p ≤ q) × Written b (b + p) (λ j. rightOf k g dy lam (heldBy n marks) (n - k) (getD marks (j - b) 0)) s₀ s

@@ -1,13 +1,8 @@
 use borrow.Author.Needs.{needs}
-use mathlib.Core.Path.{_≡_, refl, sym, ap, _∙_}
-use native.Mathlib.Omega.{arith}
+use mathlib.Core.Path.{sym}
 use Rattle.polish.proofs.Laws.{free-place, held-place}
 use Rattle.polish.proofs.system.less_held.Statement.{statement}
 use Rattle.polish.proofs.system.less_held.Tie as tie
-use Rattle.polish.proofs.system.less_held.Reads as reads
-use Rattle.polish.proofs.system.less_held.Lts as lts
-use Rattle.polish.proofs.marks.held_value.Reads as held-value-reads
-use Rattle.polish.proofs.system.over.Reads as over-reads
 
 returns : tie.Need-returns
 returns c = sym (free-place _ _ _ (c .if1 .taken))

@@ -1,19 +1,14 @@
 use borrow.Author.Needs.{needs}
-use mathlib.Core.Path.{_≡_, refl, sym, ap, _∙_}
+use mathlib.Core.Path.{_≡_, _∙_}
 use native.Mathlib.Omega.{arith}
 use Rattle.polish.proofs.Laws.{less-more}
 use native.Mathlib.Nat.{sub-self}
-use Rattle.vectors.specs.Vec.{at, list, part, Written, Kept, KeptOf}
-use Rattle.polish.specs.Marks.{markOf, holdOf, heldBy, Marks}
-use Rattle.polish.specs.Polish.{isFree, heldAt, holdAt, freeTo, compressed, lessHeld, lessTo, rightOf, candidateAt}
-use Prim.Native.Nat.{ℕ, suc, _≤_, _<_, _-_, _+_, _*_, _/_, _%_, min}
+use Rattle.vectors.specs.Vec.{at}
+use Rattle.polish.specs.Marks.{heldBy}
+use Rattle.polish.specs.Polish.{lessTo, rightOf}
+use Prim.Native.Nat.{_≤_, _-_}
 use Rattle.polish.proofs.system.right_at.Statement.{statement}
 use Rattle.polish.proofs.system.right_at.Tie as tie
-use Rattle.polish.proofs.system.right_at.Reads as reads
-use Rattle.polish.proofs.system.right_at.Lts as lts
-use Rattle.polish.proofs.system.less_held.Reads as less-held-reads
-use Rattle.polish.proofs.system.over.Reads as over-reads
-use Rattle.polish.proofs.system.smaller.Reads as smaller-reads
 
 abbrev Inv-loop : tie.InvT-loop
 Inv-loop marks dy lam g k n m i lo hi v₀ j₀ v j = (lo ≤ j) × (j ≤ hi) × (v ≡ lessTo lam g (heldBy n marks) i lo (at dy i) (j - lo))

@@ -1,17 +1,10 @@
 use borrow.Author.Needs.{needs}
-use mathlib.Core.Path.{_≡_, refl, sym, ap, _∙_}
 use native.Mathlib.Omega.{arith}
 use Rattle.polish.proofs.Candidates.{solved-none, settled-all}
 use Rattle.vectors.proofs.Laws.{kept-none}
 use Rattle.differences.specs.Diff.{gramRow}
 use Rattle.polish.proofs.system.settle.Statement.{statement}
 use Rattle.polish.proofs.system.settle.Tie as tie
-use Rattle.polish.proofs.system.settle.Reads as reads
-use Rattle.polish.proofs.system.settle.Lts as lts
-use Rattle.differences.proofs.gram_offsets.Reads as gram-offsets-reads
-use Rattle.polish.proofs.system.factor_solve.Reads as factor-solve-reads
-use Rattle.polish.proofs.system.fill_bands.Reads as fill-bands-reads
-use Rattle.polish.proofs.system.fill_right.Reads as fill-right-reads
 
 returns : tie.Need-returns
 returns c = (λ f e. solved-none _ _ _ _ _ _ (c .if1 .taken), kept-none _ _ _)
