@@ -21,7 +21,8 @@ use Rattle.interior_point.specs.InteriorPoint.{nextT, move, problem, origin, in
 use Rattle.polish.specs.Polish.{holdAt, freeTo, compressed, lessTo, rightOf, candidateAt, polish}
 use Rattle.l2.specs.L2.{soundL2, trendL2, scaled, objectiveL2, dualL2, gapL2}
 use Rattle.fit.specs.Questions.{finiteTo, question}
-use Rattle.fit.specs.Fit.{Outcome, refused, fitted, closed, fitL2, fitZero, fitFlat, polished, searchOf, keptOf, firstGap, fitEnd, fitL1, fitBy, fit}
+use Rattle.fit.specs.Fit.{fitted, closed, fitL2, fitZero, fitFlat, polished, searchOf, keptOf, firstGap, fitEnd, fitL1, fitBy, fit}
+use Rattle.fit.proofs.Passed.{on, size-passes, size-refused}
 use Rattle.fit.specs.Known.{Case, worked, stated}
 
 -- a double by its bits
@@ -89,13 +90,3 @@ table-4 =
 pub known-4 : worked table-4 ≡ stated table-4
 unfolding absOf isFinite maxOf minOf clampOf isqrtOf isqrt nearestRoot sqrtOf list sumTo maxTo norm2Sq dot sumAbs maxAbs diff diffK diffT diffKT less taken rest entry rowTo row rows sound forwardAt forward divided backAt back solve gram more product zstar lamMax ridge minus clamped certify threshold aboveTo knots iterate run barrier rightAt dmu1At dmu2At squareAt capped system right direction squares norm capTo stepped along insideTo accepted trials newtonZ searchLine nextT move problem origin interiorPoint holdAt freeTo compressed lessTo rightOf candidateAt polish soundL2 trendL2 scaled objectiveL2 dualL2 gapL2 finiteTo question closed fitL2 fitZero fitFlat polished searchOf keptOf firstGap fitEnd fitL1 fitBy fit ofBits ofInt add sub mul div neg lt le eq isNan
 known-4 = refl
-
-abbrev pub table-5 : List Case
-table-5 =
-    -- order 1, penalty 1, y (-5.938852467468885e-110, 1.2533205402819163e-109, -2.256748761808825e-110, 1.6278720953274091e-111), lam 1.7721587262088014e-110, tol 1e-300, at most 100000 iterations: fit 4 1 1 10 0 0 3 3
-    record { asked = record { y = F 0xa941da5d82347d03 ∷ F 0x2952d69797a4ab80 ∷ F 0xa92b22e892ed1289 ∷ F 0x28ef51ada4f668b7 ∷ []; lam = F 0x29254f342ea6110b; tol = F 0x01a56e1fc2f8f359; limit = 100000; order = 1; penalty = 1 }; lent = record { trend = 4; cycle = 4; knots = 4; work = 160; marks = 8 }; outcome = fitted (record { trend = F 0xa9390d20ed15f180 ∷ F 0x2952d69797a4ab80 ∷ F 0xa92b22e892ed1289 ∷ F 0xa9235a195456aa80 ∷ []; cycle = F 0xa9254f342ea6110c ∷ F 0x0000000000000000 ∷ F 0x0000000000000000 ∷ F 0x29254f342ea6110b ∷ []; knots = 0 ∷ 1 ∷ 2 ∷ []; lam-max = F 0x29453c3511efd8c3; gap = F 0x129d9b6cb795d4cb; first-gap = F 0x12a1db70dec0d673; best-gap = F 0x12a1db70dec0d673; objective = F 0x12a0f865564d804f; n-iter = 10; improvements = 0; converged = false }) }
-    ∷ []
-
-pub known-5 : worked table-5 ≡ stated table-5
-unfolding absOf isFinite maxOf minOf clampOf isqrtOf isqrt nearestRoot sqrtOf list sumTo maxTo norm2Sq dot sumAbs maxAbs diff diffK diffT diffKT less taken rest entry rowTo row rows sound forwardAt forward divided backAt back solve gram more product zstar lamMax ridge minus clamped certify threshold aboveTo knots iterate run barrier rightAt dmu1At dmu2At squareAt capped system right direction squares norm capTo stepped along insideTo accepted trials newtonZ searchLine nextT move problem origin interiorPoint holdAt freeTo compressed lessTo rightOf candidateAt polish soundL2 trendL2 scaled objectiveL2 dualL2 gapL2 finiteTo question closed fitL2 fitZero fitFlat polished searchOf keptOf firstGap fitEnd fitL1 fitBy fit ofBits ofInt add sub mul div neg lt le eq isNan
-known-5 = refl
