@@ -11,9 +11,9 @@ use native.Mathlib.Omega.{arith}
 use Rattle.vectors.specs.Vec.{put}
 use Rattle.differences.specs.Diff.{diffK}
 use borrow.Author.Tests.{eq-eqb, ne-eqb}
-use Rattle.l2.specs.L2.{soundL2}
+use Rattle.l2.specs.L2.{soundL2, trendL2, gapL2, objectiveL2}
 use Rattle.fit.specs.Questions.{Asked, Lent, question}
-use Rattle.fit.specs.Fit.{Fit as FitOf, Outcome, refused, fitted, lamMaxOf, closed, soundDD, fitL1, fitL2, fitBy, fit}
+use Rattle.fit.specs.Fit.{Fit as FitOf, Outcome, refused, fitted, lamMaxOf, closed, lamZero, lamHigh, searchOf, fitZero, fitFlat, fitEnd, soundDD, fitL1, fitL2, fitBy, fit}
 use Rattle.fit.proofs.Passed.{fit-passed}
 use Rattle.trend_filter.specs.declared.Summary.{Summary}
 use Rattle.trend_filter.specs.declared.Answer.{Answer}
@@ -31,6 +31,26 @@ gives-fit h = record { answer = ap Fit (h .summary); trend = h .trend; cycle = h
 
 pub gives-same : {o p : Outcome} {r : Answer} {t₀ t c₀ c : List Float} {k₀ k : List ℕ} → o ≡ p → Gives p r t₀ t c₀ c k₀ k → Gives o r t₀ t c₀ c k₀ k
 gives-same {o} {p} {r} {t₀} {t} {c₀} {c} {k₀} {k} e g = subst (λ (q : Outcome). Gives q r t₀ t c₀ c k₀ k) (sym e) g
+
+pub shows-same : {f g : FitOf} {r : Summary} {t₀ t c₀ c : List Float} {k₀ k : List ℕ} → f ≡ g → Shows g r t₀ t c₀ c k₀ k → Shows f r t₀ t c₀ c k₀ k
+shows-same {f} {g} {r} {t₀} {t} {c₀} {c} {k₀} {k} e h = subst (λ (q : FitOf). Shows q r t₀ t c₀ c k₀ k) (sym e) h
+
+-- L1 by lam
+pub l1-zero : (a : Asked) → lamZero a ≡ true → fitL1 a ≡ fitZero a
+unfolding fitL1
+l1-zero a z = ap (λ (b : Bool). cond b (fitZero a) (cond (lamHigh a) (fitFlat a) (fitEnd a (searchOf a)))) z
+
+pub l1-flat : (a : Asked) → lamZero a ≡ false → lamHigh a ≡ true → fitL1 a ≡ fitFlat a
+unfolding fitL1
+l1-flat a z h =
+    ap (λ (b : Bool). cond b (fitZero a) (cond (lamHigh a) (fitFlat a) (fitEnd a (searchOf a)))) z
+    ∙ ap (λ (b : Bool). cond b (fitFlat a) (fitEnd a (searchOf a))) h
+
+pub l1-search : (a : Asked) → lamZero a ≡ false → lamHigh a ≡ false → fitL1 a ≡ fitEnd a (searchOf a)
+unfolding fitL1
+l1-search a z h =
+    ap (λ (b : Bool). cond b (fitZero a) (cond (lamHigh a) (fitFlat a) (fitEnd a (searchOf a)))) z
+    ∙ ap (λ (b : Bool). cond b (fitFlat a) (fitEnd a (searchOf a))) h
 
 -- by the penalty
 pub by-2 : (a : Asked) → a .penalty ≡ 2 → fitBy a ≡ fitL2 a
@@ -100,3 +120,14 @@ closed-shows a x gap objective e f w = record {
   cycle = w .cycle;
   knots = w .knots;
 }
+
+-- L2
+pub l2-sound : (a : Asked) → soundL2 (a .order) (a .y) (a .lam) ≡ true
+    → fitL2 a ≡ fitted (closed a (trendL2 (a .order) (a .y) (a .lam)) (diffK (a .order) (trendL2 (a .order) (a .y) (a .lam)))
+    (gapL2 (a .order) (a .y) (a .lam) (trendL2 (a .order) (a .y) (a .lam))) (objectiveL2 (a .order) (a .y) (a .lam) (trendL2 (a .order) (a .y) (a .lam))))
+unfolding fitL2
+l2-sound a e = rw e
+
+pub l2-unsound : (a : Asked) → soundL2 (a .order) (a .y) (a .lam) ≡ false → fitL2 a ≡ refused 10
+unfolding fitL2
+l2-unsound a e = rw e

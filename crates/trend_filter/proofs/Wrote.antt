@@ -36,13 +36,19 @@ wrote-over {k} {y} {x} c₀ d c₁ e h o = record {
 }
 
 -- the certificate at the point z that stood in w from a on: its trend went to the n places before
-module _ (k : ℕ) (y : List Float) (lam : Float) (w x : List Float) (primal dual : Float) (s a e : ℕ) (low : k ≤ length y) (start : s + length y ≡ a)
-    (end : e ≡ a + (length y - k)) (fits : e ≤ length w) (size : length x ≡ e - s)
+module _ (k : ℕ) (y : List Float) (lam : Float) (w x z : List Float) (primal dual : Float) (s a e : ℕ) (low : k ≤ length y) (start : s + length y ≡ a)
+    (end : e ≡ a + (length y - k)) (fits : e ≤ length w) (size : length x ≡ e - s) (star : part a (length y - k) w ≡ z)
     (c : Certified k y lam (take (e - s) (drop s w)) x primal dual) where
-  pub flat-dual : dualOf k y (take (e - s) (drop s w)) ≡ part a (length y - k) w
-  flat-dual = partOf-range nan (length y) (length y - k) s e w (omega arith) fits (omega arith) ∙ ap (λ (q : ℕ). part q (length y - k) w) start
+  point : dualOf k y (take (e - s) (drop s w)) ≡ z
+  point = partOf-range nan (length y) (length y - k) s e w (omega arith) fits (omega arith) ∙ ap (λ (q : ℕ). part q (length y - k) w) start ∙ star
 
-  pub flat-trend : take (a - s) (drop s (putBack s (e - s) w x)) ≡ certify k y lam (part a (length y - k) w) .trend
+  pub flat-primal : primal ≡ certify k y lam z .primal
+  flat-primal = c .primal-is ∙ ap (λ (v : List Float). certify k y lam v .primal) point
+
+  pub flat-dual : dual ≡ certify k y lam z .dual
+  flat-dual = c .dual-is ∙ ap (λ (v : List Float). certify k y lam v .dual) point
+
+  pub flat-trend : take (a - s) (drop s (putBack s (e - s) w x)) ≡ certify k y lam z .trend
   flat-trend =
       let n = length y in
       let f : s + (e - s) ≤ length w = omega arith in
@@ -51,12 +57,12 @@ module _ (k : ℕ) (y : List Float) (lam : Float) (w x : List Float) (primal dua
       ∙ ap (λ (q : ℕ). part q n v) (sym (add-zero s))
       ∙ part-put s (e - s) w x f size nan 0 n (omega arith)
       ∙ c .trend
-      ∙ ap (λ (z : List Float). certify k y lam z .trend) flat-dual
+      ∙ ap (λ (v : List Float). certify k y lam v .trend) point
 
   pub flat-kept : (m : ℕ) → e ≤ m → Kept 0 m w (putBack s (e - s) w x)
   flat-kept m h =
-      let k1 = kept-put s (e - s) w x (omega arith) size nan in
-      record { size = k1 .size; below = λ j l. absurd (omega arith); above = λ j l. k1 .above j (omega arith) }
+      let f = kept-put s (e - s) w x (omega arith) size nan in
+      record { size = f .size; below = λ j l. absurd (omega arith); above = λ j l. f .above j (omega arith) }
 
 -- the objective's run: the trend stands in w₁ from a on, and stays
 module _ (k : ℕ) (y : List Float) (lam : Float) (w x t : List Float) (r : Ends) (a b e : ℕ) (mid : b ≡ a + length y) (end : e ≡ b + length y) (fits : e ≤ length w)
@@ -83,5 +89,5 @@ module _ (k : ℕ) (y : List Float) (lam : Float) (w x t : List Float) (r : Ends
 
   pub l2-kept : (m : ℕ) → e ≤ m → Kept 0 m w (putBack a (e - a) w x)
   l2-kept m h =
-      let k1 = kept-put a (e - a) w x (omega arith) size nan in
-      record { size = k1 .size; below = λ j l. absurd (omega arith); above = λ j l. k1 .above j (omega arith) }
+      let f = kept-put a (e - a) w x (omega arith) size nan in
+      record { size = f .size; below = λ j l. absurd (omega arith); above = λ j l. f .above j (omega arith) }

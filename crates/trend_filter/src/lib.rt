@@ -1,5 +1,6 @@
 // The trend of a series: the questions, the preparation, the fit by its penalty, and the answer.
 mod closed;
+mod search;
 
 ghost use mathlib.Core.Path.{_≡_};
 ghost use Prim.Native.Nat.{ℕ, _≤_, _<_, _-_, _+_, _*_};
@@ -62,6 +63,7 @@ fn fit_l2(y: &[f64], lam: f64, k: usize, lam_max: f64, trend: &mut [f64], cycle:
     Answer::Fit(closed::closed(count, lam_max, o.gap, o.objective))
 }
 
+// L1 by lam: 0, at least lam_max, or between.
 fn fit_l1(y: &[f64], lam: f64, tol: f64, max_iter: u64, k: usize, lam_max: f64, trend: &mut [f64], cycle: &mut [f64], knots: &mut [u32], work: &mut [f64], marks: &mut [u32]) -> Summary
     requires { ⌜ Room k (length (now y)) (length (now trend)) (length (now cycle)) (length (now knots))
         × ((40 * length (now y) ≤ length (now work)) × ((2 * length (now y) ≤ length (now marks)) × ((«lam_max» ≡ lamMax k (gramRow k) (length (now y) - k) (now y))
@@ -71,7 +73,13 @@ fn fit_l1(y: &[f64], lam: f64, tol: f64, max_iter: u64, k: usize, lam_max: f64, 
         × (Kept 0 (40 * length (now (y .entry))) (now (work .entry)) (now (work .exit))
         × KeptOf 0 0 (2 * length (now (y .entry))) (now (marks .entry)) (now (marks .exit))) ⌝ }
 {
-    closed::closed(0, lam_max, 0.0, 0.0)
+    if lam == 0.0 {
+        return closed::fit_zero(y, k, lam_max, trend, cycle, knots);
+    }
+    if lam_max <= lam {
+        return closed::fit_flat(y, lam, k, lam_max, trend, cycle, knots, work);
+    }
+    search::fit_search(y, lam, tol, max_iter, k, lam_max, trend, cycle, knots, work, marks)
 }
 
 // D y, the factor of D D', z* after it in work, and lam_max.
