@@ -41,7 +41,7 @@ module _ (k : ℕ) (y dy : List Float) (is : take (length y - k) dy ≡ diffK k 
   solved-dy g lam h =
       let f = freeTo h (length y - k) in
       rw (list-ext (length f) (λ r. rightOf k g dy lam h (length y - k) (getD f r 0)) (λ r. rightOf k g (diffK k y) lam h (length y - k) (getD f r 0))
-        (λ r l. right-dy g lam h (getD f r 0) (free-lt h (length y - k) r l)))
+      (λ r l. right-dy g lam h (getD f r 0) (free-lt h (length y - k) r l)))
 
   candidate-dy : (g : List Float) (lam : Float) (h : ℕ → Hold) → candidate k g dy lam h (length y - k) ≡ candidate k g (diffK k y) lam h (length y - k)
   unfolding candidate
