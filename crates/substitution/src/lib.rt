@@ -118,12 +118,13 @@ pub fn solve(s: &mut [f64], k: usize, m: usize)
     back_rest(s, k, m, n);
 }
 
-// Whatever matrix a the first m rows of s are: whether every pivot of its factor is good, and if so the solution for the m places after them, in those places. What comes after those stays.
+// Whatever matrix a the first m rows of s are: whether every pivot of its factor is good, and if so the factor's rows in their place, and after them the solution for the m places that stood there. What comes after those stays.
 pub fn factor_solve(s: &mut [f64], k: usize, m: usize) -> bool
     requires { ⌜ (1 ≤ m) × (m * (k + 1) + m ≤ length (now s)) ⌝ }
     ensures { λ ok. ⌜ (drop (m * (k + 1) + m) (now (s .exit)) ≡ drop (m * (k + 1) + m) (now (s .entry)))
         × ((a : Matrix) → take (m * (k + 1)) (now (s .entry)) ≡ concat (matrix k a m)
-        → (ok ≡ sound k a m) × (ok ≡ true → take m (drop (m * (k + 1)) (now (s .exit))) ≡ solve_of k (rows k a m) (take m (drop (m * (k + 1)) (now (s .entry)))))) ⌝ }
+        → (ok ≡ sound k a m) × (ok ≡ true → (take (m * (k + 1)) (now (s .exit)) ≡ concat (rows k a m))
+        × (take m (drop (m * (k + 1)) (now (s .exit))) ≡ solve_of k (rows k a m) (take m (drop (m * (k + 1)) (now (s .entry))))))) ⌝ }
 {
     if !banded::factor(s, k, m) {
         return false;

@@ -4,8 +4,7 @@ use native.Mathlib.Omega.{arith}
 use lib.ListN.{length}
 use Rattle.float64.specs.Ops.{_⊖_}
 use Rattle.vectors.specs.Vec.{at, Written}
-use Rattle.vectors.proofs.Laws.{none, up}
-use Rattle.differences.proofs.Laws.{written-put}
+use Rattle.vectors.proofs.Laws.{none, up, written-put}
 use Rattle.certificate.specs.Certificate.{minus}
 use Rattle.certificate.proofs.Laws.{length-minus, at-minus}
 use borrow.Author.Needs.{needs}
