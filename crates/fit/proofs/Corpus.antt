@@ -18,7 +18,7 @@ use Rattle.certificate.specs.Knots.{threshold, aboveTo, knots}
 use Rattle.step_bound.specs.Search.{iterate, run}
 use Rattle.newton.specs.Newton.{barrier, rightAt, dmu1At, dmu2At, squareAt, capped, system, right, direction, squares, norm, capTo, stepped, along, insideTo, accepted, trials, newtonZ, searchLine}
 use Rattle.interior_point.specs.InteriorPoint.{nextT, move, problem, origin, interiorPoint}
-use Rattle.polish.specs.Polish.{holdAt, freeTo, compressed, lessTo, rightOf, candidateAt, polish}
+use Rattle.polish.specs.Polish.{holdAt, freeTo, compressed, lessTo, rightOf, solved, candidateAt, candidate, polish}
 use Rattle.l2.specs.L2.{soundL2, trendL2, scaled, objectiveL2, dualL2, gapL2}
 use Rattle.fit.specs.Questions.{finiteTo, question}
 use Rattle.fit.specs.Fit.{fitted, closed, fitL2, fitZero, fitFlat, polished, searchOf, keptOf, firstGap, fitEnd, fitL1, fitBy, fit}
@@ -48,7 +48,7 @@ table-1 =
     ∷ []
 
 pub known-1 : worked table-1 ≡ stated table-1
-unfolding absOf isFinite maxOf minOf clampOf isqrtOf isqrt nearestRoot sqrtOf list sumTo maxTo norm2Sq dot sumAbs maxAbs diff diffK diffT diffKT less taken rest entry rowTo row rows sound forwardAt forward divided backAt back solve gram more product zstar lamMax ridge minus clamped certify threshold aboveTo knots iterate run barrier rightAt dmu1At dmu2At squareAt capped system right direction squares norm capTo stepped along insideTo accepted trials newtonZ searchLine nextT move problem origin interiorPoint holdAt freeTo compressed lessTo rightOf candidateAt polish soundL2 trendL2 scaled objectiveL2 dualL2 gapL2 finiteTo question closed fitL2 fitZero fitFlat polished searchOf keptOf firstGap fitEnd fitL1 fitBy fit ofBits ofInt add sub mul div neg lt le eq isNan
+unfolding absOf isFinite maxOf minOf clampOf isqrtOf isqrt nearestRoot sqrtOf list sumTo maxTo norm2Sq dot sumAbs maxAbs diff diffK diffT diffKT less taken rest entry rowTo row rows sound forwardAt forward divided backAt back solve gram more product zstar lamMax ridge minus clamped certify threshold aboveTo knots iterate run barrier rightAt dmu1At dmu2At squareAt capped system right direction squares norm capTo stepped along insideTo accepted trials newtonZ searchLine nextT move problem origin interiorPoint holdAt freeTo compressed lessTo rightOf solved candidateAt candidate polish soundL2 trendL2 scaled objectiveL2 dualL2 gapL2 finiteTo question closed fitL2 fitZero fitFlat polished searchOf keptOf firstGap fitEnd fitL1 fitBy fit ofBits ofInt add sub mul div neg lt le eq isNan
 known-1 = refl
 
 abbrev pub table-2 : List Case
@@ -64,7 +64,7 @@ table-2 =
     ∷ []
 
 pub known-2 : worked table-2 ≡ stated table-2
-unfolding absOf isFinite maxOf minOf clampOf isqrtOf isqrt nearestRoot sqrtOf list sumTo maxTo norm2Sq dot sumAbs maxAbs diff diffK diffT diffKT less taken rest entry rowTo row rows sound forwardAt forward divided backAt back solve gram more product zstar lamMax ridge minus clamped certify threshold aboveTo knots iterate run barrier rightAt dmu1At dmu2At squareAt capped system right direction squares norm capTo stepped along insideTo accepted trials newtonZ searchLine nextT move problem origin interiorPoint holdAt freeTo compressed lessTo rightOf candidateAt polish soundL2 trendL2 scaled objectiveL2 dualL2 gapL2 finiteTo question closed fitL2 fitZero fitFlat polished searchOf keptOf firstGap fitEnd fitL1 fitBy fit ofBits ofInt add sub mul div neg lt le eq isNan
+unfolding absOf isFinite maxOf minOf clampOf isqrtOf isqrt nearestRoot sqrtOf list sumTo maxTo norm2Sq dot sumAbs maxAbs diff diffK diffT diffKT less taken rest entry rowTo row rows sound forwardAt forward divided backAt back solve gram more product zstar lamMax ridge minus clamped certify threshold aboveTo knots iterate run barrier rightAt dmu1At dmu2At squareAt capped system right direction squares norm capTo stepped along insideTo accepted trials newtonZ searchLine nextT move problem origin interiorPoint holdAt freeTo compressed lessTo rightOf solved candidateAt candidate polish soundL2 trendL2 scaled objectiveL2 dualL2 gapL2 finiteTo question closed fitL2 fitZero fitFlat polished searchOf keptOf firstGap fitEnd fitL1 fitBy fit ofBits ofInt add sub mul div neg lt le eq isNan
 known-2 = refl
 
 abbrev pub table-3 : List Case
@@ -76,7 +76,7 @@ table-3 =
     ∷ []
 
 pub known-3 : worked table-3 ≡ stated table-3
-unfolding absOf isFinite maxOf minOf clampOf isqrtOf isqrt nearestRoot sqrtOf list sumTo maxTo norm2Sq dot sumAbs maxAbs diff diffK diffT diffKT less taken rest entry rowTo row rows sound forwardAt forward divided backAt back solve gram more product zstar lamMax ridge minus clamped certify threshold aboveTo knots iterate run barrier rightAt dmu1At dmu2At squareAt capped system right direction squares norm capTo stepped along insideTo accepted trials newtonZ searchLine nextT move problem origin interiorPoint holdAt freeTo compressed lessTo rightOf candidateAt polish soundL2 trendL2 scaled objectiveL2 dualL2 gapL2 finiteTo question closed fitL2 fitZero fitFlat polished searchOf keptOf firstGap fitEnd fitL1 fitBy fit ofBits ofInt add sub mul div neg lt le eq isNan
+unfolding absOf isFinite maxOf minOf clampOf isqrtOf isqrt nearestRoot sqrtOf list sumTo maxTo norm2Sq dot sumAbs maxAbs diff diffK diffT diffKT less taken rest entry rowTo row rows sound forwardAt forward divided backAt back solve gram more product zstar lamMax ridge minus clamped certify threshold aboveTo knots iterate run barrier rightAt dmu1At dmu2At squareAt capped system right direction squares norm capTo stepped along insideTo accepted trials newtonZ searchLine nextT move problem origin interiorPoint holdAt freeTo compressed lessTo rightOf solved candidateAt candidate polish soundL2 trendL2 scaled objectiveL2 dualL2 gapL2 finiteTo question closed fitL2 fitZero fitFlat polished searchOf keptOf firstGap fitEnd fitL1 fitBy fit ofBits ofInt add sub mul div neg lt le eq isNan
 known-3 = refl
 
 abbrev pub table-4 : List Case
@@ -88,7 +88,7 @@ table-4 =
     ∷ []
 
 pub known-4 : worked table-4 ≡ stated table-4
-unfolding absOf isFinite maxOf minOf clampOf isqrtOf isqrt nearestRoot sqrtOf list sumTo maxTo norm2Sq dot sumAbs maxAbs diff diffK diffT diffKT less taken rest entry rowTo row rows sound forwardAt forward divided backAt back solve gram more product zstar lamMax ridge minus clamped certify threshold aboveTo knots iterate run barrier rightAt dmu1At dmu2At squareAt capped system right direction squares norm capTo stepped along insideTo accepted trials newtonZ searchLine nextT move problem origin interiorPoint holdAt freeTo compressed lessTo rightOf candidateAt polish soundL2 trendL2 scaled objectiveL2 dualL2 gapL2 finiteTo question closed fitL2 fitZero fitFlat polished searchOf keptOf firstGap fitEnd fitL1 fitBy fit ofBits ofInt add sub mul div neg lt le eq isNan
+unfolding absOf isFinite maxOf minOf clampOf isqrtOf isqrt nearestRoot sqrtOf list sumTo maxTo norm2Sq dot sumAbs maxAbs diff diffK diffT diffKT less taken rest entry rowTo row rows sound forwardAt forward divided backAt back solve gram more product zstar lamMax ridge minus clamped certify threshold aboveTo knots iterate run barrier rightAt dmu1At dmu2At squareAt capped system right direction squares norm capTo stepped along insideTo accepted trials newtonZ searchLine nextT move problem origin interiorPoint holdAt freeTo compressed lessTo rightOf solved candidateAt candidate polish soundL2 trendL2 scaled objectiveL2 dualL2 gapL2 finiteTo question closed fitL2 fitZero fitFlat polished searchOf keptOf firstGap fitEnd fitL1 fitBy fit ofBits ofInt add sub mul div neg lt le eq isNan
 known-4 = refl
 
 abbrev pub table-5 : List Case
@@ -100,7 +100,7 @@ table-5 =
     ∷ []
 
 pub known-5 : worked table-5 ≡ stated table-5
-unfolding absOf isFinite maxOf minOf clampOf isqrtOf isqrt nearestRoot sqrtOf list sumTo maxTo norm2Sq dot sumAbs maxAbs diff diffK diffT diffKT less taken rest entry rowTo row rows sound forwardAt forward divided backAt back solve gram more product zstar lamMax ridge minus clamped certify threshold aboveTo knots iterate run barrier rightAt dmu1At dmu2At squareAt capped system right direction squares norm capTo stepped along insideTo accepted trials newtonZ searchLine nextT move problem origin interiorPoint holdAt freeTo compressed lessTo rightOf candidateAt polish soundL2 trendL2 scaled objectiveL2 dualL2 gapL2 finiteTo question closed fitL2 fitZero fitFlat polished searchOf keptOf firstGap fitEnd fitL1 fitBy fit ofBits ofInt add sub mul div neg lt le eq isNan
+unfolding absOf isFinite maxOf minOf clampOf isqrtOf isqrt nearestRoot sqrtOf list sumTo maxTo norm2Sq dot sumAbs maxAbs diff diffK diffT diffKT less taken rest entry rowTo row rows sound forwardAt forward divided backAt back solve gram more product zstar lamMax ridge minus clamped certify threshold aboveTo knots iterate run barrier rightAt dmu1At dmu2At squareAt capped system right direction squares norm capTo stepped along insideTo accepted trials newtonZ searchLine nextT move problem origin interiorPoint holdAt freeTo compressed lessTo rightOf solved candidateAt candidate polish soundL2 trendL2 scaled objectiveL2 dualL2 gapL2 finiteTo question closed fitL2 fitZero fitFlat polished searchOf keptOf firstGap fitEnd fitL1 fitBy fit ofBits ofInt add sub mul div neg lt le eq isNan
 known-5 = refl
 
 abbrev pub table-6 : List Case
@@ -112,5 +112,5 @@ table-6 =
     ∷ []
 
 pub known-6 : worked table-6 ≡ stated table-6
-unfolding absOf isFinite maxOf minOf clampOf isqrtOf isqrt nearestRoot sqrtOf list sumTo maxTo norm2Sq dot sumAbs maxAbs diff diffK diffT diffKT less taken rest entry rowTo row rows sound forwardAt forward divided backAt back solve gram more product zstar lamMax ridge minus clamped certify threshold aboveTo knots iterate run barrier rightAt dmu1At dmu2At squareAt capped system right direction squares norm capTo stepped along insideTo accepted trials newtonZ searchLine nextT move problem origin interiorPoint holdAt freeTo compressed lessTo rightOf candidateAt polish soundL2 trendL2 scaled objectiveL2 dualL2 gapL2 finiteTo question closed fitL2 fitZero fitFlat polished searchOf keptOf firstGap fitEnd fitL1 fitBy fit ofBits ofInt add sub mul div neg lt le eq isNan
+unfolding absOf isFinite maxOf minOf clampOf isqrtOf isqrt nearestRoot sqrtOf list sumTo maxTo norm2Sq dot sumAbs maxAbs diff diffK diffT diffKT less taken rest entry rowTo row rows sound forwardAt forward divided backAt back solve gram more product zstar lamMax ridge minus clamped certify threshold aboveTo knots iterate run barrier rightAt dmu1At dmu2At squareAt capped system right direction squares norm capTo stepped along insideTo accepted trials newtonZ searchLine nextT move problem origin interiorPoint holdAt freeTo compressed lessTo rightOf solved candidateAt candidate polish soundL2 trendL2 scaled objectiveL2 dualL2 gapL2 finiteTo question closed fitL2 fitZero fitFlat polished searchOf keptOf firstGap fitEnd fitL1 fitBy fit ofBits ofInt add sub mul div neg lt le eq isNan
 known-6 = refl
