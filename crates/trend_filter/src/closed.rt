@@ -23,6 +23,14 @@ pub fn write_out(trend: &mut [f64], cycle: &mut [f64], knots: &mut [u32], y: &[f
     certificate::knots::find_knots(knots, x, y, k)
 }
 
+// How many places m rows of k + 1 take.
+pub fn rows_end(m: usize, k: usize) -> usize
+    requires { ⌜ (1 ≤ m) × ((m ≤ 65536) × (k ≤ 2)) ⌝ }
+    ensures { λ r. ⌜ (r ≡ m * (k + 1)) × ((m + k ≤ r) × (r ≤ 3 * m)) ⌝ }
+{
+    m * (k + 1)
+}
+
 // The numbers of a closed path.
 pub fn closed(knots: usize, lam_max: f64, gap: f64, objective: f64) -> Summary
     ensures { λ r. ⌜ r ≡ closedOf knots «lam_max» gap objective ⌝ }
@@ -61,7 +69,7 @@ pub fn fit_flat(y: &[f64], lam: f64, k: usize, lam_max: f64, trend: &mut [f64], 
         × Kept 0 (40 * length (now (y .entry))) (now (work .entry)) (now (work .exit)) ⌝ }
 {
     let m = y.len() - k;
-    let a = m * (k + 1);
+    let a = rows_end(m, k);
     let s = a - y.len();
     let e = a + m;
     differences::diff_into(cycle, y, k);

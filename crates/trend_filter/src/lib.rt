@@ -55,7 +55,7 @@ fn fit_l2(y: &[f64], lam: f64, k: usize, lam_max: f64, trend: &mut [f64], cycle:
         return Answer::Refused(10);
     }
     let n = y.len();
-    let a = n * (k + 1);
+    let a = closed::rows_end(n, k);
     let b = a + n;
     let e = b + n;
     let o = l2::objectives(&mut work[a..e], y, lam, k);
