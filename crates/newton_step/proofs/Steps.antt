@@ -1,0 +1,120 @@
+-- One Newton step: the system solved, the directions, the line search and what is taken, one after the other. Assumes nothing.
+use mathlib.Core.Path.{_≡_, refl, sym, ap, _∙_}
+use mathlib.Core.Bool.{Bool, true, false, cond}
+use mathlib.Core.List.{List}
+use Prim.Native.Nat.{ℕ, _+_, _-_, _*_, _≤_, _<_}
+use native.Mathlib.Omega.{arith}
+use lib.ListN.{length, getD, take, drop, length-drop}
+use lib.Seq.{ext-getD, getD-take, getD-drop, length-take-le}
+use lib.Ieee.{Float, nan}
+use Rattle.vectors.specs.Vec.{at, part, Kept, Written}
+use Rattle.vectors.proofs.Laws.{kept-then, kept-none}
+use Rattle.vectors.proofs.Parts.{length-part, at-part, part-below, partOf-ext}
+use Rattle.banded.specs.Rows.{Matrix, rows, sound, matrix, concat}
+use Rattle.banded.specs.Solve.{solve}
+use Rattle.float64.specs.Sqrt.{sqrtOf}
+use Rattle.newton.specs.Newton.{Dual, Trial, system, right, newtonZ, direction, capTo, squares, norm, trials, searchLine, taken, inside}
+use Rattle.newton.specs.Places.{point, Searched}
+use Rattle.newton.proofs.Lines.{point-below}
+use Rattle.newton_step.specs.Stepped.{stepOf, Stepped}
+use Rattle.newton_step.specs.declared.Step.the-variants.{Lost, Moved}
+
+-- the first places of a part, and those after them
+pub head-part : (a n m : ℕ) (s : List Float) → a + (n + m) ≤ length s → take n (take (a + (n + m) - a) (drop a s)) ≡ part a n s
+head-part a n m s h =
+    let d : a + (n + m) - a ≡ n + m = omega arith in
+    let k : length (take (n + m) (drop a s)) ≡ n + m = length-take-le (n + m) (drop a s) (omega (arith, length-drop a s)) in
+    let l : length (take n (take (n + m) (drop a s))) ≡ n = length-take-le n (take (n + m) (drop a s)) (omega (arith, k)) in
+    rw d (ext-getD nan (take n (take (n + m) (drop a s))) (part a n s) (l ∙ sym (length-part a n s))
+      (λ i u. let q : i < n = omega (arith, l) in
+        getD-take n (take (n + m) (drop a s)) i nan q ∙ getD-take (n + m) (drop a s) i nan (omega arith) ∙ getD-drop a s i nan ∙ sym (at-part a n s i (a + i) q refl)))
+
+pub tail-part : (a n m : ℕ) (s x : List Float) → length x ≡ n + m → ((j : ℕ) → j < n + m → at x j ≡ at s (a + j)) → take m (drop n x) ≡ part (a + n) m s
+tail-part a n m s x e f =
+    let l : length (take m (drop n x)) ≡ m = length-take-le m (drop n x) (omega (arith, e, length-drop n x)) in
+    ext-getD nan (take m (drop n x)) (part (a + n) m s) (l ∙ sym (length-part (a + n) m s))
+      (λ i u. let q : i < m = omega (arith, l) in
+        getD-take m (drop n x) i nan q ∙ getD-drop n x i nan ∙ f (n + i) (omega arith) ∙ sym (at-part (a + n) m s i (a + (n + i)) q (omega arith)))
+
+-- rows, right side and solution, one after the other
+pub solved : (k : ℕ) (g dy : List Float) (lam u : Float) (m a n : ℕ) (s₀ s₁ s₂ s₃ : List Float) (r : Bool) → m + m + m ≤ a
+    → part a n s₁ ≡ concat (matrix k (system k g lam (point 0 m s₀)) m) → Kept a n s₀ s₁
+    → part (a + n) m s₂ ≡ right k g dy lam u (point 0 m s₁) → Kept (a + n) m s₁ s₂
+    → ((x : Matrix) → part a n s₂ ≡ concat (matrix k x m) → (r ≡ sound k x m) × (r ≡ true → part (a + n) m s₃ ≡ solve k (rows k x m) (part (a + n) m s₂)))
+    → Kept a (n + m) s₂ s₃
+    → (r ≡ sound k (system k g lam (point 0 m s₀)) m) × ((r ≡ true → part (a + n) m s₃ ≡ newtonZ k g dy lam u (point 0 m s₀)) × Kept a (n + m) s₀ s₃)
+unfolding newtonZ
+solved k g dy lam u m a n s₀ s₁ s₂ s₃ r o h v i w f x =
+    let made = f (system k g lam (point 0 m s₀)) (part-below nan a n w (omega arith) ∙ h) in
+    let z = length-part 0 m s₀ in
+    (made .0, (
+      (λ t. made .1 t ∙ ap (solve k (rows k (system k g lam (point 0 m s₀)) m)) (i ∙ ap (λ (p : Dual). right k g dy lam u p) (point-below 0 m v (omega arith)))
+        ∙ ap (λ (q : ℕ). solve k (rows k (system k g lam (point 0 m s₀)) q) (right k g dy lam u (point 0 m s₀))) (sym z)),
+      kept-then a (n + m) (kept-then a (n + m) v w (omega arith) (omega arith) (omega arith) (omega arith)) x (omega arith) (omega arith) (omega arith) (omega arith)))
+
+-- the trial copied over the point
+pub copied : (m : ℕ) (s₀ s : List Float) → Written 0 (3 * m) (λ j. at s₀ (3 * m + j)) s₀ s → point 0 m s ≡ point (3 * m) m s₀
+copied m s₀ s w = λ i. record {
+      z = partOf-ext nan 0 (3 * m) m s s₀ (λ j l. place (0 + j) (3 * m + j) (omega arith) (omega arith)) i;
+      mu1 = partOf-ext nan (0 + m) (3 * m + m) m s s₀ (λ j l. place (0 + m + j) (3 * m + m + j) (omega arith) (omega arith)) i;
+      mu2 = partOf-ext nan (0 + m + m) (3 * m + m + m) m s s₀ (λ j l. place (0 + m + m + j) (3 * m + m + m + j) (omega arith) (omega arith)) i;
+    }
+  where
+    place : (q r : ℕ) → q < 3 * m → 3 * m + q ≡ r → at s q ≡ at s₀ r
+    place q r h e = w .inside q (omega arith) h ∙ ap (at s₀) e
+
+-- the line search from a point s₀, whose direction and greatest step stand in s₁
+pub line-done : (k : ℕ) (g dy : List Float) (lam u : Float) (m b : ℕ) (cap old : Float) (s₀ s₁ s₂ : List Float) (step : Float) (within : Bool)
+    → point 0 m s₁ ≡ point 0 m s₀
+    → point b m s₁ ≡ direction lam u (point 0 m s₀) (newtonZ k g dy lam u (point 0 m s₀))
+    → cap ≡ capTo (point 0 m s₀) (direction lam u (point 0 m s₀) (newtonZ k g dy lam u (point 0 m s₀))) m
+    → old ≡ norm k g dy lam u (point 0 m s₀)
+    → Searched k g dy lam u m b cap old s₁ s₂ step within
+    → searchLine k g dy lam u (point 0 m s₀) ≡ record { point = point (3 * m) m s₂; step = step }
+unfolding searchLine
+line-done k g dy lam u m b cap old s₀ s₁ s₂ step within e f c o w =
+    let p = point 0 m s₀ in
+    let d = direction lam u p (newtonZ k g dy lam u p) in
+    (λ i. trials k g dy lam u p d (norm k g dy lam u p) 20 (capTo p d (length-part 0 m s₀ i)) p)
+    ∙ sym (λ i. trials k g dy lam u (e i) (f i) (o i) 20 (c i) (e i))
+    ∙ w .ends
+
+-- what is taken of it, in s₃
+pub take-done : (lam : Float) (m : ℕ) (p : Dual) (e : Trial) (s₁ s₂ s₃ : List Float) (step : Float) (within : Bool)
+    → e ≡ record { point = point (3 * m) m s₂; step = step } → within ≡ inside lam (part (3 * m) m s₂) → point 0 m s₁ ≡ p → Kept (3 * m) (3 * m) s₁ s₂
+    → point 0 m s₃ ≡ cond within (point (3 * m) m s₂) (point 0 m s₂)
+    → point 0 m s₃ ≡ taken lam p e
+take-done lam m p e s₁ s₂ s₃ step within q b f w h =
+    h ∙ (λ i. cond (b i) (point (3 * m) m s₂) ((point-below 0 m w (omega arith) ∙ f) i)) ∙ sym (ap (taken lam p) q)
+
+-- ---- the whole step
+
+module _ (k : ℕ) (g dy : List Float) (lam u : Float) (m n : ℕ) (s₀ s₁ : List Float) (good : Bool)
+    (sums : n ≡ m * (k + 1)) (is-sound : good ≡ sound k (system k g lam (point 0 m s₀)) m) (kept : Kept (6 * m) (n + m) s₀ s₁) where
+  pub lost-step : good ≡ false → Stepped k g dy lam u m s₀ s₁ Lost
+  lost-step f =
+      let z : sound k (system k g lam (point 0 m s₀)) m ≡ false = sym is-sound ∙ f in
+      record {
+        answer = rw z;
+        moves = point-below 0 m kept (omega arith) ∙ rw z;
+        kept = kept-then 0 (6 * m + (m * (k + 1) + 3 * m)) kept (kept-none 0 0 s₁) (omega arith) (omega arith) (omega arith) (omega arith);
+      }
+
+  pub moved-step : (acc cap old step : Float) (within : Bool) (s₂ s₃ s₄ : List Float) (b : ℕ) → good ≡ true → b ≡ 6 * m + n
+      → acc ≡ squares k g dy lam u (point 0 m s₀) → part b m s₁ ≡ newtonZ k g dy lam u (point 0 m s₀)
+      → point b m s₂ ≡ direction lam u (point 0 m s₁) (part b m s₁) → cap ≡ capTo (point 0 m s₁) (direction lam u (point 0 m s₁) (part b m s₁)) m → Kept (b + m) (m + m) s₁ s₂
+      → old ≡ sqrtOf acc → Searched k g dy lam u m b cap old s₂ s₃ step within
+      → point 0 m s₄ ≡ cond within (point (3 * m) m s₃) (point 0 m s₃) → Kept 0 (3 * m) s₃ s₄
+      → Stepped k g dy lam u m s₀ s₄ (Moved step)
+  unfolding norm
+  moved-step acc cap old step within s₂ s₃ s₄ b f at-b e d v c w o line h x =
+      let z : sound k (system k g lam (point 0 m s₀)) m ≡ true = sym is-sound ∙ f in
+      let p : point 0 m s₁ ≡ point 0 m s₀ = point-below 0 m kept (omega arith) in
+      let p₂ : point 0 m s₂ ≡ point 0 m s₀ = point-below 0 m w (omega arith) ∙ p in
+      let all = 6 * m + (m * (k + 1) + 3 * m) in
+      let found = line-done k g dy lam u m b cap old s₀ s₂ s₃ step within p₂ (v ∙ λ i. direction lam u (p i) (d i)) (c ∙ λ i. capTo (p i) (direction lam u (p i) (d i)) m) (o ∙ ap sqrtOf e) line in
+      record {
+        answer = rw (z, found);
+        moves = take-done lam m (point 0 m s₀) (searchLine k g dy lam u (point 0 m s₀)) s₂ s₃ s₄ step within found (line .in-bounds) p₂ (line .kept) h ∙ rw z;
+        kept = kept-then 0 all (kept-then 0 all (kept-then 0 all kept w (omega arith) (omega arith) (omega arith) (omega arith)) (line .kept) (omega arith) (omega arith) (omega arith) (omega arith)) x (omega arith) (omega arith) (omega arith) (omega arith);
+      }

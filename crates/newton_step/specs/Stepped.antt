@@ -1,0 +1,23 @@
+-- Document 01, "Interior point": what one Newton step answers, and the point that it leaves.
+use mathlib.Core.Path.{_≡_}
+use mathlib.Core.Bool.{Bool, true, false, cond}
+use mathlib.Core.List.{List}
+use Prim.Native.Nat.{ℕ, _+_, _*_}
+use lib.Ieee.{Float}
+use Rattle.vectors.specs.Vec.{Kept}
+use Rattle.banded.specs.Rows.{sound}
+use Rattle.newton.specs.Newton.{Dual, system, searchLine, taken}
+use Rattle.newton.specs.Places.{point}
+use Rattle.newton_step.specs.declared.Step.{Step}
+use Rattle.newton_step.specs.declared.Step.the-variants.{Lost, Moved}
+
+-- a bad pivot loses the step; else it is the line search's
+abbrev pub stepOf : Bool → Float → Step
+stepOf true x = Moved x
+stepOf false x = Lost
+
+-- s₀ begins with a point of 3 m numbers, and s with the one that the step leaves; only the first places differ
+pub record Stepped (k : ℕ) (g dy : List Float) (lam u : Float) (m : ℕ) (s₀ s : List Float) (r : Step) : Type 0 where
+  pub answer : r ≡ stepOf (sound k (system k g lam (point 0 m s₀)) m) (searchLine k g dy lam u (point 0 m s₀) .step)
+  pub moves : point 0 m s ≡ cond (sound k (system k g lam (point 0 m s₀)) m) (taken lam (point 0 m s₀) (searchLine k g dy lam u (point 0 m s₀))) (point 0 m s₀)
+  pub kept : Kept 0 (6 * m + (m * (k + 1) + 3 * m)) s₀ s
