@@ -91,7 +91,7 @@ take-done lam m p e s₁ s₂ s₃ step within q b f w h =
 
 module _ (k : ℕ) (g dy : List Float) (lam u : Float) (m n : ℕ) (s₀ s₁ : List Float) (good : Bool)
     (sums : n ≡ m * (k + 1)) (is-sound : good ≡ sound k (system k g lam (point 0 m s₀)) m) (kept : Kept (6 * m) (n + m) s₀ s₁) where
-  pub lost-step : good ≡ false → Stepped k g dy lam u m s₀ s₁ Lost
+  pub lost-step : good ≡ false → Stepped k g dy lam u 0 m s₀ s₁ Lost
   lost-step f =
       let z : sound k (system k g lam (point 0 m s₀)) m ≡ false = sym is-sound ∙ f in
       record {
@@ -105,7 +105,7 @@ module _ (k : ℕ) (g dy : List Float) (lam u : Float) (m n : ℕ) (s₀ s₁ : 
       → point b m s₂ ≡ direction lam u (point 0 m s₁) (part b m s₁) → cap ≡ capTo (point 0 m s₁) (direction lam u (point 0 m s₁) (part b m s₁)) m → Kept (b + m) (m + m) s₁ s₂
       → old ≡ sqrtOf acc → Searched k g dy lam u m b cap old s₂ s₃ step within
       → point 0 m s₄ ≡ cond within (point (3 * m) m s₃) (point 0 m s₃) → Kept 0 (3 * m) s₃ s₄
-      → Stepped k g dy lam u m s₀ s₄ (Moved step)
+      → Stepped k g dy lam u 0 m s₀ s₄ (Moved step)
   unfolding norm
   moved-step acc cap old step within s₂ s₃ s₄ b f at-b e d v c w o line h x =
       let z : sound k (system k g lam (point 0 m s₀)) m ≡ true = sym is-sound ∙ f in

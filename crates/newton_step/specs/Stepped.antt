@@ -16,8 +16,8 @@ abbrev pub stepOf : Bool → Float → Step
 stepOf true x = Moved x
 stepOf false x = Lost
 
--- s₀ begins with a point of 3 m numbers, and s with the one that the step leaves; only the first places differ
-pub record Stepped (k : ℕ) (g dy : List Float) (lam u : Float) (m : ℕ) (s₀ s : List Float) (r : Step) : Type 0 where
-  pub answer : r ≡ stepOf (sound k (system k g lam (point 0 m s₀)) m) (searchLine k g dy lam u (point 0 m s₀) .step)
-  pub moves : point 0 m s ≡ cond (sound k (system k g lam (point 0 m s₀)) m) (taken lam (point 0 m s₀) (searchLine k g dy lam u (point 0 m s₀))) (point 0 m s₀)
-  pub kept : Kept 0 (6 * m + (m * (k + 1) + 3 * m)) s₀ s
+-- from place a on s₀ holds a point of 3 m numbers, and s the one that the step leaves; nothing differs before or after the places of the step
+pub record Stepped (k : ℕ) (g dy : List Float) (lam u : Float) (a m : ℕ) (s₀ s : List Float) (r : Step) : Type 0 where
+  pub answer : r ≡ stepOf (sound k (system k g lam (point a m s₀)) m) (searchLine k g dy lam u (point a m s₀) .step)
+  pub moves : point a m s ≡ cond (sound k (system k g lam (point a m s₀)) m) (taken lam (point a m s₀) (searchLine k g dy lam u (point a m s₀))) (point a m s₀)
+  pub kept : Kept a (6 * m + (m * (k + 1) + 3 * m)) s₀ s

@@ -83,7 +83,7 @@ fn take_trial(s: &mut [f64], m: usize, inside: bool)
 // One Newton step. s: z, mu1, mu2; the trial's; the rows of the system; dz, dmu1, dmu2.
 pub fn newton_step(s: &mut [f64], dy: &[f64], lam: f64, u: f64, g: [f64; 3], k: usize, m: usize) -> Step
     requires { ⌜ (k ≤ 2) × ((1 ≤ m) × ((6 * m + (m * (k + 1) + 3 * m) ≤ length (now s)) × (m ≤ length (now dy)))) ⌝ }
-    ensures { λ r. ⌜ Stepped k g (now (dy .entry)) lam u m (now (s .entry)) (now (s .exit)) r ⌝ }
+    ensures { λ r. ⌜ Stepped k g (now (dy .entry)) lam u 0 m (now (s .entry)) (now (s .exit)) r ⌝ }
 {
     let a = 6 * m;
     let b = a + m * (k + 1);
