@@ -1,10 +1,10 @@
 -- A Newton step and a certificate on a part of the run. Assumes nothing.
 use mathlib.Core.Path.{_≡_, refl, sym, ap, _∙_}
-use mathlib.Core.Logic.{⊎-elim}
+use mathlib.Core.Logic.{_⊎_, inl, inr, ⊎-elim}
 use mathlib.Core.Bool.{cond}
 use mathlib.Core.List.{List, _++_}
-use Prim.Native.Nat.{ℕ, _+_, _-_, _*_, _≤_, _<_}
-use native.Mathlib.Nat.{zero-add, lt-or-ge}
+use Prim.Native.Nat.{ℕ, zero, _+_, _-_, _*_, _≤_, _<_}
+use native.Mathlib.Nat.{zero-add, eq-zero-or-pos, mul-le-mul-left}
 use native.Mathlib.Omega.{arith}
 use lib.ListN.{length, getD, take, drop}
 use lib.Seq.{getD-take, getD-drop}
@@ -17,6 +17,13 @@ use Rattle.newton.specs.Newton.{Dual, system, searchLine, taken}
 use Rattle.newton.specs.Places.{point}
 use Rattle.newton_step.specs.Stepped.{stepOf, Stepped}
 use Rattle.newton_step.specs.declared.Step.{Step}
+
+split : (a b : ℕ) → (a < b) ⊎ (b ≤ a)
+split a b = ⊎-elim (λ (e : b - a ≡ zero). inr (omega arith)) (λ (h : zero < b - a). inl (omega arith)) (eq-zero-or-pos (b - a))
+
+-- rows of at most 3 places
+pub rows-small : (k m : ℕ) → k ≤ 2 → m * (k + 1) ≤ 3 * m
+rows-small k m h = let f : m * (k + 1) ≤ m * 3 = mul-le-mul-left m (omega arith) in omega arith
 
 -- a point in a part
 pub point-in : (a n m : ℕ) (s : List Float) → 3 * m ≤ n → a + n ≤ length s → point 0 m (take (a + n - a) (drop a s)) ≡ point a m s
@@ -40,13 +47,13 @@ kept-within a n b l s x f e w = record {
             ⊎-elim
             (λ (u : j - a < n). within j (j - a) q u (w .below (j - a) (omega arith)))
             (λ (u : n ≤ j - a). kept-put a n s x f e nan .above j (omega arith))
-            (lt-or-ge (j - a) n))
-          (lt-or-ge j a);
+            (split (j - a) n))
+          (split j a);
       above = λ j h. let q : a + (j - a) ≡ j = omega arith in
           ⊎-elim
           (λ (u : j - a < n). within j (j - a) q u (w .above (j - a) (omega arith)))
           (λ (u : n ≤ j - a). kept-put a n s x f e nan .above j (omega arith))
-          (lt-or-ge (j - a) n);
+          (split (j - a) n);
     }
   where
     within : (j i : ℕ) → a + i ≡ j → i < n → at x i ≡ at (take n (drop a s)) i → at (putBack a n s x) j ≡ at s j

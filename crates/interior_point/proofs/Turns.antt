@@ -83,7 +83,7 @@ lostRun r = record { t = r .t; step = r .step; gap = r .gap; primal = r .primal;
 module _ (k : ℕ) (g y dy : List Float) (lam : Float) (n m : ℕ) (s₀ s₁ : List Float) (r : Run) (t₁ : Float) (w : Step)
     (is-dy : dy ≡ diffK k y) (room : 6 * m + (m * (k + 1) + 3 * m) ≤ 12 * n) (stands : Standing k y lam n m s₀ r)
     (next : t₁ ≡ nextT m (r .gap) (stateOf n m s₀ r)) (stepped : Stepped k g dy lam (c1 ⊘ t₁) n m s₀ s₁ w) where
-  L : Problem State
+  abbrev L : Problem State
   L = problem k g y lam
 
   by-flag : (b : Bool) → sound k (system k g lam (point n m s₀)) m ≡ b

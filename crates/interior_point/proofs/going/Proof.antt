@@ -1,0 +1,29 @@
+use borrow.Author.Needs.{needs}
+use mathlib.Core.Path.{_≡_, refl, sym, ap, _∙_}
+use mathlib.Core.Bool.{Bool, true, false}
+use mathlib.Core.List.{List}
+use Prim.Native.Nat.{ℕ, _≤_, _<_, _-_, _+_, _*_, _^_}
+use native.Mathlib.Omega.{arith}
+use lib.ListN.{length, take, drop, length-drop}
+use lib.Seq.{length-take-le}
+use lib.Ieee.{Float}
+use borrow.Author.Tests.{le-ltb, lt-ltb}
+use Rattle.interior_point.proofs.going.Statement.{statement}
+use Rattle.interior_point.proofs.going.Tie as tie
+use Rattle.interior_point.proofs.going.Reads as reads
+use Rattle.interior_point.proofs.going.Lts as lts
+
+returns : tie.Need-returns
+returns c = search needs
+
+returns-2 : tie.Need-returns-2
+returns-2 c = rw (c .before .before .before .if1 .left, c .if2 .taken)
+
+returns-3 : tie.Need-returns-3
+returns-3 c = rw (c .before .before .before .before .before .if1 .left, c .before .before .if2 .left, le-ltb _ _ (c .if3 .taken))
+
+returns-4 : tie.Need-returns-4
+returns-4 c = rw (c .before .before .before .before .before .before .if1 .left, c .before .before .before .if2 .left, lt-ltb _ _ (c .before .if3 .left))
+
+pub going-spec : {M : Type 1} → statement M
+going-spec = tie.close (tie.spec returns returns-2 returns-3 returns-4)
