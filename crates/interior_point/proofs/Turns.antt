@@ -11,21 +11,21 @@ use lib.ListN.{length}
 use lib.Ieee.{Float, nan, lt, le}
 use Rattle.float64.specs.Ops.{_⊖_, _⊗_, _⊘_, c0, c1, c1e-10, infinity}
 use Rattle.vectors.specs.Vec.{at, list, partOf, part, Kept, Written}
-use Rattle.vectors.proofs.Laws.{kept-then, kept-none, list-ext}
+use Rattle.vectors.proofs.Laws.{kept-then, kept-none, list-ext, written-kept}
 use Rattle.vectors.proofs.Parts.{length-part, part-below, part-above}
-use Rattle.differences.specs.Diff.{diffK}
+use Rattle.differences.specs.Diff.{diffK, gramRow}
 use Rattle.banded.specs.Rows.{sound}
 use Rattle.certificate.specs.Certificate.{Certificate, certify, gapOf}
 use Rattle.step_bound.specs.Search.{Turn, lost, moved, Problem, Point, Ended, Reason, small, spent, stalled, pivot, ended, enough, better, advance, mark, start, run}
-use Rattle.step_bound.proofs.Trace.{run-small, run-spent, run-stalled, run-lost, run-moved, afterLoss}
+use Rattle.step_bound.proofs.Trace.{run-small, run-spent, run-stalled, run-lost, run-moved, afterLoss, idle-room}
 use Rattle.newton.specs.Newton.{Dual, Trial, system, searchLine, taken}
 use Rattle.newton.specs.Places.{point}
 use Rattle.newton.proofs.Lines.{point-above}
 use Rattle.newton_step.specs.Stepped.{stepOf, Stepped}
 use Rattle.newton_step.specs.declared.Step.{Step}
 use Rattle.newton_step.specs.declared.Step.the-variants.{Lost, Moved}
-use Rattle.interior_point.specs.InteriorPoint.{State, nextT, landed, move, problem, origin}
-use Rattle.interior_point.specs.Account.{stateOf, pointOf, Standing, leftOf, goes, improves, Settled, Turned}
+use Rattle.interior_point.specs.InteriorPoint.{State, nextT, landed, move, problem, origin, interiorPoint}
+use Rattle.interior_point.specs.Account.{stateOf, pointOf, Standing, leftOf, goes, improves, Settled, Turned, searchOf, Found}
 use Rattle.interior_point.specs.declared.Run.{Run}
 
 -- ---- the start
@@ -54,6 +54,21 @@ start-is k g y lam n m s v p e f = λ i. record {
   gains = 0;
   stall = 0;
 }
+
+-- the fills, and then the certificate
+pub started : (k : ℕ) (y : List Float) (lam : Float) (n m : ℕ) (s₀ s₁ s₂ s₃ : List Float) (p d : Float) → m ≤ n
+    → Written n (n + m) (λ j. c0) s₀ s₁ → Written (n + m) (n + m + m + m) (λ j. c1) s₁ s₂
+    → part 0 n s₃ ≡ certify k y lam (part n m s₂) .trend → p ≡ certify k y lam (part n m s₂) .primal → d ≡ certify k y lam (part n m s₂) .dual → Kept 0 n s₂ s₃
+    → ((g : List Float) → pointOf n m s₃ (startRun (p ⊖ d) p) ≡ start (problem k g y lam) (origin m))
+      × (Standing k y lam n m s₃ (startRun (p ⊖ d) p) × ((p ⊖ d ≡ p ⊖ d) × ((false ≡ false) × Kept 0 (13 * n) s₀ s₃)))
+started k y lam n m s₀ s₁ s₂ s₃ p d o v w e f h q =
+    let z : part n m s₃ ≡ part n m s₂ = part-above nan n m q (omega arith) in
+    let x : p ⊖ d ≡ gapOf (certify k y lam (part n m s₃)) = λ i. (f ∙ λ j. certify k y lam (sym z j) .primal) i ⊖ (h ∙ λ j. certify k y lam (sym z j) .dual) i in
+    let b : Kept (n + m) (m + m) s₁ s₂ = record { size = w .size; below = w .below; above = λ j u. w .above j (omega arith) } in
+    let a = kept-then 0 (13 * n) (written-kept v) b (omega arith) (omega arith) (omega arith) (omega arith) in
+    ((λ g. start-is k g y lam n m s₃ (p ⊖ d) p (origin-stands n m s₀ s₁ s₂ s₃ v w q) x),
+     (record { trend = e ∙ (λ i. certify k y lam (sym z i) .trend); primal = f ∙ (λ i. certify k y lam (sym z i) .primal); gap = x },
+      (refl, (refl, kept-then 0 (13 * n) a q (omega arith) (omega arith) (omega arith) (omega arith)))))
 
 -- ---- one iteration
 
@@ -228,3 +243,91 @@ module _ (L : Problem State) (tol : Float) (limit : ℕ) (e : Ended State) (p : 
       let z : limit - p .steps ≡ suc (limit - suc (p .steps)) = omega arith in
       ended-at e p stalled (sym (run-stalled L tol (limit - suc (p .steps)) p v x) ∙ sym (ap (λ (j : ℕ). run L tol j p) z) ∙ sym (ap (leftOf L tol (limit - p .steps) p) u) ∙ left)
   finish false false true false u v w x q = let z : _≡_ {A = ℕ} 0 1 = cc in absurd (omega arith)
+
+-- the definition's test of the gap
+pub enough-is : (k : ℕ) (g y : List Float) (lam tol : Float) (n m : ℕ) (s : List Float) (r : Run) → Standing k y lam n m s r
+    → enough (problem k g y lam) tol (pointOf n m s r) ≡ le (r .gap) (tol ⊗ r .primal)
+unfolding problem
+enough-is k g y lam tol n m s r w = sym (λ i. le (w .gap i) (tol ⊗ w .primal i))
+
+-- what holds before each iteration: what is left of the search is the whole
+pub record Looping (k : ℕ) (g y : List Float) (lam tol : Float) (limit n m : ℕ) (s₀ s : List Float) (r : Run) : Type 0 where
+  pub left : leftOf (problem k g y lam) tol (limit - r .«n_iter») (pointOf n m s r) (r .lost) ≡ run (problem k g y lam) tol limit (start (problem k g y lam) (origin m))
+  pub standing : Standing k y lam n m s r
+  pub first : r .first ≡ gapOf (certify k y lam (origin m .point .z))
+  pub within : r .«n_iter» ≤ limit
+  pub fewer : r .improvements ≤ r .«n_iter»
+  pub idle : r .stalled ≤ 10
+  pub kept : Kept 0 (13 * n) s₀ s
+
+module _ (k : ℕ) (g y : List Float) (lam tol : Float) (limit n m : ℕ) (s₀ s : List Float) (r : Run) where
+  abbrev P : Problem State
+  P = problem k g y lam
+
+  pub loop-starts : pointOf n m s r ≡ start P (origin m) → Standing k y lam n m s r → r .first ≡ r .gap → r .lost ≡ false → Looping k g y lam tol limit n m s s r
+  loop-starts e w f o =
+      let none : r .«n_iter» ≡ 0 = ap (λ (p : Point State). p .steps) e in
+      let gains : r .improvements ≡ 0 = ap (λ (p : Point State). p .gains) e in
+      let stall : r .stalled ≡ 0 = ap (λ (p : Point State). p .stall) e in
+      let all : limit - r .«n_iter» ≡ limit = omega arith in
+      record {
+        left = ap (leftOf P tol (limit - r .«n_iter») (pointOf n m s r)) o ∙ λ i. run P tol (all i) (e i);
+        standing = w;
+        first = f ∙ w .gap ∙ λ i. gapOf (certify k y lam (e i .state .point .z));
+        within = omega arith;
+        fewer = omega arith;
+        idle = omega arith;
+        kept = kept-none 0 (13 * n) s;
+      }
+
+  module _ (w : Looping k g y lam tol limit n m s₀ s r) where
+    pub goes-on : goes r tol limit ≡ true → (r .lost ≡ false) × ((le (r .gap) (tol ⊗ r .primal) ≡ false) × ((ltb (r .«n_iter») limit ≡ true) × (eqb (r .stalled) 10 ≡ false)))
+    goes-on h = go-on (r .lost) (le (r .gap) (tol ⊗ r .primal)) (ltb (r .«n_iter») limit) (eqb (r .stalled) 10) h
+
+    pub loop-goes : goes r tol limit ≡ true → (s′ : List Float) (x : Run) → Turned k g y lam n m s s′ r x → Looping k g y lam tol limit n m s₀ s′ x
+    loop-goes h s′ x t =
+        let o = goes-on h in
+        let b : r .«n_iter» < limit = ltb-true (r .«n_iter») limit (o .1 .1 .0) in
+        let c = t .steps in
+        let one : limit - r .«n_iter» ≡ suc (limit - x .«n_iter») = omega arith in
+        let d : suc (r .stalled) ≤ 10 = idle-room (r .stalled) (w .idle) (o .1 .1 .1) in
+        record {
+          left = sym (t .ahead tol (limit - x .«n_iter») (o .1 .0) (o .1 .1 .1))
+              ∙ sym (ap (λ (j : ℕ). run P tol j (pointOf n m s r)) one)
+              ∙ sym (ap (leftOf P tol (limit - r .«n_iter») (pointOf n m s r)) (o .0))
+              ∙ w .left;
+          standing = t .standing;
+          first = t .first ∙ w .first;
+          within = omega arith;
+          fewer = omega (arith, t .gains, w .fewer);
+          idle = omega (arith, t .stall);
+          kept = kept-then 0 (13 * n) (w .kept) (t .kept) (omega arith) (omega arith) (omega arith) (omega arith);
+        }
+
+    pub loop-ends : goes r tol limit ≡ false → EndsAt (run P tol limit (start P (origin m))) (pointOf n m s r)
+    loop-ends h =
+        finish P tol limit (run P tol limit (start P (origin m))) (pointOf n m s r) (r .lost) (w .within) (w .left)
+        (r .lost) (le (r .gap) (tol ⊗ r .primal)) (ltb (r .«n_iter») limit) (eqb (r .stalled) 10) refl (enough-is k g y lam tol n m s r (w .standing)) refl refl h
+
+-- the whole search
+pub all-found : (k : ℕ) (g y : List Float) (lam tol : Float) (limit : ℕ) (s₀ s₁ s : List Float) (r : Run) → g ≡ gramRow k → Kept 0 (13 * length y) s₀ s₁
+    → Looping k g y lam tol limit (length y) (length y - k) s₁ s r → goes r tol limit ≡ false → Found k y lam tol limit s₀ s r
+unfolding interiorPoint
+all-found k g y lam tol limit s₀ s₁ s r isg v w h =
+    let n = length y in
+    let m = length y - k in
+    let e = loop-ends k g y lam tol limit n m s₁ s r w h in
+    let q : run (problem k g y lam) tol limit (start (problem k g y lam) (origin m)) ≡ searchOf k y lam tol limit =
+        λ i. run (problem k (isg i) y lam) tol limit (start (problem k (isg i) y lam) (origin m)) in
+    let p : point n m s ≡ searchOf k y lam tol limit .state .point = ap (λ (x : State). x .point) (e .state) ∙ ap (λ (x : Ended State). x .state .point) q in
+    record {
+      ends = p;
+      trend = w .standing .trend ∙ λ i. certify k y lam (p i .z) .trend;
+      gap = w .standing .gap ∙ λ i. gapOf (certify k y lam (p i .z));
+      primal = w .standing .primal ∙ λ i. certify k y lam (p i .z) .primal;
+      first = w .first;
+      best = e .best ∙ ap (λ (x : Ended State). x .best) q;
+      steps = e .steps ∙ ap (λ (x : Ended State). x .steps) q;
+      gains = e .gains ∙ ap (λ (x : Ended State). x .gains) q;
+      kept = kept-then 0 (13 * n) v (w .kept) (omega arith) (omega arith) (omega arith) (omega arith);
+    }
