@@ -2,3 +2,4 @@
 pub mod Questions
 pub mod Fit
 pub mod Known
+pub mod Demand3

@@ -1,0 +1,20 @@
+/* Document 01's listing by the C entry: cc example.c -L../../target/staticlib -ltrend_filter -o example */
+#include <inttypes.h>
+#include <stdio.h>
+#include "trend_filter.h"
+
+#define N 2
+
+int main(void) {
+    double y[N] = {8000, 0}, trend[N], cycle[N], work[40 * N], numbers[5];
+    uint32_t knots[N], marks[2 * N];
+    uint64_t counts[4];
+    uint32_t refused = trend_filter_fit(y, N, 4000, 1e-8, 100, 1, 1, trend, N, cycle, N, knots, N, work, 40 * N, marks, 2 * N, numbers, counts);
+    if (refused) {
+        printf("refused %" PRIu32 "\n", refused);
+        return 1;
+    }
+    printf("%" PRIu64 " steps, %" PRIu64 " knots, gap %g, objective %g\n", counts[1], counts[0], numbers[1], numbers[4]);
+    for (int i = 0; i < N; i++) printf("h %d %g %g\n", i, trend[i], cycle[i]);
+    return 0;
+}

@@ -1,0 +1,46 @@
+/* The trend of a series, and when its search ends: the C entry of the proved static library.
+ *
+ * Link with libtrend_filter.a, which `rt staticlib trend_filter` writes.
+ *
+ * trend_filter_fit asks ten questions in order and answers 0 (a fit) or the number of the first question answered no:
+ *   1  order and penalty are each 1 or 2 (penalty 1 is L1, 2 is L2)
+ *   2  y_len (n) is at least order + 1
+ *   3  n is at most 65,536
+ *   4  every y is finite
+ *   5  lam is finite and not below 0 (-0 passes)
+ *   6  tol is finite and above 0
+ *   7  max_iter is at least 1
+ *   8  trend, cycle and knots have at least n places each
+ *   9  work has at least 40 n places, marks at least 2 n
+ *  10  every pivot met is finite and above 0
+ *
+ * No check is owed before the call: whatever is passed, it ends, and nothing is read or written beyond the lengths given. The arrays
+ * must not overlap, and each pointer must be to as many places as its length says; that is all that C owes.
+ *
+ * After a fit: the first n places of trend and cycle and the first counts[0] places of knots hold the answer; all later places are as found.
+ *   numbers: lam_max, gap, first gap, best gap, objective
+ *   counts:  knots, n_iter, improvements, converged (0 or 1)
+ * After a refusal: trend, cycle, knots, numbers and counts are as found; after 1 to 9 work and marks are too.
+ * After a fit or number 10 the first 40 n places of work and 2 n of marks are free (nothing is promised of them); later ones are as found.
+ *
+ * Steps: n_iter is at most max_iter and at most 10 J + 10, where J, the improvements, is at most 144,763. */
+#ifndef TREND_FILTER_H
+#define TREND_FILTER_H
+
+#include <stddef.h>
+#include <stdint.h>
+
+#ifdef __cplusplus
+extern "C" {
+#endif
+
+uint32_t trend_filter_fit(const double *y, size_t y_len, double lam, double tol, uint64_t max_iter, uint32_t order,
+                          uint32_t penalty, double *trend, size_t trend_len, double *cycle, size_t cycle_len,
+                          uint32_t *knots, size_t knots_len, double *work, size_t work_len, uint32_t *marks,
+                          size_t marks_len, double numbers[5], uint64_t counts[4]);
+
+#ifdef __cplusplus
+}
+#endif
+
+#endif

@@ -1,0 +1,149 @@
+//! L1 trend filtering and its squared-penalty counterpart, by the proved port, with the names of the source module: a program that
+//! used `l1_trend_filter`, `TrendFilterOptions`, `Penalty` and `TrendFilterFit` of the source changes its `use` line only.
+//!
+//! Beside the source's fields a fit has `first_gap`, `best_gap` and `improvements`. The refusals are [`Refused`], which holds the
+//! question's number and says it in words.
+
+use std::fmt;
+
+/// Shape of the penalty on the `order`-th differences of the trend.
+#[derive(Debug, Clone, Copy, PartialEq, Eq)]
+pub enum Penalty {
+    /// `lam * ||D x||_1`
+    L1,
+    /// `(lam/2) * ||D x||_2^2`
+    L2,
+}
+
+/// Configuration of [`l1_trend_filter`].
+#[derive(Debug, Clone, Copy, PartialEq)]
+pub struct TrendFilterOptions {
+    /// Difference order, 1 or 2.
+    pub order: usize,
+    pub penalty: Penalty,
+    /// The search stops when the gap is at most `tol` times the objective. Not used by L2, but asked for all the same.
+    pub tol: f64,
+    /// Step limit of the search, at least 1.
+    pub max_iter: usize,
+}
+
+impl Default for TrendFilterOptions {
+    fn default() -> Self {
+        Self { order: 2, penalty: Penalty::L1, tol: 1e-8, max_iter: 10_000 }
+    }
+}
+
+/// Result of [`l1_trend_filter`].
+#[derive(Debug, Clone, PartialEq)]
+pub struct TrendFilterFit {
+    pub trend: Vec<f64>,
+    /// `y - trend`
+    pub cycle: Vec<f64>,
+    /// Indices where the trend's difference is above the threshold, rising.
+    pub knots: Vec<usize>,
+    pub duality_gap: f64,
+    pub objective: f64,
+    pub converged: bool,
+    pub n_iter: usize,
+    pub lam_max: f64,
+    /// The gap before the first step.
+    pub first_gap: f64,
+    /// The least gap by which a step was an improvement; the first gap where none was.
+    pub best_gap: f64,
+    /// How many steps were improvements: `n_iter` is at most 10 times this plus 10.
+    pub improvements: u64,
+}
+
+/// A refusal: the number of the first question answered no.
+#[derive(Debug, Clone, Copy, PartialEq, Eq)]
+pub struct Refused(pub u32);
+
+impl Refused {
+    /// The question that was answered no.
+    pub fn question(self) -> &'static str {
+        match self.0 {
+            1 => "are order and penalty each 1 or 2?",
+            2 => "is the series at least order + 1 long?",
+            3 => "is the series at most 65,536 long?",
+            4 => "is every place of the series finite?",
+            5 => "is lam finite and not below 0?",
+            6 => "is tol finite and above 0?",
+            7 => "is max_iter at least 1?",
+            8 => "have trend, cycle and knots a place for each of the series?",
+            9 => "have work and marks the places that they need?",
+            _ => "is every pivot met finite and above 0?",
+        }
+    }
+}
+
+impl fmt::Display for Refused {
+    fn fmt(&self, f: &mut fmt::Formatter<'_>) -> fmt::Result {
+        write!(f, "refused {}: {}", self.0, self.question())
+    }
+}
+
+impl std::error::Error for Refused {}
+
+extern "C" {
+    fn trend_filter_fit(
+        y: *const f64, y_len: usize,
+        lam: f64, tol: f64, max_iter: u64, order: u32, penalty: u32,
+        trend: *mut f64, trend_len: usize,
+        cycle: *mut f64, cycle_len: usize,
+        knots: *mut u32, knots_len: usize,
+        work: *mut f64, work_len: usize,
+        marks: *mut u32, marks_len: usize,
+        numbers: *mut [f64; 5], counts: *mut [u64; 4],
+    ) -> u32;
+}
+
+/// The trend of `y` with the penalty weight `lam`.
+///
+/// # Errors
+/// [`Refused`] with the number of the first question answered no.
+pub fn l1_trend_filter(y: &[f64], lam: f64, opts: TrendFilterOptions) -> Result<TrendFilterFit, Refused> {
+    let n = y.len();
+    if n > 65_536 {
+        // Asked here so that no memory is taken for a series that is refused anyway; the earlier questions are the order's.
+        return Err(Refused(if opts.order == 1 || opts.order == 2 { 3 } else { 1 }));
+    }
+    let mut trend = vec![0.0; n];
+    let mut cycle = vec![0.0; n];
+    let mut knots = vec![0u32; n];
+    let mut work = vec![0.0; 40 * n];
+    let mut marks = vec![0u32; 2 * n];
+    let mut numbers = [0.0; 5];
+    let mut counts = [0; 4];
+    let penalty = match opts.penalty {
+        Penalty::L1 => 1,
+        Penalty::L2 => 2,
+    };
+    let order = u32::try_from(opts.order).unwrap_or(u32::MAX);
+    // SAFETY: each pointer is to as many places as the length beside it, none overlap, and the entry asks nothing more.
+    let refused = unsafe {
+        trend_filter_fit(
+            y.as_ptr(), n, lam, opts.tol, opts.max_iter as u64, order, penalty,
+            trend.as_mut_ptr(), n, cycle.as_mut_ptr(), n, knots.as_mut_ptr(), n,
+            work.as_mut_ptr(), work.len(), marks.as_mut_ptr(), marks.len(),
+            &mut numbers, &mut counts,
+        )
+    };
+    if refused != 0 {
+        return Err(Refused(refused));
+    }
+    let [lam_max, duality_gap, first_gap, best_gap, objective] = numbers;
+    let [count, n_iter, improvements, converged] = counts;
+    Ok(TrendFilterFit {
+        trend,
+        cycle,
+        knots: knots[..count as usize].iter().map(|&i| i as usize).collect(),
+        duality_gap,
+        objective,
+        converged: converged == 1,
+        n_iter: n_iter as usize,
+        lam_max,
+        first_gap,
+        best_gap,
+        improvements,
+    })
+}

@@ -1,0 +1,107 @@
+//! One case through both sides, and every number and place compared.
+use crate::cases::Case;
+use crate::counted;
+use crate::error::MlError;
+use crate::port::{Answer, Lengths, Port};
+use crate::trend_filter::{l1_trend_filter, Penalty, TrendFilterFit, TrendFilterOptions};
+
+/// How the cases of a run ended.
+#[derive(Default, Debug)]
+pub struct Tally {
+    pub fits: u64,
+    pub refused: [u64; 11],
+    /// closed path, gap small enough, limit spent, stalled, pivot lost
+    pub reasons: [u64; 5],
+    pub not_converged: u64,
+    pub nan_gaps: u64,
+    pub places: u64,
+    pub iterations: u64,
+}
+
+fn same(a: f64, b: f64) -> bool {
+    a.to_bits() == b.to_bits() || (a.is_nan() && b.is_nan())
+}
+
+/// The number that document 01 gives the Rust's refusal. `order` and `penalty` are asked before it is called.
+fn number(e: &MlError) -> u32 {
+    match e {
+        MlError::InsufficientData { .. } => 2,
+        MlError::NonFinite { .. } => 4,
+        MlError::DecompositionFailed { .. } => 10,
+        MlError::InvalidArgument { what } if what.starts_with("order") => 1,
+        MlError::InvalidArgument { what } if what.starts_with("lam") => 5,
+        MlError::InvalidArgument { what } if what.starts_with("tol") => 6,
+        MlError::InvalidArgument { .. } => 7,
+    }
+}
+
+pub fn expected(c: &Case) -> Result<(TrendFilterFit, counted::Seen), u32> {
+    let penalty = match c.penalty {
+        1 => Penalty::L1,
+        2 => Penalty::L2,
+        _ => return Err(1),
+    };
+    let o = TrendFilterOptions { order: c.order as usize, penalty, tol: c.tol, max_iter: c.max_iter as usize };
+    let fit = l1_trend_filter(&c.y, c.lam, o).map_err(|e| number(&e));
+    counted::take_seen();
+    let p = match penalty {
+        Penalty::L1 => counted::Penalty::L1,
+        Penalty::L2 => counted::Penalty::L2,
+    };
+    let again = counted::l1_trend_filter(&c.y, c.lam, counted::TrendFilterOptions { order: o.order, penalty: p, tol: c.tol, max_iter: o.max_iter });
+    let mut seen = counted::take_seen();
+    if let (Ok(f), Ok(g)) = (&fit, &again) {
+        assert!(f.n_iter == g.n_iter && same(f.duality_gap, g.duality_gap), "the copy with counters differs from the module");
+        if seen.reason == 0 {
+            seen.first = f.duality_gap;
+            seen.best = f.duality_gap;
+        }
+    }
+    fit.map(|f| (f, seen))
+}
+
+fn same_fit(f: &TrendFilterFit, seen: &counted::Seen, a: &Answer) -> Result<(), String> {
+    if a.refused != 0 {
+        return Err(format!("refused with {} by the port only", a.refused));
+    }
+    for (name, x, y) in [("trend", &f.trend, &a.trend), ("cycle", &f.cycle, &a.cycle)] {
+        if let Some(i) = (0..x.len()).find(|&i| !same(x[i], y[i])) {
+            return Err(format!("{name} {i}: {:016x} by the Rust, {:016x} by the port", x[i].to_bits(), y[i].to_bits()));
+        }
+    }
+    if f.knots.len() != a.knots.len() || f.knots.iter().zip(&a.knots).any(|(x, y)| *x != *y as usize) {
+        return Err("knots".into());
+    }
+    let numbers = [f.lam_max, f.duality_gap, seen.first, seen.best, f.objective];
+    if let Some(i) = (0..5).find(|&i| !same(numbers[i], a.numbers[i])) {
+        return Err(format!("number {i}: {:016x} by the Rust, {:016x} by the port", numbers[i].to_bits(), a.numbers[i].to_bits()));
+    }
+    let counts = [f.knots.len() as u64, f.n_iter as u64, seen.improvements, f.converged as u64];
+    if counts != a.counts {
+        return Err(format!("counts: {counts:?} by the Rust, {:?} by the port", a.counts));
+    }
+    Ok(())
+}
+
+/// Compares one case; an error says where the two differ.
+pub fn compare(port: &mut Port, c: &Case, t: &mut Tally) -> Result<(), String> {
+    let l = Lengths::exact(c.y.len());
+    let a = port.fit(&c.y, c.lam, c.tol, c.max_iter, c.order, c.penalty, &l)?;
+    match expected(c) {
+        Err(q) if q == a.refused => {
+            t.refused[q as usize] += 1;
+            Ok(())
+        }
+        Err(q) => Err(format!("refused with {q} by the Rust, {} by the port", a.refused)),
+        Ok((f, seen)) => {
+            same_fit(&f, &seen, &a)?;
+            t.fits += 1;
+            t.reasons[seen.reason as usize] += 1;
+            t.not_converged += !f.converged as u64;
+            t.nan_gaps += f.duality_gap.is_nan() as u64;
+            t.places += c.y.len() as u64;
+            t.iterations += f.n_iter as u64;
+            Ok(())
+        }
+    }
+}
