@@ -1,17 +1,15 @@
 ghost use mathlib.Core.Path.{_≡_};
-ghost use Prim.Native.Nat.{_≤_, _<_, _+_, _*_, _^_};
+ghost use Prim.Native.Nat.{_≤_, _+_, _*_};
 ghost use lib.ListN.{length};
-ghost use lib.Ieee.{binary64, add, mul, lt};
+ghost use lib.Ieee.{lt};
 ghost use mathlib.Core.Bool.{_&&_};
 ghost use Rattle.float64.specs.Helpers.{absOf};
-ghost use Rattle.banded.specs.Rows.{matrix, concat};
-ghost use Rattle.vectors.specs.Vec.{at, Written};
-ghost use Rattle.newton.specs.Newton.{barrier, rightAt, dmu1At, dmu2At, squareAt, capped, squares, norm, capTo, inside, along, direction, lower, accepted, trials, system, right};
+ghost use Rattle.newton.specs.Newton.{dmu1At, dmu2At, squareAt, capped, squares, norm, capTo, inside, along, direction, lower, accepted};
 ghost use Rattle.vectors.specs.Vec.{part, Kept};
 ghost use Rattle.newton.specs.Places.{point, Searched};
 
 // What one place adds to the square of the residual: q is (D D') z there, u is 1 / t.
-fn residual_of(q: f64, dy: f64, z: f64, mu1: f64, mu2: f64, lam: f64, u: f64) -> f64
+pub fn residual_of(q: f64, dy: f64, z: f64, mu1: f64, mu2: f64, lam: f64, u: f64) -> f64
     ensures { λ r. ⌜ r ≡ squareAt lam u q dy z mu1 mu2 ⌝ }
 {
     let f1 = z - lam;
@@ -209,66 +207,4 @@ pub fn line_search(s: &mut [f64], b: usize, dy: &[f64], lam: f64, u: f64, g: [f6
         i += 1;
     }
     Trial { step: step, inside: last }
-}
-
-fn weight(z: f64, mu1: f64, mu2: f64, lam: f64) -> f64
-    ensures { λ r. ⌜ r ≡ barrier lam z mu1 mu2 ⌝ }
-{
-    let f1 = z - lam;
-    let f2 = -z - lam;
-    -mu1 / f1 - mu2 / f2
-}
-
-// Place c of row r of the system of the point in the first places of s.
-fn system_at(s: &[f64], lam: f64, g: [f64; 3], k: usize, m: usize, r: usize, c: usize) -> f64
-    requires { ⌜ (k ≤ 2) × ((c ≤ k) × ((r < m) × ((m + m + m ≤ length (now s)) × (r + c < 2 ^ 62)))) ⌝ }
-    ensures { λ x. ⌜ x ≡ system k g lam (point 0 m (now (s .entry))) r c ⌝ }
-{
-    if r + c < k {
-        return 0.0;
-    }
-    if c < k {
-        return g[k - c];
-    }
-    let w = weight(s[r], s[m + r], s[m + m + r], lam);
-    g[0] + w
-}
-
-// The m rows of the system, from place a on.
-pub fn fill_system(s: &mut [f64], a: usize, lam: f64, g: [f64; 3], k: usize, m: usize)
-    requires { ⌜ (k ≤ 2) × ((m + m + m ≤ a) × (a + m * (k + 1) ≤ length (now s))) ⌝ }
-    ensures { λ _. ⌜ (part a (m * (k + 1)) (now (s .exit)) ≡ concat (matrix k (system k g lam (point 0 m (now (s .entry)))) m))
-        × Kept a (m * (k + 1)) (now (s .entry)) (now (s .exit)) ⌝ }
-{
-    let w = k + 1;
-    let n = m * w;
-    let mut p = 0;
-    while p < n {
-        let x = system_at(s, lam, g, k, m, p / w, p % w);
-        s[a + p] = x;
-        p += 1;
-    }
-}
-
-fn right_of(q: f64, dy: f64, z: f64, lam: f64, u: f64) -> f64
-    ensures { λ r. ⌜ r ≡ rightAt lam u q dy z ⌝ }
-{
-    let f1 = z - lam;
-    let f2 = -z - lam;
-    -q + dy + u / f1 - u / f2
-}
-
-// The right side, from place a on.
-pub fn fill_right(s: &mut [f64], a: usize, dy: &[f64], lam: f64, u: f64, g: [f64; 3], k: usize, m: usize)
-    requires { ⌜ (k ≤ 2) × ((m + m + m ≤ a) × ((a + m ≤ length (now s)) × (m ≤ length (now dy)))) ⌝ }
-    ensures { λ _. ⌜ (part a m (now (s .exit)) ≡ right k g (now (dy .entry)) lam u (point 0 m (now (s .entry))))
-        × Kept a m (now (s .entry)) (now (s .exit)) ⌝ }
-{
-    let mut i = 0;
-    while i < m {
-        let q = matrices::product(&s[0..m], g, k, i);
-        let x = right_of(q, dy[i], s[i], lam, u);
-        s[a + i] = x;
-        i += 1;
-    }
 }

@@ -4,53 +4,18 @@ use mathlib.Core.Bool.{Bool, true, false, cond}
 use mathlib.Core.List.{List}
 use Prim.Native.Nat.{ℕ, _+_, _-_, _*_, _≤_, _<_}
 use native.Mathlib.Omega.{arith}
-use lib.ListN.{length, getD, take, drop, length-drop}
-use lib.Seq.{ext-getD, getD-take, getD-drop, length-take-le}
+use lib.ListN.{length}
 use lib.Ieee.{Float, nan}
 use Rattle.vectors.specs.Vec.{at, part, Kept, Written}
 use Rattle.vectors.proofs.Laws.{kept-then, kept-none}
-use Rattle.vectors.proofs.Parts.{length-part, at-part, part-below, partOf-ext}
-use Rattle.banded.specs.Rows.{Matrix, rows, sound, matrix, concat}
-use Rattle.banded.specs.Solve.{solve}
+use Rattle.vectors.proofs.Parts.{length-part, partOf-ext}
+use Rattle.banded.specs.Rows.{sound}
 use Rattle.float64.specs.Sqrt.{sqrtOf}
-use Rattle.newton.specs.Newton.{Dual, Trial, system, right, newtonZ, direction, capTo, squares, norm, trials, searchLine, taken, inside}
+use Rattle.newton.specs.Newton.{Dual, Trial, system, newtonZ, direction, capTo, squares, norm, trials, searchLine, taken, inside}
 use Rattle.newton.specs.Places.{point, Searched}
 use Rattle.newton.proofs.Lines.{point-below}
 use Rattle.newton_step.specs.Stepped.{stepOf, Stepped}
 use Rattle.newton_step.specs.declared.Step.the-variants.{Lost, Moved}
-
--- the first places of a part, and those after them
-pub head-part : (a n m : ℕ) (s : List Float) → a + (n + m) ≤ length s → take n (take (a + (n + m) - a) (drop a s)) ≡ part a n s
-head-part a n m s h =
-    let d : a + (n + m) - a ≡ n + m = omega arith in
-    let k : length (take (n + m) (drop a s)) ≡ n + m = length-take-le (n + m) (drop a s) (omega (arith, length-drop a s)) in
-    let l : length (take n (take (n + m) (drop a s))) ≡ n = length-take-le n (take (n + m) (drop a s)) (omega (arith, k)) in
-    rw d (ext-getD nan (take n (take (n + m) (drop a s))) (part a n s) (l ∙ sym (length-part a n s))
-      (λ i u. let q : i < n = omega (arith, l) in
-        getD-take n (take (n + m) (drop a s)) i nan q ∙ getD-take (n + m) (drop a s) i nan (omega arith) ∙ getD-drop a s i nan ∙ sym (at-part a n s i (a + i) q refl)))
-
-pub tail-part : (a n m : ℕ) (s x : List Float) → length x ≡ n + m → ((j : ℕ) → j < n + m → at x j ≡ at s (a + j)) → take m (drop n x) ≡ part (a + n) m s
-tail-part a n m s x e f =
-    let l : length (take m (drop n x)) ≡ m = length-take-le m (drop n x) (omega (arith, e, length-drop n x)) in
-    ext-getD nan (take m (drop n x)) (part (a + n) m s) (l ∙ sym (length-part (a + n) m s))
-      (λ i u. let q : i < m = omega (arith, l) in
-        getD-take m (drop n x) i nan q ∙ getD-drop n x i nan ∙ f (n + i) (omega arith) ∙ sym (at-part (a + n) m s i (a + (n + i)) q (omega arith)))
-
--- rows, right side and solution, one after the other
-pub solved : (k : ℕ) (g dy : List Float) (lam u : Float) (m a n : ℕ) (s₀ s₁ s₂ s₃ : List Float) (r : Bool) → m + m + m ≤ a
-    → part a n s₁ ≡ concat (matrix k (system k g lam (point 0 m s₀)) m) → Kept a n s₀ s₁
-    → part (a + n) m s₂ ≡ right k g dy lam u (point 0 m s₁) → Kept (a + n) m s₁ s₂
-    → ((x : Matrix) → part a n s₂ ≡ concat (matrix k x m) → (r ≡ sound k x m) × (r ≡ true → part (a + n) m s₃ ≡ solve k (rows k x m) (part (a + n) m s₂)))
-    → Kept a (n + m) s₂ s₃
-    → (r ≡ sound k (system k g lam (point 0 m s₀)) m) × ((r ≡ true → part (a + n) m s₃ ≡ newtonZ k g dy lam u (point 0 m s₀)) × Kept a (n + m) s₀ s₃)
-unfolding newtonZ
-solved k g dy lam u m a n s₀ s₁ s₂ s₃ r o h v i w f x =
-    let made = f (system k g lam (point 0 m s₀)) (part-below nan a n w (omega arith) ∙ h) in
-    let z = length-part 0 m s₀ in
-    (made .0, (
-      (λ t. made .1 t ∙ ap (solve k (rows k (system k g lam (point 0 m s₀)) m)) (i ∙ ap (λ (p : Dual). right k g dy lam u p) (point-below 0 m v (omega arith)))
-        ∙ ap (λ (q : ℕ). solve k (rows k (system k g lam (point 0 m s₀)) q) (right k g dy lam u (point 0 m s₀))) (sym z)),
-      kept-then a (n + m) (kept-then a (n + m) v w (omega arith) (omega arith) (omega arith) (omega arith)) x (omega arith) (omega arith) (omega arith) (omega arith)))
 
 -- the trial copied over the point
 pub copied : (m : ℕ) (s₀ s : List Float) → Written 0 (3 * m) (λ j. at s₀ (3 * m + j)) s₀ s → point 0 m s ≡ point (3 * m) m s₀

@@ -1,2 +1,3 @@
 -- The definitions that the contracts of newton_step cite.
 pub mod Stepped
+pub mod Swept
