@@ -10,7 +10,7 @@ use native.Mathlib.Omega.{arith}
 use borrow.Author.Tests.{lt-ltb, le-ltb}
 use lib.ListN.{length, getD, set, take, drop, length-set, length-drop}
 use lib.Seq.{ext-getD, getD-set-same, getD-set-other, getD-take, getD-drop, length-take-le}
-use lib.Ieee.{Float, nan, binary64, add}
+use lib.Ieee.{Float, nan, binary64, add, ofBits}
 use Rattle.vectors.specs.Vec.{at, list, part, Kept}
 use Rattle.vectors.specs.Sums.{sumTo}
 use Rattle.vectors.proofs.Laws.{at-list, list-ext, kept-then, kept-none, length-list}
@@ -143,7 +143,8 @@ pub record Sweeping (a k : ℕ) (g dy : List Float) (lam u : Float) (m : ℕ) (s
   pub sum : acc ≡ sumTo (squareOf k g dy lam u (point 0 m s₀)) r
   pub reached : Reached k m r (system k g lam (point 0 m s₀)) (right k g dy lam u (point 0 m s₀)) (take (m * (k + 1) + m) (drop a s))
 
-pub sweep-none : (a k : ℕ) (g dy : List Float) (lam u : Float) (m : ℕ) (s : List Float) → Sweeping a k g dy lam u m s s (sumTo (squareOf k g dy lam u (point 0 m s)) 0) 0
+pub sweep-none : (a k : ℕ) (g dy : List Float) (lam u : Float) (m : ℕ) (s : List Float) → Sweeping a k g dy lam u m s s (ofBits binary64 0) 0
+unfolding sumTo
 sweep-none a k g dy lam u m s = record {
   some = omega arith;
   kept = kept-none a (m * (k + 1) + m) s;
@@ -176,7 +177,6 @@ module _ (a k : ℕ) (g dy : List Float) (lam u : Float) (m n : ℕ) (s₀ s x :
 
   pub sweep-bad : (v : Float) → ok ≡ false → Swept a k g dy lam u m s₀ (putBack a n s x) v false
   sweep-bad v o =
-      let no : (A : Type 0) → false ≡ true → A = λ A t. let z : _≡_ {A = ℕ} 0 1 = cc in absurd (omega arith) in
       record {
         kept = sweep-kept;
         firm = sym (laid-bad k g dy lam u m (point 0 m s₀) r (take n (drop a s)) x d y ok b begun laid (d-is ∙ λ i. system k g lam (same i) r k) (y-is ∙ λ i. at (right k g dy lam u (same i)) r) o);
@@ -208,7 +208,7 @@ tail-part a n m s x e f =
 pub sweep-done : (a k : ℕ) (g dy : List Float) (lam u : Float) (m : ℕ) (s₀ s : List Float) (acc : Float) → a + (m * (k + 1) + m) ≤ length s
     → Sweeping a k g dy lam u m s₀ s acc m → Swept a k g dy lam u m s₀ s acc true
 unfolding squares
-sweep-done a k g dy lam u m s₀ s acc room w =
+sweep-done a k g dy lam u m s₀ s acc fits w =
     let n = m * (k + 1) in
     let p = point 0 m s₀ in
     let t = take (n + m) (drop a s) in
@@ -219,7 +219,7 @@ sweep-done a k g dy lam u m s₀ s acc room w =
       kept = w .kept;
       firm = sym (h .firm);
       residual = λ q. w .sum ∙ ap (sumTo (squareOf k g dy lam u p)) (sym (length-part 0 m s₀));
-      factor = λ q. sym (rw d at (head-part a n m s room)) ∙ of-holds (omega arith) (h .made);
+      factor = λ q. sym (rw d at (head-part a n m s fits)) ∙ of-holds k m (rows k (system k g lam p) m) t (omega arith) (h .made);
       side = λ q. sym (tail-part a n m s t l (λ j u. getD-take (n + m) (drop a s) j nan u ∙ getD-drop a s j nan))
           ∙ stands-part n m (forward k (rows k (system k g lam p) m) (right k g dy lam u p) m) t (length-forward k (rows k (system k g lam p) m) (right k g dy lam u p) m) (omega arith) (h .side);
     }
