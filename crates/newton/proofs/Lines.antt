@@ -5,12 +5,14 @@ use mathlib.Core.Bool.{Bool, true, false, cond, _&&_}
 use Prim.Native.Nat.{ℕ, zero, suc, _+_, _-_, _*_, _≤_, _<_}
 use native.Mathlib.Omega.{arith}
 use native.Mathlib.Numerals.{add-one}
+use borrow.Author.Tests.{lt-ltb, le-ltb}
+use Rattle.matrices.specs.Gram.{gram}
 use lib.ListN.{length, getD, set, take, drop, length-drop}
 use lib.Seq.{ext-getD, getD-take, getD-drop, length-take-le, take-all}
 use lib.Ieee.{Float, nan, binary64, add, mul, lt, ofBits}
 use Rattle.vectors.specs.Vec.{at, list, Written}
 use Rattle.vectors.proofs.Laws.{length-list, at-list, list-ext, up}
-use Rattle.newton.specs.Newton.{Dual, Trial, dmu1At, dmu2At, direction, inside, along, norm, lower, accepted, trials}
+use Rattle.newton.specs.Newton.{Dual, Trial, dmu1At, dmu2At, direction, inside, along, norm, lower, accepted, trials, barrier, system}
 use Rattle.vectors.specs.Vec.{part, Kept}
 use Rattle.newton.specs.Places.{point, searchedFrom, Searched}
 use Rattle.vectors.proofs.Laws.{kept-then}
@@ -145,3 +147,16 @@ directed b m lam u s₀ s s′ o e v f w = λ i. record {
   mu1 = (part-below nan (b + m) m w (omega arith) ∙ e) i;
   mu2 = (f ∙ λ j. direction lam u (point-below 0 m v (omega arith) j) (part-below nan b m v (omega arith) j) .mu2) i;
 }
+
+-- ---- a row of the system
+
+pub system-band : (k : ℕ) (g : List Float) (lam : Float) (p : Dual) (r c : ℕ) → k ≤ r + c → c < k → at g (k - c) ≡ system k g lam p r c
+unfolding system gram
+system-band k g lam p r c h l = rw (le-ltb (r + c) k h, lt-ltb c k l)
+
+pub system-diagonal : (k : ℕ) (g : List Float) (lam : Float) (m : ℕ) (s : List Float) (r c : ℕ) (w : Float) → c ≤ k → k ≤ c → r < m
+    → w ≡ barrier lam (at s r) (at s (m + r)) (at s (m + m + r)) → add binary64 (at g 0) w ≡ system k g lam (point 0 m s) r c
+unfolding system gram
+system-diagonal k g lam m s r c w h l o e =
+    let q : k - c ≡ 0 = omega arith in
+    rw (le-ltb (r + c) k (omega arith), le-ltb c k l, q, e, at-part 0 m s r r o (omega arith), at-part (0 + m) m s r (m + r) o (omega arith), at-part (0 + m + m) m s r (m + m + r) o (omega arith))
