@@ -12,9 +12,10 @@ use lib.Seq.{ext-getD, getD-take, getD-drop, length-take-le, take-all}
 use lib.Ieee.{Float, nan, binary64, add, mul, lt, ofBits}
 use Rattle.vectors.specs.Vec.{at, list, Written}
 use Rattle.vectors.proofs.Laws.{length-list, at-list, list-ext, up}
-use Rattle.newton.specs.Newton.{Dual, Trial, dmu1At, dmu2At, direction, inside, along, norm, lower, accepted, trials, barrier, system}
+use Rattle.newton.specs.Newton.{Dual, Trial, dmu1At, dmu2At, direction, along, norm, lower, accepted, trials, barrier, system}
 use Rattle.vectors.specs.Vec.{part, Kept}
 use Rattle.newton.specs.Places.{point, searchedFrom, Searched}
+use Rattle.vectors.specs.Sums.{inside}
 use Rattle.vectors.proofs.Laws.{kept-then}
 use Rattle.vectors.proofs.Parts.{length-part, at-part, range-part, part-below, part-above, partOf-range}
 

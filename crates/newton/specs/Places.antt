@@ -6,7 +6,8 @@ use Prim.Native.Nat.{ℕ, _+_, _*_, _≤_, _<_}
 use lib.ListN.{length}
 use lib.Ieee.{Float}
 use Rattle.vectors.specs.Vec.{at, list, part, Kept}
-use Rattle.newton.specs.Newton.{Dual, Trial, inside, trials}
+use Rattle.vectors.specs.Sums.{inside}
+use Rattle.newton.specs.Newton.{Dual, Trial, trials}
 
 -- the point, or the direction, whose three parts of m stand from a on
 abbrev pub point : ℕ → ℕ → List Float → Dual

@@ -1,10 +1,10 @@
 ghost use mathlib.Core.Path.{_≡_};
 ghost use Prim.Native.Nat.{_≤_, _+_, _*_};
 ghost use lib.ListN.{length};
-ghost use lib.Ieee.{lt};
-ghost use mathlib.Core.Bool.{_&&_};
-ghost use Rattle.float64.specs.Helpers.{absOf};
-ghost use Rattle.newton.specs.Newton.{dmu1At, dmu2At, squareAt, capped, squares, norm, capTo, inside, along, direction, lower, accepted};
+ghost use lib.Ieee.{isNan};
+ghost use mathlib.Core.Bool.{false};
+ghost use Rattle.vectors.specs.Sums.{inside};
+ghost use Rattle.newton.specs.Newton.{dmu1At, dmu2At, squareAt, capped, squares, norm, capTo, along, direction, lower, accepted};
 ghost use Rattle.vectors.specs.Vec.{part, Kept};
 ghost use Rattle.newton.specs.Places.{point, Searched};
 
@@ -52,10 +52,15 @@ fn dmu2_at(z: f64, mu2: f64, dz: f64, lam: f64, u: f64) -> f64
 
 // The lesser of step and the step at which mu is left at a hundredth, if it falls.
 fn cap_of(step: f64, mu: f64, dmu: f64) -> f64
-    ensures { λ r. ⌜ r ≡ capped step mu dmu ⌝ }
+    requires { ⌜ isNan step ≡ false ⌝ }
+    ensures { λ r. ⌜ (r ≡ capped step mu dmu) × (isNan r ≡ false) ⌝ }
 {
     if dmu < 0.0 {
-        return float64::min(step, 0.99 * (-mu / dmu));
+        let q = 0.99 * (-mu / dmu);
+        if q < step {
+            return q;
+        }
+        return step;
     }
     step
 }
@@ -73,29 +78,6 @@ pub fn cap(s: &[f64], b: usize, m: usize) -> f64
         i += 1;
     }
     step
-}
-
-fn still(all: bool, x: f64, lam: f64) -> bool
-    ensures { λ r. ⌜ r ≡ all && lt (absOf x) lam ⌝ }
-{
-    let a = float64::abs(x);
-    if all {
-        return a < lam;
-    }
-    false
-}
-
-// Whether every |v| is below lam.
-pub fn inside(v: &[f64], lam: f64) -> bool
-    ensures { λ r. ⌜ r ≡ inside lam (now (v .entry)) ⌝ }
-{
-    let mut all = true;
-    let mut i = 0;
-    while i < v.len() {
-        all = still(all, v[i], lam);
-        i += 1;
-    }
-    all
 }
 
 // The point at a step from that in the first 3 m places, in the 3 m after them. From b on stands the direction.
@@ -176,7 +158,7 @@ fn attempt(s: &mut [f64], b: usize, dy: &[f64], lam: f64, u: f64, g: [f64; 3], k
     let d = c + m;
     let e = c + c;
     move_to(s, b, step, m);
-    let within = inside(&s[c..d], lam);
+    let within = vectors::inside(&s[c..d], lam);
     if within {
         let low = low_enough(&s[c..e], dy, lam, u, g, k, m, step, old);
         return Tried { inside: true, good: low };

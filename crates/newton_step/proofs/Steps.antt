@@ -11,7 +11,8 @@ use Rattle.vectors.proofs.Laws.{kept-then, kept-none}
 use Rattle.vectors.proofs.Parts.{length-part, partOf-ext}
 use Rattle.banded.specs.Rows.{sound}
 use Rattle.float64.specs.Sqrt.{sqrtOf}
-use Rattle.newton.specs.Newton.{Dual, Trial, system, newtonZ, direction, capTo, squares, norm, trials, searchLine, taken, inside}
+use Rattle.newton.specs.Newton.{Dual, Trial, system, newtonZ, direction, capTo, squares, norm, trials, searchLine, taken}
+use Rattle.vectors.specs.Sums.{inside}
 use Rattle.newton.specs.Places.{point, Searched}
 use Rattle.newton.proofs.Lines.{point-below}
 use Rattle.newton_step.specs.Stepped.{stepOf, Stepped}

@@ -7,7 +7,8 @@ use native.Mathlib.Omega.{arith}
 use native.Mathlib.Nat.{add-zero}
 use lib.ListN.{length}
 use lib.Ieee.{Float, binary64, add, mul}
-use Rattle.newton.specs.Newton.{inside, accepted}
+use Rattle.newton.specs.Newton.{accepted}
+use Rattle.vectors.specs.Sums.{inside}
 use Rattle.vectors.specs.Vec.{part, Kept}
 use Rattle.newton.specs.Places.{point, Searched}
 use Rattle.newton.proofs.Lines.{Searching, begins, goes, stops, exhausted, accepted-inside}

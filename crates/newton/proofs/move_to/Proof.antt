@@ -7,7 +7,7 @@ use lib.ListN.{length}
 use lib.Ieee.{binary64, add, mul}
 use Rattle.vectors.specs.Vec.{at, Written}
 use Rattle.vectors.proofs.Laws.{none, up}
-use Rattle.newton.specs.Newton.{capTo, insideTo, along}
+use Rattle.newton.specs.Newton.{along}
 use Rattle.vectors.specs.Vec.{part, Kept}
 use Rattle.newton.specs.Places.{point}
 use Rattle.newton.proofs.Laws.{moving, move-more, move-done}

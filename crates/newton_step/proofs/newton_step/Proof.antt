@@ -10,7 +10,7 @@ use Rattle.newton_step.proofs.newton_step.Statement.{statement}
 use Rattle.newton_step.proofs.newton_step.Tie as tie
 use Rattle.newton_step.proofs.newton_step.Reads as reads
 use Rattle.newton_step.proofs.newton_step.Lts as lts
-use Rattle.newton_step.proofs.newton_z.Reads as newton-z-reads
+use Rattle.newton_system.proofs.newton_z.Reads as newton-z-reads
 use Rattle.newton_step.proofs.take_trial.Reads as take-trial-reads
 use Rattle.newton.proofs.directions.Reads as directions-reads
 use Rattle.newton.proofs.line_search.Reads as line-search-reads
