@@ -3,15 +3,17 @@ use mathlib.Core.Path.{_≡_, refl, sym, ap, _∙_}
 use mathlib.Core.Logic.{_⊎_, inl, inr, ⊎-elim}
 use mathlib.Core.Bool.{cond}
 use mathlib.Core.List.{List, _++_}
-use Prim.Native.Nat.{ℕ, zero, _+_, _-_, _*_, _≤_, _<_}
-use native.Mathlib.Nat.{zero-add, eq-zero-or-pos, mul-le-mul-left}
+use Prim.Native.Nat.{ℕ, zero, min, _+_, _-_, _*_, _≤_, _<_}
+use native.Mathlib.Nat.{zero-add, eq-zero-or-pos, mul-le-mul-left, min-le-right}
 use native.Mathlib.Omega.{arith}
-use lib.ListN.{length, getD, take, drop}
+use lib.ListN.{length, getD, take, drop, length-take}
 use lib.Seq.{getD-take, getD-drop}
 use lib.Ieee.{Float, nan}
 use Rattle.vectors.specs.Vec.{at, list, partOf, part, Kept, Written}
 use Rattle.vectors.proofs.Laws.{kept-then, list-ext}
 use Rattle.vectors.proofs.Parts.{putBack, getD-put, kept-put, part-put, partOf-range, part-below, part-above}
+use Rattle.differences.specs.Diff.{diffK}
+use Rattle.differences.proofs.Laws.{length-diffK}
 use Rattle.banded.specs.Rows.{sound}
 use Rattle.newton.specs.Newton.{Dual, system, searchLine, taken}
 use Rattle.newton.specs.Places.{point}
@@ -24,6 +26,15 @@ split a b = ⊎-elim (λ (e : b - a ≡ zero). inr (omega arith)) (λ (h : zero 
 -- rows of at most 3 places
 pub rows-small : (k m : ℕ) → k ≤ 2 → m * (k + 1) ≤ 3 * m
 rows-small k m h = let f : m * (k + 1) ≤ m * 3 = mul-le-mul-left m (omega arith) in omega arith
+
+-- D y in the first places of dy
+pub dy-long : (k : ℕ) (y dy : List Float) → take (length y - k) dy ≡ diffK k y → length y - k ≤ length dy
+dy-long k y dy e =
+    let l : min (length y - k) (length dy) ≡ length y - k = sym (length-take (length y - k) dy) ∙ ap length e ∙ length-diffK k y in
+    omega (arith, l, min-le-right (length y - k) (length dy))
+
+pub first-places : (m : ℕ) (s : List Float) → take (m - 0) (drop 0 s) ≡ take m s
+first-places m s = let z : m - 0 ≡ m = omega arith in rw z
 
 -- a point in a part
 pub point-in : (a n m : ℕ) (s : List Float) → 3 * m ≤ n → a + n ≤ length s → point 0 m (take (a + n - a) (drop a s)) ≡ point a m s

@@ -1,18 +1,20 @@
+// The interior point search for the dual point of an L1 fit.
 ghost use mathlib.Core.Path.{_≡_};
 ghost use mathlib.Core.Bool.{true, false};
 ghost use mathlib.Core.List.{List};
 ghost use Prim.Native.Nat.{_≤_, _<_, _+_, _-_, _*_, _^_};
-ghost use lib.ListN.{length};
+ghost use lib.ListN.{length, take};
 ghost use lib.Ieee.{Float};
-ghost use Rattle.vectors.specs.Vec.{part, Kept, Written};
+ghost use Rattle.vectors.specs.Vec.{Kept, Written};
 ghost use Rattle.differences.specs.Diff.{diffK};
-ghost use Rattle.certificate.specs.Certificate.{certify, gapOf};
+ghost use Rattle.certificate.specs.Run.{Certified};
 ghost use Rattle.step_bound.specs.Search.{start as start_of};
 ghost use Rattle.newton.specs.Newton.{Dual};
 ghost use Rattle.newton_step.specs.Stepped.{Stepped};
 ghost use Rattle.interior_point.specs.InteriorPoint.{nextT, problem, origin};
 ghost use Rattle.interior_point.specs.Account.{pointOf, Standing, goes, Settled, Turned, Found};
 
+use certificate::Pair;
 use newton_step::Step;
 
 // Where the search stands: its gaps and P, its counts, and whether a pivot was lost.
@@ -29,23 +31,6 @@ pub struct Run {
     pub lost: bool,
 }
 
-// MOCK
-pub struct Pair {
-    pub primal: f64,
-    pub dual: f64,
-}
-
-fn certify_l1(s: &mut [f64], y: &[f64], dy: &[f64], lam: f64, k: usize) -> Pair
-    requires { ⌜ (1 ≤ k) × ((k ≤ 2) × ((k < length (now y)) × ((length (now y) + (length (now y) - k) ≤ length (now s)) × (now dy ≡ diffK k (now y))))) ⌝ }
-    ensures { λ r. ⌜ (part 0 (length (now (y .entry))) (now (s .exit)) ≡ certify k (now (y .entry)) lam (part (length (now (y .entry))) (length (now (y .entry)) - k) (now (s .entry))) .trend)
-        × ((r .primal ≡ certify k (now (y .entry)) lam (part (length (now (y .entry))) (length (now (y .entry)) - k) (now (s .entry))) .primal)
-        × ((r .dual ≡ certify k (now (y .entry)) lam (part (length (now (y .entry))) (length (now (y .entry)) - k) (now (s .entry))) .dual)
-        × Kept 0 (length (now (y .entry))) (now (s .entry)) (now (s .exit)))) ⌝ }
-{
-    Pair { primal: 0.0, dual: 0.0 }
-}
-// END MOCK
-
 fn fill(s: &mut [f64], a: usize, e: usize, v: f64)
     requires { ⌜ (a ≤ e) × (e ≤ length (now s)) ⌝ }
     ensures { λ _. ⌜ Written a e (λ j. v) (now (s .entry)) (now (s .exit)) ⌝ }
@@ -59,20 +44,17 @@ fn fill(s: &mut [f64], a: usize, e: usize, v: f64)
 
 // The certificate at the z that stands after the n places of the trend, which it writes.
 fn certify_at(work: &mut [f64], y: &[f64], dy: &[f64], lam: f64, k: usize) -> Pair
-    requires { ⌜ (1 ≤ k) × ((k ≤ 2) × ((k < length (now y)) × ((13 * length (now y) ≤ length (now work)) × (now dy ≡ diffK k (now y))))) ⌝ }
-    ensures { λ r. ⌜ (part 0 (length (now (y .entry))) (now (work .exit)) ≡ certify k (now (y .entry)) lam (part (length (now (y .entry))) (length (now (y .entry)) - k) (now (work .entry))) .trend)
-        × ((r .primal ≡ certify k (now (y .entry)) lam (part (length (now (y .entry))) (length (now (y .entry)) - k) (now (work .entry))) .primal)
-        × ((r .dual ≡ certify k (now (y .entry)) lam (part (length (now (y .entry))) (length (now (y .entry)) - k) (now (work .entry))) .dual)
-        × Kept 0 (length (now (y .entry))) (now (work .entry)) (now (work .exit)))) ⌝ }
+    requires { ⌜ (1 ≤ k) × ((k ≤ 2) × ((k < length (now y)) × ((13 * length (now y) ≤ length (now work)) × (take (length (now y) - k) (now dy) ≡ diffK k (now y))))) ⌝ }
+    ensures { λ r. ⌜ Certified k (now (y .entry)) lam (now (work .entry)) (now (work .exit)) (r .primal) (r .dual) ⌝ }
 {
     let n = y.len();
     let e = n + (n - k);
-    certify_l1(&mut work[0..e], y, dy, lam, k)
+    certificate::certify_l1(&mut work[0..e], y, dy, lam, k)
 }
 
 // z = 0, mu1 = mu2 = 1, t = 1e-10, step infinite; the best gap is the first.
 fn start(work: &mut [f64], y: &[f64], dy: &[f64], lam: f64, k: usize) -> Run
-    requires { ⌜ (1 ≤ k) × ((k ≤ 2) × ((k < length (now y)) × ((13 * length (now y) ≤ length (now work)) × (now dy ≡ diffK k (now y))))) ⌝ }
+    requires { ⌜ (1 ≤ k) × ((k ≤ 2) × ((k < length (now y)) × ((13 * length (now y) ≤ length (now work)) × (take (length (now y) - k) (now dy) ≡ diffK k (now y))))) ⌝ }
     ensures { λ r. ⌜ ((g : List Float) → pointOf (length (now (y .entry))) (length (now (y .entry)) - k) (now (work .exit)) r ≡ start_of (problem k g (now (y .entry)) lam) (origin (length (now (y .entry)) - k)))
         × (Standing k (now (y .entry)) lam (length (now (y .entry))) (length (now (y .entry)) - k) (now (work .exit)) r
         × ((r .first ≡ r .gap) × ((r .lost ≡ false) × Kept 0 (13 * length (now (y .entry))) (now (work .entry)) (now (work .exit))))) ⌝ }
@@ -126,12 +108,12 @@ fn next_t(t: f64, step: f64, gap: f64, m: usize) -> f64
 
 // The Newton step on the point that stands after the n places of the trend.
 fn step_at(work: &mut [f64], dy: &[f64], lam: f64, u: f64, g: [f64; 3], k: usize, n: usize) -> Step
-    requires { ⌜ (k ≤ 2) × ((k < n) × ((13 * n ≤ length (now work)) × (n - k ≤ length (now dy)))) ⌝ }
-    ensures { λ r. ⌜ Stepped k g (now (dy .entry)) lam u n (n - k) (now (work .entry)) (now (work .exit)) r ⌝ }
+    requires { ⌜ (1 ≤ k) × ((k ≤ 2) × ((k < n) × ((13 * n ≤ length (now work)) × (n - k ≤ length (now dy))))) ⌝ }
+    ensures { λ r. ⌜ Stepped k g (take (n - k) (now (dy .entry))) lam u n (n - k) (now (work .entry)) (now (work .exit)) r ⌝ }
 {
     let m = n - k;
     let e = n + (6 * m + (m * (k + 1) + 3 * m));
-    newton_step::newton_step(&mut work[n..e], dy, lam, u, g, k, m)
+    newton_step::newton_step(&mut work[n..e], &dy[0..m], lam, u, g, k, m)
 }
 
 // The account after a step that ended with the pair p.
@@ -189,7 +171,7 @@ fn pivot_lost(r: Run) -> Run
 
 // One iteration.
 fn iterate(work: &mut [f64], y: &[f64], dy: &[f64], lam: f64, k: usize, g: [f64; 3], r: Run) -> Run
-    requires { ⌜ (1 ≤ k) × ((k ≤ 2) × ((k < length (now y)) × ((length (now y) ≤ 65536) × ((13 * length (now y) ≤ length (now work)) × ((now dy ≡ diffK k (now y))
+    requires { ⌜ (1 ≤ k) × ((k ≤ 2) × ((k < length (now y)) × ((length (now y) ≤ 65536) × ((13 * length (now y) ≤ length (now work)) × ((take (length (now y) - k) (now dy) ≡ diffK k (now y))
         × ((r .«n_iter» + 1 < 2 ^ 64) × ((r .improvements ≤ r .«n_iter») × ((r .stalled ≤ 10)
         × Standing k (now y) lam (length (now y)) (length (now y) - k) (now work) r)))))))) ⌝ }
     ensures { λ x. ⌜ Turned k g (now (y .entry)) lam (length (now (y .entry))) (length (now (y .entry)) - k) (now (work .entry)) (now (work .exit)) r x ⌝ }
@@ -206,7 +188,7 @@ fn iterate(work: &mut [f64], y: &[f64], dy: &[f64], lam: f64, k: usize, g: [f64;
 
 // The interior point search. work: the trend's n places; z, mu1, mu2; the trial's; the rows of the Newton system; dz, dmu1, dmu2.
 pub fn ipm_l1(work: &mut [f64], y: &[f64], dy: &[f64], lam: f64, tol: f64, max_iter: u64, k: usize) -> Run
-    requires { ⌜ (1 ≤ k) × ((k ≤ 2) × ((k < length (now y)) × ((length (now y) ≤ 65536) × ((13 * length (now y) ≤ length (now work)) × (now dy ≡ diffK k (now y)))))) ⌝ }
+    requires { ⌜ (1 ≤ k) × ((k ≤ 2) × ((k < length (now y)) × ((length (now y) ≤ 65536) × ((13 * length (now y) ≤ length (now work)) × (take (length (now y) - k) (now dy) ≡ diffK k (now y)))))) ⌝ }
     ensures { λ r. ⌜ Found k (now (y .entry)) lam tol «max_iter» (now (work .entry)) (now (work .exit)) r ⌝ }
 {
     let g = differences::gram_offsets(k);

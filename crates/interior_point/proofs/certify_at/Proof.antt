@@ -4,7 +4,7 @@ use mathlib.Core.Bool.{Bool, true, false}
 use mathlib.Core.List.{List}
 use Prim.Native.Nat.{ℕ, _≤_, _<_, _-_, _+_, _*_, _^_}
 use native.Mathlib.Omega.{arith}
-use lib.ListN.{length, take, drop, length-drop}
+use lib.ListN.{length, take, drop, length-drop, length-take}
 use lib.Seq.{length-take-le}
 use lib.Ieee.{Float}
 use Rattle.vectors.specs.Vec.{part}
@@ -14,7 +14,7 @@ use Rattle.interior_point.proofs.certify_at.Statement.{statement}
 use Rattle.interior_point.proofs.certify_at.Tie as tie
 use Rattle.interior_point.proofs.certify_at.Reads as reads
 use Rattle.interior_point.proofs.certify_at.Lts as lts
-use Rattle.interior_point.proofs.certify_l1.Reads as certify-l1-reads
+use Rattle.certificate.proofs.certify_l1.Reads as certify-l1-reads
 
 sub-e : tie.Need-sub-e
 sub-e c = search needs
@@ -52,10 +52,12 @@ returns c = let a = c .before .before .before .before .before .before .before .a
     let l : length x ≡ n + m = c .before .before .certify-l1 .kept .0 ∙ length-take-le (n + m - 0) (drop 0 s) (omega (arith, length-drop 0 s)) ∙ d in
     let z = z-in (n + m) n m s x refl fits l in
     rw d
-    (trend-put (n + m) n m s x refl fits l ∙ f .0 ∙ ap (λ (v : List Float). certify (a .k) (a .y .now) (a .lam) v .trend) z,
-     (f .1 .0 ∙ ap (λ (v : List Float). certify (a .k) (a .y .now) (a .lam) v .primal) z,
-      (f .1 .1 .0 ∙ ap (λ (v : List Float). certify (a .k) (a .y .now) (a .lam) v .dual) z,
-       kept-trend (n + m) n m s x refl fits l (rw d at (f .1 .1 .1)))))
+    (record {
+      trend = trend-put (n + m) n m s x refl fits l ∙ f .trend ∙ ap (λ (v : List Float). certify (a .k) (a .y .now) (a .lam) v .trend) z;
+      primal-is = f .primal-is ∙ ap (λ (v : List Float). certify (a .k) (a .y .now) (a .lam) v .primal) z;
+      dual-is = f .dual-is ∙ ap (λ (v : List Float). certify (a .k) (a .y .now) (a .lam) v .dual) z;
+      kept = kept-trend (n + m) n m s x refl fits l (rw d at (f .kept));
+    })
 
 pub certify-at-spec : {M : Type 1} → statement M
 certify-at-spec =

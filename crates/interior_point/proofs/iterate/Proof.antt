@@ -7,9 +7,8 @@ use native.Mathlib.Omega.{arith}
 use lib.ListN.{length, take, drop, length-drop}
 use lib.Seq.{length-take-le}
 use lib.Ieee.{Float}
-use Rattle.differences.proofs.Laws.{length-diffK}
 use Rattle.newton.specs.Places.{point}
-use Rattle.interior_point.proofs.Places.{rows-small}
+use Rattle.interior_point.proofs.Places.{rows-small, dy-long}
 use Rattle.interior_point.proofs.Turns.{turned-lost, turned-moved}
 use Rattle.interior_point.proofs.iterate.Statement.{statement}
 use Rattle.interior_point.proofs.iterate.Tie as tie
@@ -29,8 +28,7 @@ next-t-requires c κs = search needs
 
 step-at-requires : tie.Need-step-at-requires
 step-at-requires c κs = let a = c .before .before .before .before .before .args in
-    let l : length (a .dy .now) ≡ length (a .y .now) - a .k = ap length (c .before .before .before .before .before .pre .1 .1 .1 .1 .1 .0) ∙ length-diffK (a .k) (a .y .now) in
-    (search needs, (search needs, (search needs, omega (arith, l))))
+    (search needs, (search needs, (search needs, (search needs, dy-long (a .k) (a .y .now) (a .dy .now) (c .before .before .before .before .before .pre .1 .1 .1 .1 .1 .0)))))
 
 enum-known-w : tie.Need-enum-known-w
 enum-known-w c = search needs
@@ -52,7 +50,7 @@ returns c = let a = c .before .before .before .before .before .before .before .b
     let h = rows-small (a .k) m (pre .1 .0) in
     let w = c .before .before .before .before .before .step-at in
     rw (c .pivot-lost .ensures)
-    (turned-lost (a .k) (a .g) (a .y .now) (a .dy .now) (a .lam) n m (a .work .now) (w .last .0) (a .r) (c .before .before .before .before .before .before .before .next-t .result) (w .result)
+    (turned-lost (a .k) (a .g) (a .y .now) (take m (a .dy .now)) (a .lam) n m (a .work .now) (w .last .0) (a .r) (c .before .before .before .before .before .before .before .next-t .result) (w .result)
     (pre .1 .1 .1 .1 .1 .0) (omega (arith, h)) (pre .1 .1 .1 .1 .1 .1 .1 .1 .1) (c .before .before .before .before .before .before .before .next-t .ensures (point n m (a .work .now))) (w .ensures) (c .before .enum-told .given .1))
 
 certify-at-requires : tie.Need-certify-at-requires
@@ -74,9 +72,9 @@ returns-2 c = let a = c .before .before .before .before .before .before .before 
     let h = rows-small (a .k) m (pre .1 .0) in
     let w = c .before .before .before .before .before .before .before .before .before .before .step-at in
     let f = c .before .before .before .certify-at in
-    turned-moved (a .k) (a .g) (a .y .now) (a .dy .now) (a .lam) n m (a .work .now) (w .last .0) (a .r) (c .before .before .before .before .before .before .before .before .before .before .before .before .next-t .result) (w .result)
+    turned-moved (a .k) (a .g) (a .y .now) (take m (a .dy .now)) (a .lam) n m (a .work .now) (w .last .0) (a .r) (c .before .before .before .before .before .before .before .before .before .before .before .before .next-t .result) (w .result)
     (pre .1 .1 .1 .1 .1 .0) (omega (arith, h)) (pre .1 .1 .1 .1 .1 .1 .1 .1 .1) (c .before .before .before .before .before .before .before .before .before .before .before .before .next-t .ensures (point n m (a .work .now))) (w .ensures)
-    (c .before .before .before .before .before .before .w .given .0 .0) (f .result .primal) (f .result .dual) (f .last .0) (c .settled .result) (f .ensures .0) (f .ensures .1 .0) (f .ensures .1 .1 .0) (f .ensures .1 .1 .1) (c .settled .ensures)
+    (c .before .before .before .before .before .before .w .given .0 .0) (f .result .primal) (f .result .dual) (f .last .0) (c .settled .result) (f .ensures .trend) (f .ensures .primal-is) (f .ensures .dual-is) (f .ensures .kept) (c .settled .ensures)
     (c .before .before .before .before .before .before .w .given .1)
 
 pub iterate-spec : {M : Type 1} → statement M

@@ -65,7 +65,7 @@ returns c = let a = c .before .before .before .before .before .before .before .b
     let w = c .before .before .before .before .before .before .before .fill2 in
     let f = c .before .before .before .certify-at in
     started (a .k) (a .y .now) (a .lam) n m (a .work .now) (v .last .0) (w .last .0) (f .last .0) (f .result .primal) (f .result .dual) (omega (arith, c .before .before .before .before .before .before .before .before .before .before .before .before .before .before .before .before .pre))
-    (v .ensures) (w .ensures) (f .ensures .0) (f .ensures .1 .0) (f .ensures .1 .1 .0) (f .ensures .1 .1 .1)
+    (v .ensures) (w .ensures) (f .ensures .trend) (f .ensures .primal-is) (f .ensures .dual-is) (f .ensures .kept)
 
 pub start-spec : {M : Type 1} → statement M
 start-spec =
