@@ -1,21 +1,20 @@
 -- A Newton step and a certificate on a part of the run. Assumes nothing.
-use mathlib.Core.Path.{_≡_, refl, sym, ap, _∙_}
+use mathlib.Core.Path.{_≡_, sym, ap, _∙_}
 use mathlib.Core.Logic.{_⊎_, inl, inr, ⊎-elim}
 use mathlib.Core.Bool.{cond}
-use mathlib.Core.List.{List, _++_}
+use mathlib.Core.List.{List}
 use Prim.Native.Nat.{ℕ, zero, min, _+_, _-_, _*_, _≤_, _<_}
 use native.Mathlib.Nat.{zero-add, eq-zero-or-pos, mul-le-mul-left, min-le-right}
 use native.Mathlib.Omega.{arith}
-use lib.ListN.{length, getD, take, drop, length-take}
+use lib.ListN.{length, take, drop, length-take}
 use lib.Seq.{getD-take, getD-drop}
 use lib.Ieee.{Float, nan}
-use Rattle.vectors.specs.Vec.{at, list, partOf, part, Kept, Written}
-use Rattle.vectors.proofs.Laws.{kept-then, list-ext}
-use Rattle.vectors.proofs.Parts.{putBack, getD-put, kept-put, part-put, partOf-range, part-below, part-above}
+use Rattle.vectors.specs.Vec.{at, part, Kept}
+use Rattle.vectors.proofs.Parts.{putBack, getD-put, kept-put, part-put, partOf-range}
 use Rattle.differences.specs.Diff.{diffK}
 use Rattle.differences.proofs.Laws.{length-diffK}
 use Rattle.banded.specs.Rows.{sound}
-use Rattle.newton.specs.Newton.{Dual, system, searchLine, taken}
+use Rattle.newton.specs.Newton.{system, searchLine, taken}
 use Rattle.newton.specs.Places.{point}
 use Rattle.newton_step.specs.Stepped.{stepOf, Stepped}
 use Rattle.newton_step.specs.declared.Step.{Step}

@@ -2,7 +2,7 @@
 use mathlib.Core.Path.{_≡_, refl, sym, ap, _∙_}
 use mathlib.Core.Bool.{Bool, true, false, cond, not}
 use mathlib.Core.List.{List}
-use Prim.Native.Nat.{ℕ, zero, suc, _+_, _-_, _*_, _≤_, _<_}
+use Prim.Native.Nat.{ℕ, suc, _+_, _-_, _*_, _≤_, _<_}
 use native.Mathlib.Numerals.{add-one}
 use native.Mathlib.Omega.{arith}
 use borrow.Author.Tests.{ltb-true, ltb-false}
@@ -10,15 +10,15 @@ use lib.Dec.{eqb, ltb}
 use lib.ListN.{length}
 use lib.Ieee.{Float, nan, lt, le}
 use Rattle.float64.specs.Ops.{_⊖_, _⊗_, _⊘_, c0, c1, c1e-10, infinity}
-use Rattle.vectors.specs.Vec.{at, list, partOf, part, Kept, Written}
+use Rattle.vectors.specs.Vec.{at, partOf, part, Kept, Written}
 use Rattle.vectors.proofs.Laws.{kept-then, kept-none, list-ext, written-kept}
 use Rattle.vectors.proofs.Parts.{length-part, part-below, part-above}
 use Rattle.differences.specs.Diff.{diffK, gramRow}
 use Rattle.banded.specs.Rows.{sound}
-use Rattle.certificate.specs.Certificate.{Certificate, certify, gapOf}
+use Rattle.certificate.specs.Certificate.{certify, gapOf}
 use Rattle.step_bound.specs.Search.{Turn, lost, moved, Problem, Point, Ended, Reason, small, spent, stalled, pivot, ended, enough, better, advance, mark, start, run}
-use Rattle.step_bound.proofs.Trace.{run-small, run-spent, run-stalled, run-lost, run-moved, afterLoss, idle-room}
-use Rattle.newton.specs.Newton.{Dual, Trial, system, searchLine, taken}
+use Rattle.step_bound.proofs.Trace.{run-small, run-spent, run-stalled, run-lost, run-moved, idle-room}
+use Rattle.newton.specs.Newton.{Dual, system, searchLine, taken}
 use Rattle.newton.specs.Places.{point}
 use Rattle.newton.proofs.Lines.{point-above}
 use Rattle.newton_step.specs.Stepped.{stepOf, Stepped}

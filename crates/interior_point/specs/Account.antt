@@ -1,4 +1,4 @@
--- The code's account of a search, `Run`, beside its definition. n is the length of the series and m of the dual point.
+-- Document 01, "Interior point": the code's account of the search, Run, beside the definition. n is the length of the series and m of the dual point.
 use mathlib.Core.Path.{_≡_}
 use mathlib.Core.Bool.{Bool, true, false, cond, not}
 use mathlib.Core.List.{List}
@@ -6,12 +6,11 @@ use Prim.Native.Nat.{ℕ, suc, _+_, _-_, _*_, _≤_}
 use lib.Dec.{eqb, ltb}
 use lib.ListN.{length}
 use lib.Ieee.{Float, lt, le}
-use Rattle.float64.specs.Ops.{_⊖_, _⊗_, c0, c1}
+use Rattle.float64.specs.Ops.{_⊖_, _⊗_}
 use Rattle.vectors.specs.Vec.{part, Kept}
 use Rattle.differences.specs.Diff.{gramRow}
 use Rattle.certificate.specs.Certificate.{Certificate, certify, gapOf}
 use Rattle.step_bound.specs.Search.{Problem, Point, Ended, ended, pivot, mark, run}
-use Rattle.newton.specs.Newton.{Dual}
 use Rattle.newton.specs.Places.{point}
 use Rattle.interior_point.specs.InteriorPoint.{State, problem, origin, interiorPoint}
 use Rattle.interior_point.specs.declared.Run.{Run}

@@ -1,21 +1,17 @@
 -- A run read in parts: what the loops of newton have done.
 use mathlib.Core.Path.{_≡_, refl, sym, ap, _∙_}
 use mathlib.Core.List.{List}
-use mathlib.Core.Bool.{Bool, true, false}
-use Prim.Native.Nat.{ℕ, zero, suc, _+_, _-_, _*_, _≤_, _<_}
+use mathlib.Core.Bool.{true, false}
+use Prim.Native.Nat.{ℕ, _+_, _-_, _*_, _≤_, _<_}
 use native.Mathlib.Omega.{arith}
 use native.Mathlib.Numerals.{add-one}
-use native.Mathlib.Nat.{zero-add}
-use lib.ListN.{length, getD, set, take, drop, length-drop}
-use lib.Seq.{ext-getD, getD-take, getD-drop, length-take-le}
+use lib.ListN.{length, set}
 use lib.Ieee.{Float, nan, inf, fin, binary64, add, mul, lt, isNan, ofBits}
-use Rattle.vectors.specs.Sums.{sumTo}
-use Rattle.vectors.specs.Vec.{at, list, Written}
-use Rattle.vectors.proofs.Laws.{length-list, at-list, list-ext, up}
+use Rattle.vectors.specs.Vec.{at, list, Written, partOf, part, Kept}
+use Rattle.vectors.proofs.Laws.{list-ext, up}
 use Rattle.vectors.proofs.Parts.{length-part, at-part}
 use Rattle.matrices.specs.Gram.{product}
-use Rattle.newton.specs.Newton.{Dual, squareAt, squareOf, squares, capped, capTo, stepped, along}
-use Rattle.vectors.specs.Vec.{partOf, part, Kept}
+use Rattle.newton.specs.Newton.{squareAt, squareOf, capped, capTo, stepped, along}
 use Rattle.newton.specs.Places.{point}
 
 pub square-place : (k : ℕ) (g dy : List Float) (lam u : Float) (m : ℕ) (s : List Float) (i : ℕ) (q : Float) → i < m → q ≡ product k g (part 0 m s) i

@@ -1,23 +1,20 @@
 -- What stays where a run is written elsewhere, and the ways through the line search.
-use mathlib.Core.Path.{_≡_, refl, sym, ap, _∙_, subst}
+use mathlib.Core.Path.{_≡_, refl, sym, ap, _∙_}
 use mathlib.Core.List.{List}
-use mathlib.Core.Bool.{Bool, true, false, cond, _&&_}
+use mathlib.Core.Bool.{Bool, true, false, _&&_}
 use Prim.Native.Nat.{ℕ, zero, suc, _+_, _-_, _*_, _≤_, _<_}
 use native.Mathlib.Omega.{arith}
 use native.Mathlib.Numerals.{add-one}
 use borrow.Author.Tests.{lt-ltb, le-ltb}
 use Rattle.matrices.specs.Gram.{gram}
-use lib.ListN.{length, getD, set, take, drop, length-drop}
-use lib.Seq.{ext-getD, getD-take, getD-drop, length-take-le, take-all}
-use lib.Ieee.{Float, nan, binary64, add, mul, lt, ofBits}
-use Rattle.vectors.specs.Vec.{at, list, Written}
-use Rattle.vectors.proofs.Laws.{length-list, at-list, list-ext, up}
-use Rattle.newton.specs.Newton.{Dual, Trial, dmu1At, dmu2At, direction, along, norm, lower, accepted, trials, barrier, system}
-use Rattle.vectors.specs.Vec.{part, Kept}
+use lib.ListN.{length, take, drop}
+use lib.Ieee.{Float, nan, binary64, add, mul, ofBits}
+use Rattle.vectors.specs.Vec.{at, list, part, Kept}
+use Rattle.vectors.proofs.Laws.{list-ext, kept-then}
+use Rattle.newton.specs.Newton.{Dual, dmu1At, dmu2At, direction, along, norm, lower, accepted, trials, barrier, system}
 use Rattle.newton.specs.Places.{point, searchedFrom, Searched}
 use Rattle.vectors.specs.Sums.{inside}
-use Rattle.vectors.proofs.Laws.{kept-then}
-use Rattle.vectors.proofs.Parts.{length-part, at-part, range-part, part-below, part-above, partOf-range}
+use Rattle.vectors.proofs.Parts.{length-part, at-part, part-below, part-above, partOf-range}
 
 pub point-below : {a n : ℕ} {s₀ s : List Float} (e m : ℕ) → Kept a n s₀ s → e + m + m + m ≤ a → point e m s ≡ point e m s₀
 point-below e m w h =

@@ -9,7 +9,7 @@ use Rattle.float64.specs.Helpers.{minOf}
 use Rattle.float64.specs.Sqrt.{sqrtOf}
 use Rattle.vectors.specs.Sums.{sumTo, inside}
 use Rattle.vectors.specs.Vec.{at, list}
-use Rattle.banded.specs.Rows.{Matrix, rows, sound}
+use Rattle.banded.specs.Rows.{Matrix, rows}
 use Rattle.banded.specs.Solve.{solve}
 use Rattle.matrices.specs.Gram.{gram, product}
 use Rattle.float64.specs.Ops.{_⊕_, _⊖_, _⊗_, _⊘_, c0, c1, half, c0·99, c0·01}

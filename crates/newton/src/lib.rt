@@ -1,3 +1,4 @@
+// The direction of a Newton step from a dual point, and the line search along it. A point stands in a run as z, mu1, mu2, m places each.
 ghost use mathlib.Core.Path.{_≡_};
 ghost use Prim.Native.Nat.{_≤_, _+_, _*_};
 ghost use lib.ListN.{length};
@@ -9,7 +10,7 @@ ghost use Rattle.vectors.specs.Vec.{part, Kept};
 ghost use Rattle.newton.specs.Places.{point, Searched};
 
 // What one place adds to the square of the residual: q is (D D') z there, u is 1 / t.
-pub fn residual_of(q: f64, dy: f64, z: f64, mu1: f64, mu2: f64, lam: f64, u: f64) -> f64
+fn residual_of(q: f64, dy: f64, z: f64, mu1: f64, mu2: f64, lam: f64, u: f64) -> f64
     ensures { λ r. ⌜ r ≡ squareAt lam u q dy z mu1 mu2 ⌝ }
 {
     let f1 = z - lam;
@@ -20,8 +21,8 @@ pub fn residual_of(q: f64, dy: f64, z: f64, mu1: f64, mu2: f64, lam: f64, u: f64
     rd * rd + rc1 * rc1 + rc2 * rc2
 }
 
-// The square of the residual at the point in s: z, mu1, mu2, m places each.
-pub fn residual(s: &[f64], dy: &[f64], lam: f64, u: f64, g: [f64; 3], k: usize, m: usize) -> f64
+// The square of the residual at the point in the first places of s.
+fn residual(s: &[f64], dy: &[f64], lam: f64, u: f64, g: [f64; 3], k: usize, m: usize) -> f64
     requires { ⌜ (k ≤ 2) × ((m + m + m ≤ length (now s)) × (m ≤ length (now dy))) ⌝ }
     ensures { λ r. ⌜ r ≡ squares k g (now (dy .entry)) lam u (point 0 m (now (s .entry))) ⌝ }
 {
@@ -66,7 +67,7 @@ fn cap_of(step: f64, mu: f64, dmu: f64) -> f64
 }
 
 // The greatest step, for the point in s and the direction from b on.
-pub fn cap(s: &[f64], b: usize, m: usize) -> f64
+fn cap(s: &[f64], b: usize, m: usize) -> f64
     requires { ⌜ (m + m + m ≤ b) × (b + m + m + m ≤ length (now s)) ⌝ }
     ensures { λ r. ⌜ r ≡ capTo (point 0 m (now (s .entry))) (point b m (now (s .entry))) m ⌝ }
 {
@@ -81,7 +82,7 @@ pub fn cap(s: &[f64], b: usize, m: usize) -> f64
 }
 
 // The point at a step from that in the first 3 m places, in the 3 m after them. From b on stands the direction.
-pub fn move_to(s: &mut [f64], b: usize, step: f64, m: usize)
+fn move_to(s: &mut [f64], b: usize, step: f64, m: usize)
     requires { ⌜ (6 * m ≤ b) × (b + 3 * m ≤ length (now s)) ⌝ }
     ensures { λ _. ⌜ (point (3 * m) m (now (s .exit)) ≡ along (point 0 m (now (s .entry))) (point b m (now (s .entry))) step)
         × Kept (3 * m) (3 * m) (now (s .entry)) (now (s .exit)) ⌝ }
@@ -141,9 +142,9 @@ fn low_enough(s: &[f64], dy: &[f64], lam: f64, u: f64, g: [f64; 3], k: usize, m:
     float64::sqrt(a) <= (1.0 - 0.01 * step) * old
 }
 
-pub struct Tried {
-    pub inside: bool,
-    pub good: bool,
+struct Tried {
+    inside: bool,
+    good: bool,
 }
 
 // One trial: the point at a step, whether it is inside, and whether it is accepted.

@@ -1,10 +1,9 @@
 -- One Newton step: the system solved, the directions, the line search and what is taken, one after the other. Assumes nothing.
-use mathlib.Core.Path.{_≡_, refl, sym, ap, _∙_}
+use mathlib.Core.Path.{_≡_, sym, ap, _∙_}
 use mathlib.Core.Bool.{Bool, true, false, cond}
 use mathlib.Core.List.{List}
-use Prim.Native.Nat.{ℕ, _+_, _-_, _*_, _≤_, _<_}
+use Prim.Native.Nat.{ℕ, _+_, _-_, _*_, _<_}
 use native.Mathlib.Omega.{arith}
-use lib.ListN.{length}
 use lib.Ieee.{Float, nan}
 use Rattle.vectors.specs.Vec.{at, part, Kept, Written}
 use Rattle.vectors.proofs.Laws.{kept-then, kept-none}
@@ -15,7 +14,7 @@ use Rattle.newton.specs.Newton.{Dual, Trial, system, newtonZ, direction, capTo,
 use Rattle.vectors.specs.Sums.{inside}
 use Rattle.newton.specs.Places.{point, Searched}
 use Rattle.newton.proofs.Lines.{point-below}
-use Rattle.newton_step.specs.Stepped.{stepOf, Stepped}
+use Rattle.newton_step.specs.Stepped.{Stepped}
 use Rattle.newton_step.specs.declared.Step.the-variants.{Lost, Moved}
 
 -- the trial copied over the point

@@ -6,7 +6,7 @@ use Prim.Native.Nat.{ℕ, _+_, _*_}
 use lib.Ieee.{Float}
 use Rattle.vectors.specs.Vec.{Kept}
 use Rattle.banded.specs.Rows.{sound}
-use Rattle.newton.specs.Newton.{Dual, system, searchLine, taken}
+use Rattle.newton.specs.Newton.{system, searchLine, taken}
 use Rattle.newton.specs.Places.{point}
 use Rattle.newton_step.specs.declared.Step.{Step}
 use Rattle.newton_step.specs.declared.Step.the-variants.{Lost, Moved}

@@ -1,20 +1,15 @@
 use borrow.Author.Needs.{needs}
-use mathlib.Core.Path.{_≡_, refl, sym, ap, _∙_}
-use mathlib.Core.Bool.{Bool, true, false}
+use mathlib.Core.Path.{_≡_, refl, ap, _∙_}
 use mathlib.Core.List.{List}
-use Prim.Native.Nat.{ℕ, _≤_, _<_, _-_, _+_, _*_, _^_}
+use Prim.Native.Nat.{_≤_, _-_, _+_}
 use native.Mathlib.Omega.{arith}
-use lib.ListN.{length, take, drop, length-drop, length-take}
+use lib.ListN.{length, take, drop, length-drop}
 use lib.Seq.{length-take-le}
 use lib.Ieee.{Float}
-use Rattle.vectors.specs.Vec.{part}
 use Rattle.certificate.specs.Certificate.{certify}
 use Rattle.interior_point.proofs.Places.{z-in, trend-put, kept-trend}
 use Rattle.interior_point.proofs.certify_at.Statement.{statement}
 use Rattle.interior_point.proofs.certify_at.Tie as tie
-use Rattle.interior_point.proofs.certify_at.Reads as reads
-use Rattle.interior_point.proofs.certify_at.Lts as lts
-use Rattle.certificate.proofs.certify_l1.Reads as certify-l1-reads
 
 sub-e : tie.Need-sub-e
 sub-e c = search needs

@@ -1,18 +1,11 @@
 use borrow.Author.Needs.{needs}
-use mathlib.Core.Path.{_≡_, refl, sym, ap, _∙_}
-use mathlib.Core.Bool.{Bool, true, false}
-use mathlib.Core.List.{List}
-use Prim.Native.Nat.{ℕ, _≤_, _<_, _-_, _+_, _*_, _^_}
+use mathlib.Core.Path.{_≡_, refl}
+use Prim.Native.Nat.{_≤_, _-_}
 use native.Mathlib.Omega.{arith}
-use lib.ListN.{length, take, drop, length-drop}
-use lib.Seq.{length-take-le}
-use lib.Ieee.{Float}
 use Rattle.vectors.specs.Vec.{Written}
 use Rattle.vectors.proofs.Laws.{none, up}
 use Rattle.interior_point.proofs.fill.Statement.{statement}
 use Rattle.interior_point.proofs.fill.Tie as tie
-use Rattle.interior_point.proofs.fill.Reads as reads
-use Rattle.interior_point.proofs.fill.Lts as lts
 
 abbrev Inv-loop : tie.InvT-loop
 Inv-loop s₀ a e v i₀ s i = (a ≤ i) × ((i ≤ e) × Written a i (λ j. v) s₀ s)

@@ -1,17 +1,8 @@
 use borrow.Author.Needs.{needs}
-use mathlib.Core.Path.{_≡_, refl, sym, ap, _∙_}
-use mathlib.Core.Bool.{Bool, true, false}
-use mathlib.Core.List.{List}
-use Prim.Native.Nat.{ℕ, _≤_, _<_, _-_, _+_, _*_, _^_}
-use native.Mathlib.Omega.{arith}
-use lib.ListN.{length, take, drop, length-drop}
-use lib.Seq.{length-take-le}
-use lib.Ieee.{Float}
+use Prim.Native.Nat.{_-_}
 use borrow.Author.Tests.{le-ltb, lt-ltb}
 use Rattle.interior_point.proofs.going.Statement.{statement}
 use Rattle.interior_point.proofs.going.Tie as tie
-use Rattle.interior_point.proofs.going.Reads as reads
-use Rattle.interior_point.proofs.going.Lts as lts
 
 returns : tie.Need-returns
 returns c = search needs

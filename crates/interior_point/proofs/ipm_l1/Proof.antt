@@ -1,22 +1,12 @@
 use borrow.Author.Needs.{needs}
-use mathlib.Core.Path.{_≡_, refl, sym, ap, _∙_}
-use mathlib.Core.Bool.{Bool, true, false}
-use mathlib.Core.List.{List}
-use Prim.Native.Nat.{ℕ, _≤_, _<_, _-_, _+_, _*_, _^_}
+use mathlib.Core.Path.{sym, _∙_}
+use Prim.Native.Nat.{_-_}
 use native.Mathlib.Omega.{arith}
-use lib.ListN.{length, take, drop, length-drop}
-use lib.Seq.{length-take-le}
-use lib.Ieee.{Float}
+use lib.ListN.{length}
 use borrow.Author.Tests.{ltb-true}
 use Rattle.interior_point.proofs.Turns.{Looping, loop-starts, goes-on, loop-goes, all-found}
 use Rattle.interior_point.proofs.ipm_l1.Statement.{statement}
 use Rattle.interior_point.proofs.ipm_l1.Tie as tie
-use Rattle.interior_point.proofs.ipm_l1.Reads as reads
-use Rattle.interior_point.proofs.ipm_l1.Lts as lts
-use Rattle.differences.proofs.gram_offsets.Reads as gram-offsets-reads
-use Rattle.interior_point.proofs.going.Reads as going-reads
-use Rattle.interior_point.proofs.iterate.Reads as iterate-reads
-use Rattle.interior_point.proofs.start.Reads as start-reads
 
 abbrev Inv-loop : tie.InvT-loop
 Inv-loop work₀ y dy lam tol max-iter k g r₀ work r = Looping k g y lam tol max-iter (length y) (length y - k) work₀ work r

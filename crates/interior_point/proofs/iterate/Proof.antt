@@ -1,24 +1,12 @@
 use borrow.Author.Needs.{needs}
-use mathlib.Core.Path.{_≡_, refl, sym, ap, _∙_}
-use mathlib.Core.Bool.{Bool, true, false}
-use mathlib.Core.List.{List}
-use Prim.Native.Nat.{ℕ, _≤_, _<_, _-_, _+_, _*_, _^_}
+use Prim.Native.Nat.{_-_}
 use native.Mathlib.Omega.{arith}
-use lib.ListN.{length, take, drop, length-drop}
-use lib.Seq.{length-take-le}
-use lib.Ieee.{Float}
+use lib.ListN.{length, take}
 use Rattle.newton.specs.Places.{point}
 use Rattle.interior_point.proofs.Places.{rows-small, dy-long}
 use Rattle.interior_point.proofs.Turns.{turned-lost, turned-moved}
 use Rattle.interior_point.proofs.iterate.Statement.{statement}
 use Rattle.interior_point.proofs.iterate.Tie as tie
-use Rattle.interior_point.proofs.iterate.Reads as reads
-use Rattle.interior_point.proofs.iterate.Lts as lts
-use Rattle.interior_point.proofs.certify_at.Reads as certify-at-reads
-use Rattle.interior_point.proofs.next_t.Reads as next-t-reads
-use Rattle.interior_point.proofs.pivot_lost.Reads as pivot-lost-reads
-use Rattle.interior_point.proofs.settled.Reads as settled-reads
-use Rattle.interior_point.proofs.step_at.Reads as step-at-reads
 
 sub-next-t : tie.Need-sub-next-t
 sub-next-t c = search needs

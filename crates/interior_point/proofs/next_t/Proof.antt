@@ -1,20 +1,11 @@
 use borrow.Author.Needs.{needs}
-use mathlib.Core.Path.{_≡_, refl, sym, ap, _∙_}
-use mathlib.Core.Bool.{Bool, true, false}
-use mathlib.Core.List.{List}
-use Prim.Native.Nat.{ℕ, _≤_, _<_, _-_, _+_, _*_, _^_}
+use Prim.Native.Nat.{_-_, _^_}
 use native.Mathlib.Omega.{arith}
-use lib.ListN.{length, take, drop, length-drop}
-use lib.Seq.{length-take-le}
-use lib.Ieee.{Float}
 use lib.Dec.{le→leb}
 use lib.Ieee.{inFloat}
 use Rattle.interior_point.specs.InteriorPoint.{nextT}
 use Rattle.interior_point.proofs.next_t.Statement.{statement}
 use Rattle.interior_point.proofs.next_t.Tie as tie
-use Rattle.interior_point.proofs.next_t.Reads as reads
-use Rattle.interior_point.proofs.next_t.Lts as lts
-use Rattle.float64.proofs.max.Reads as max-reads
 
 int-to-float-max : tie.Need-int-to-float-max
 unfolding inFloat

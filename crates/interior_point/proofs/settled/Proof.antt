@@ -1,16 +1,8 @@
 use borrow.Author.Needs.{needs}
-use mathlib.Core.Path.{_≡_, refl, sym, ap, _∙_}
-use mathlib.Core.Bool.{Bool, true, false}
-use mathlib.Core.List.{List}
-use Prim.Native.Nat.{ℕ, _≤_, _<_, _-_, _+_, _*_, _^_}
-use native.Mathlib.Omega.{arith}
-use lib.ListN.{length, take, drop, length-drop}
-use lib.Seq.{length-take-le}
-use lib.Ieee.{Float}
+use mathlib.Core.Path.{refl}
+use Prim.Native.Nat.{_-_}
 use Rattle.interior_point.proofs.settled.Statement.{statement}
 use Rattle.interior_point.proofs.settled.Tie as tie
-use Rattle.interior_point.proofs.settled.Reads as reads
-use Rattle.interior_point.proofs.settled.Lts as lts
 
 add-t8 : tie.Need-add-t8
 add-t8 c = search needs

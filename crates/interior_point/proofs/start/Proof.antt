@@ -1,26 +1,11 @@
 use borrow.Author.Needs.{needs}
-use mathlib.Core.Path.{_≡_, refl, sym, ap, _∙_}
-use mathlib.Core.Bool.{Bool, true, false}
-use mathlib.Core.List.{List}
-use Prim.Native.Nat.{ℕ, _≤_, _<_, _-_, _+_, _*_, _^_}
+use Prim.Native.Nat.{_-_}
 use native.Mathlib.Omega.{arith}
-use lib.ListN.{length, take, drop, length-drop}
-use lib.Seq.{length-take-le}
-use lib.Ieee.{Float}
+use lib.ListN.{length}
 use lib.Ieee.{nanBits}
-use Rattle.float64.specs.Ops.{_⊖_}
-use Rattle.vectors.specs.Vec.{part, Kept}
-use Rattle.vectors.proofs.Laws.{kept-then}
-use Rattle.vectors.proofs.Parts.{part-above}
-use Rattle.certificate.specs.Certificate.{certify, gapOf}
-use lib.Ieee.{nan}
-use Rattle.interior_point.proofs.Turns.{origin-stands, start-is, started}
+use Rattle.interior_point.proofs.Turns.{started}
 use Rattle.interior_point.proofs.start.Statement.{statement}
 use Rattle.interior_point.proofs.start.Tie as tie
-use Rattle.interior_point.proofs.start.Reads as reads
-use Rattle.interior_point.proofs.start.Lts as lts
-use Rattle.interior_point.proofs.certify_at.Reads as certify-at-reads
-use Rattle.interior_point.proofs.fill.Reads as fill-reads
 
 sub-a : tie.Need-sub-a
 sub-a c = search needs

@@ -1,18 +1,12 @@
 use borrow.Author.Needs.{needs}
-use mathlib.Core.Path.{_≡_, refl, sym, ap, _∙_}
-use mathlib.Core.Bool.{Bool, true, false}
-use mathlib.Core.List.{List}
-use Prim.Native.Nat.{ℕ, _≤_, _<_, _-_, _+_, _*_, _^_}
+use mathlib.Core.Path.{_≡_, refl, _∙_}
+use Prim.Native.Nat.{_≤_, _-_, _+_, _*_}
 use native.Mathlib.Omega.{arith}
-use lib.ListN.{length, take, drop, length-drop, length-take}
+use lib.ListN.{length, take, drop, length-drop}
 use lib.Seq.{length-take-le}
-use lib.Ieee.{Float}
 use Rattle.interior_point.proofs.Places.{rows-small, stepped-at, first-places}
 use Rattle.interior_point.proofs.step_at.Statement.{statement}
 use Rattle.interior_point.proofs.step_at.Tie as tie
-use Rattle.interior_point.proofs.step_at.Reads as reads
-use Rattle.interior_point.proofs.step_at.Lts as lts
-use Rattle.newton_step.proofs.newton_step.Reads as newton-step-reads
 
 sub-m : tie.Need-sub-m
 sub-m c = search needs

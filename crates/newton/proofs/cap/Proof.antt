@@ -1,21 +1,14 @@
 use borrow.Author.Needs.{needs}
-use mathlib.Core.Path.{_≡_, refl, sym, ap, _∙_}
-use Prim.Native.Nat.{ℕ, suc, _≤_, _<_, _-_, _+_, _*_}
+use mathlib.Core.Path.{_≡_, refl, _∙_}
+use Prim.Native.Nat.{_≤_, _-_}
 use native.Mathlib.Omega.{arith}
-use lib.ListN.{length}
 use mathlib.Core.Bool.{false}
 use lib.Ieee.{isNan}
-use Rattle.vectors.specs.Vec.{at, Written}
-use Rattle.vectors.proofs.Laws.{none, up}
 use Rattle.newton.specs.Newton.{capTo}
-use Rattle.vectors.specs.Vec.{part, Kept}
 use Rattle.newton.specs.Places.{point}
 use Rattle.newton.proofs.Laws.{cap-more, one-number}
 use Rattle.newton.proofs.cap.Statement.{statement}
 use Rattle.newton.proofs.cap.Tie as tie
-use Rattle.newton.proofs.cap.Reads as reads
-use Rattle.newton.proofs.cap.Lts as lts
-use Rattle.newton.proofs.cap_of.Reads as cap-of-reads
 
 abbrev Inv-loop : tie.InvT-loop
 Inv-loop s b m step₀ i₀ step i = (i ≤ m) × ((step ≡ capTo (point 0 m s) (point b m s) i) × (isNan step ≡ false))

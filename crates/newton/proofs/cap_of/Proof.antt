@@ -1,11 +1,8 @@
-use mathlib.Core.Path.{_≡_, refl}
 use Rattle.float64.specs.Helpers.{minOf}
 use Rattle.newton.specs.Newton.{capped}
 use Rattle.newton.proofs.Laws.{less-number}
 use Rattle.newton.proofs.cap_of.Statement.{statement}
 use Rattle.newton.proofs.cap_of.Tie as tie
-use Rattle.newton.proofs.cap_of.Reads as reads
-use Rattle.newton.proofs.cap_of.Lts as lts
 
 returns : tie.Need-returns
 unfolding capped minOf

@@ -1,20 +1,12 @@
 use borrow.Author.Needs.{needs}
 use borrow.Author.Tests.{not-true, not-false}
-use mathlib.Core.Path.{_≡_, refl, sym, ap, _∙_}
+use mathlib.Core.Path.{_≡_, refl}
 use mathlib.Core.Bool.{true, false}
-use Prim.Native.Nat.{ℕ, _≤_, _<_, _-_, _+_, _*_}
+use Prim.Native.Nat.{_-_, _+_, _*_}
 use native.Mathlib.Omega.{arith}
-use lib.ListN.{length}
 use Rattle.newton_step.proofs.Steps.{lost-step, moved-step}
 use Rattle.newton_step.proofs.newton_step.Statement.{statement}
 use Rattle.newton_step.proofs.newton_step.Tie as tie
-use Rattle.newton_step.proofs.newton_step.Reads as reads
-use Rattle.newton_step.proofs.newton_step.Lts as lts
-use Rattle.newton_system.proofs.newton_z.Reads as newton-z-reads
-use Rattle.newton_step.proofs.take_trial.Reads as take-trial-reads
-use Rattle.newton.proofs.directions.Reads as directions-reads
-use Rattle.newton.proofs.line_search.Reads as line-search-reads
-use Rattle.float64.proofs.sqrt.Reads as sqrt-reads
 
 mul-a : tie.Need-mul-a
 mul-a c = search needs

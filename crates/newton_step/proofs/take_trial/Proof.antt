@@ -1,19 +1,15 @@
 use borrow.Author.Needs.{needs}
 use borrow.Author.Tests.{not-true, not-false}
-use mathlib.Core.Path.{_≡_, refl, sym, ap, _∙_}
-use mathlib.Core.Bool.{true, false, cond}
-use Prim.Native.Nat.{ℕ, _≤_, _<_, _-_, _+_, _*_}
+use mathlib.Core.Path.{_≡_, _∙_}
+use mathlib.Core.Bool.{true, false}
+use Prim.Native.Nat.{_≤_, _<_, _-_, _+_, _*_}
 use native.Mathlib.Omega.{arith}
 use lib.ListN.{length}
 use Rattle.vectors.specs.Vec.{at, Written}
 use Rattle.vectors.proofs.Laws.{none, up, kept-none}
-use Rattle.newton.specs.Newton.{Dual}
-use Rattle.newton.specs.Places.{point}
 use Rattle.newton_step.proofs.Steps.{copied}
 use Rattle.newton_step.proofs.take_trial.Statement.{statement}
 use Rattle.newton_step.proofs.take_trial.Tie as tie
-use Rattle.newton_step.proofs.take_trial.Reads as reads
-use Rattle.newton_step.proofs.take_trial.Lts as lts
 
 abbrev Inv-loop : tie.InvT-loop
 Inv-loop s₀ m inside' c i₀ s i = (i ≤ c) × Written 0 i (λ j. at s₀ (c + j)) s₀ s
