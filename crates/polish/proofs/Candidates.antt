@@ -38,7 +38,7 @@ module _ (k q n : ℕ) (g dy : List Float) (lam : Float) (v : List ℕ) (s₀ s�
     (right : part (q * (k + 1)) q s₂ ≡ side k g dy lam n v q v) (two : Kept (q * (k + 1)) q s₁ s₂) (size : length s₃ ≡ length s₂)
     (rest : drop (q * (k + 1) + q) s₃ ≡ drop (q * (k + 1) + q) s₂)
     (made : (a : Matrix) → take (q * (k + 1)) s₂ ≡ concat (matrix k a q)
-      → (ok ≡ sound k a q) × (ok ≡ true → take q (drop (q * (k + 1)) s₃) ≡ solve k (rows k a q) (take q (drop (q * (k + 1)) s₂)))) where
+    → (ok ≡ sound k a q) × (ok ≡ true → take q (drop (q * (k + 1)) s₃) ≡ solve k (rows k a q) (take q (drop (q * (k + 1)) s₂)))) where
   abbrev b : ℕ
   b = q * (k + 1)
 
@@ -56,8 +56,8 @@ module _ (k q n : ℕ) (g dy : List Float) (lam : Float) (v : List ℕ) (s₀ s�
       let a = compressed k g f in
       let m = made a (holds f e) in
       let r : part b q s₂ ≡ side k g dy lam n v q f =
-        right ∙ list-ext q (λ r. rightOf k g dy lam (heldBy n v) (n - k) (getD v r 0)) (λ r. rightOf k g dy lam (heldBy n v) (n - k) (getD f r 0))
-          (λ j l. ap (rightOf k g dy lam (heldBy n v) (n - k)) (e j l)) in
+      right ∙ list-ext q (λ r. rightOf k g dy lam (heldBy n v) (n - k) (getD v r 0)) (λ r. rightOf k g dy lam (heldBy n v) (n - k) (getD f r 0))
+      (λ j l. ap (rightOf k g dy lam (heldBy n v) (n - k)) (e j l)) in
       (m .0, λ t. sym (middle b q s₃ (omega arith)) ∙ m .1 t ∙ ap (solve k (rows k a q)) (middle b q s₂ (omega arith) ∙ r))
 
   pub settled-kept : Kept 0 (b + q) s₀ s₃
@@ -73,7 +73,7 @@ module _ (k q n : ℕ) (g dy : List Float) (lam : Float) (v : List ℕ) (s₀ s�
 
   pub settled-all : (g′ : List Float) → g ≡ g′
       → ((f : List ℕ) → ((j : ℕ) → j < q → getD v j 0 ≡ getD f j 0)
-        → (ok ≡ sound k (compressed k g′ f) q) × (ok ≡ true → part b q s₃ ≡ solve k (rows k (compressed k g′ f) q) (side k g′ dy lam n v q f)))
+      → (ok ≡ sound k (compressed k g′ f) q) × (ok ≡ true → part b q s₃ ≡ solve k (rows k (compressed k g′ f) q) (side k g′ dy lam n v q f)))
       × Kept 0 (b + q) s₀ s₃
   settled-all g′ e = rw (← e) (settled, settled-kept)
 
@@ -103,8 +103,8 @@ module _ {h : ℕ → Hold} {n m q : ℕ} {v : List ℕ} (w : Marks h n m v q) w
   solution-is k g dy lam x d e =
       let f = freeTo h m in
       let r : side k g dy lam n v q f ≡ list q (λ r. rightOf k g dy lam h m (getD f r 0)) =
-        rw (← d) (list-ext q (λ r. rightOf k g dy lam (heldBy n v) m (getD f r 0)) (λ r. rightOf k g dy lam h m (getD f r 0))
-          (λ j l. right-ext k g dy lam (heldBy n v) h m (getD f j 0) held-by)) in
+      rw (← d) (list-ext q (λ r. rightOf k g dy lam (heldBy n v) m (getD f r 0)) (λ r. rightOf k g dy lam h m (getD f r 0))
+      (λ j l. right-ext k g dy lam (heldBy n v) h m (getD f j 0) held-by)) in
       e ∙ ap (solve k (rows k (compressed k g f) q)) r ∙ rw (w .count)
 
   -- and its places, where x is what stands in the l places from c on
@@ -127,7 +127,7 @@ module _ {h : ℕ → Hold} {n m q : ℕ} {v : List ℕ} (w : Marks h n m v q) w
       ap (λ (z : Hold). cond (isFree z) (at x (length (freeTo (heldBy n v) i))) (heldAt lam z)) t
       ∙ ap (λ (u : List ℕ). cond (isFree (h i)) (at x (length u)) (heldAt lam (h i))) f
       ∙ cond-cong (isFree (h i)) (at x (length (freeTo h i))) (at y (length (freeTo h i))) (heldAt lam (h i))
-        (λ p. e (length (freeTo h i)) (omega (arith, free-index h i m l p)))
+      (λ p. e (length (freeTo h i)) (omega (arith, free-index h i m l p)))
 
   -- no candidate
   pub candidate-none : (k : ℕ) (g dy : List Float) (lam : Float) (x : List Float) → false ≡ sound k (compressed k g (freeTo h m)) q

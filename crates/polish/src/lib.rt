@@ -47,7 +47,15 @@ fn fill_candidate(s: &mut [f64], marks: &[u32], lam: f64, b: usize, a: usize, n:
 }
 
 // The candidate, from place 12 n on, for the q free places that the marks give; whether there is one.
-fn make_candidate(s: &mut [f64], marks: &[u32], dy: &[f64], lam: f64, k: usize, n: usize, q: usize) -> bool
+fn make_candidate(
+    s: &mut [f64],
+    marks: &[u32],
+    dy: &[f64],
+    lam: f64,
+    k: usize,
+    n: usize,
+    q: usize,
+) -> bool
     requires { ⌜ (k ≤ 2) × ((k < n) × ((13 * n ≤ length (now s)) × ((2 * n ≤ length (now marks)) × ((n ≤ length (now dy) + k) × ((q + k ≤ n) × ((j : ℕ) → j < q → getD (now marks) j 0 + k < n)))))) ⌝ }
     ensures { λ r. ⌜ ((h : ℕ → Hold) → Marks h n (n - k) (now (marks .entry)) q → candidate k (gramRow k) (now (dy .entry)) lam h (n - k) ≡ found r (part (12 * n) (n - k) (now (s .exit))))
         × Kept (7 * n) (6 * n) (now (s .entry)) (now (s .exit)) ⌝ }
@@ -75,7 +83,14 @@ fn none() -> Candidate
 }
 
 // The polish of where the search ended: work holds the iterate's trend, z, mu1 and mu2, dy D y. The candidate and its trend are left from place 11 n on.
-pub fn polish_l1(work: &mut [f64], marks: &mut [u32], y: &[f64], dy: &[f64], lam: f64, k: usize) -> Candidate
+pub fn polish_l1(
+    work: &mut [f64],
+    marks: &mut [u32],
+    y: &[f64],
+    dy: &[f64],
+    lam: f64,
+    k: usize,
+) -> Candidate
     requires { ⌜ (1 ≤ k) × ((k ≤ 2) × ((k < length (now y)) × ((length (now y) ≤ 65536) × ((13 * length (now y) ≤ length (now work)) × ((2 * length (now y) ≤ length (now marks))
         × (take (length (now y) - k) (now dy) ≡ diffK k (now y))))))) ⌝ }
     ensures { λ r. ⌜ Polished k (now (y .entry)) lam (now (work .entry)) (now (work .exit)) (now (marks .entry)) (now (marks .exit)) r ⌝ }

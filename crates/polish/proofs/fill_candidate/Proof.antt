@@ -67,12 +67,17 @@ loop-again c = let l = c .before .before .before .before .before in
     let i = l .loop .i in
     let q = l .loop .q in
     let w = l .loop .inv .1 .1 .1 in
-    let x = c .before .candidate-at .result in
-    (search needs,
-    (omega (arith, c .one-if-free .ensures, one-le (isFree (h i))),
-    (count-more h i (l .loop .inv .1 .1 .0) (c .one-if-free .ensures),
-    store-more (a .a) i (candidateAt (a .lam) h (part (a .b) (a .m) (a .s .now))) (a .s .now) (l .loop .s) x w (omega arith)
-    (place-is (a .lam) h (a .b) (a .m) i q (a .s .now) (l .loop .s) x (l .loop .inv .1 .1 .0) (omega arith) (w .below (a .b + q) (omega arith)) (c .before .candidate-at .ensures)))))
+    let x = c .before .candidate-at .result in (
+      search needs,
+      (
+        omega (arith, c .one-if-free .ensures, one-le (isFree (h i))),
+        (
+          count-more h i (l .loop .inv .1 .1 .0) (c .one-if-free .ensures),
+          store-more (a .a) i (candidateAt (a .lam) h (part (a .b) (a .m) (a .s .now))) (a .s .now) (l .loop .s) x w (omega arith)
+              (place-is (a .lam) h (a .b) (a .m) i q (a .s .now) (l .loop .s) x (l .loop .inv .1 .1 .0) (omega arith) (w .below (a .b + q) (omega arith)) (c .before .candidate-at .ensures)),
+        ),
+      ),
+    )
 
 same-length : tie.Need-same-length Inv-loop μ-loop
 same-length c = search needs

@@ -55,9 +55,10 @@ returns c = let cs = c .before .before .before in
     let l = 11 * a .n - 7 * a .n in
     let x = cs .settle .last .0 in
     let e = part-size (7 * a .n) l (a .s .now) x (omega arith) (cs .settle .kept .0) in
-    let no : cs .settle .result ≡ false = not-true _ (c .if1 .taken) in
-    (λ h w. candidate-none w (a .k) (gramRow (a .k)) (a .dy .now) (a .lam) [] (sym no ∙ cs .settle .ensures .0 (freeTo h (a .n - a .k)) (w .free) .0),
-    kept-part (7 * a .n) l (6 * a .n) (a .s .now) x (omega arith) e (omega arith))
+    let no : cs .settle .result ≡ false = not-true _ (c .if1 .taken) in (
+      λ h w. candidate-none w (a .k) (gramRow (a .k)) (a .dy .now) (a .lam) [] (sym no ∙ cs .settle .ensures .0 (freeTo h (a .n - a .k)) (w .free) .0),
+      kept-part (7 * a .n) l (6 * a .n) (a .s .now) x (omega arith) e (omega arith),
+    )
 
 add-b : tie.Need-add-b
 add-b c = search needs
@@ -101,13 +102,14 @@ returns-2 c = let cc = c .before .before in
     let s₂ = cc .fill-candidate .last .0 in
     let b = 7 * a .n + a .q * (k + 1) in
     let w₂ = cc .fill-candidate .ensures in
-    let yes : cs .settle .result ≡ true = not-false _ (cc .before .before .if1 .left) in
-    (λ h w.
-      let f = cs .settle .ensures .0 (freeTo h m) (w .free) in
-      candidate-some w k (gramRow k) (a .dy .now) (a .lam) (part (12 * a .n) m s₂) (part b m s₁) (sym yes ∙ f .0)
-      (store-done nan (12 * a .n) m (candidateAt (a .lam) (heldBy (a .n) (a .marks .now)) (part b m s₁)) s₁ s₂ w₂)
-      (solution-at w k (gramRow k) (a .dy .now) (a .lam) (7 * a .n) l s x (omega arith) e (omega arith) refl (omega arith) (f .1 yes)),
-    kept-then (7 * a .n) (6 * a .n) (kept-part (7 * a .n) l l s x (omega arith) e (omega arith)) (written-kept w₂) (omega arith) (omega arith) (omega arith) (omega arith))
+    let yes : cs .settle .result ≡ true = not-false _ (cc .before .before .if1 .left) in (
+      λ h w.
+          let f = cs .settle .ensures .0 (freeTo h m) (w .free) in
+          candidate-some w k (gramRow k) (a .dy .now) (a .lam) (part (12 * a .n) m s₂) (part b m s₁) (sym yes ∙ f .0)
+          (store-done nan (12 * a .n) m (candidateAt (a .lam) (heldBy (a .n) (a .marks .now)) (part b m s₁)) s₁ s₂ w₂)
+          (solution-at w k (gramRow k) (a .dy .now) (a .lam) (7 * a .n) l s x (omega arith) e (omega arith) refl (omega arith) (f .1 yes)),
+      kept-then (7 * a .n) (6 * a .n) (kept-part (7 * a .n) l l s x (omega arith) e (omega arith)) (written-kept w₂) (omega arith) (omega arith) (omega arith) (omega arith),
+    )
 
 pub make-candidate-spec : {M : Type 1} → statement M
 make-candidate-spec =

@@ -58,11 +58,16 @@ loop-less c = search needs
 
 loop-again : tie.Need-loop-again Inv-loop μ-loop
 loop-again c = let l = c .before .before .before .loop in
-    let w = l .inv .1 .1 .0 in
-    (search needs,
-    (omega (arith, c .one-if-free .ensures, one-le (isFree (holdOf (c .before .mark-at .result)))),
-    (marks-more w (omega arith) (omega arith) (c .before .mark-at .ensures) _ (c .one-if-free .ensures),
-    marks-kept w (omega arith) (omega arith) (c .before .mark-at .ensures) (l .inv .1 .1 .1))))
+    let w = l .inv .1 .1 .0 in (
+      search needs,
+      (
+        omega (arith, c .one-if-free .ensures, one-le (isFree (holdOf (c .before .mark-at .result)))),
+        (
+          marks-more w (omega arith) (omega arith) (c .before .mark-at .ensures) _ (c .one-if-free .ensures),
+          marks-kept w (omega arith) (omega arith) (c .before .mark-at .ensures) (l .inv .1 .1 .1),
+        ),
+      ),
+    )
 
 same-length : tie.Need-same-length Inv-loop μ-loop
 same-length c = search needs

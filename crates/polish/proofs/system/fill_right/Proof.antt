@@ -58,10 +58,11 @@ loop-less c = search needs
 
 loop-again : tie.Need-loop-again Inv-loop μ-loop
 loop-again c = let l = c .before .before .before .before in
-    let a = l .before .before .before .before .args in
-    (search needs,
-    store-more (a .b) (l .loop .p) (λ r. rightOf (a .k) (a .g) (a .dy .now) (a .lam) (heldBy (a .n) (a .marks .now)) (a .n - a .k) (getD (a .marks .now) r 0))
-    (a .s .now) (l .loop .s) (c .right-at .result) (l .loop .inv .1) (omega arith) (c .right-at .ensures ∙ rw (c .before .wide .ensures)))
+    let a = l .before .before .before .before .args in (
+      search needs,
+      store-more (a .b) (l .loop .p) (λ r. rightOf (a .k) (a .g) (a .dy .now) (a .lam) (heldBy (a .n) (a .marks .now)) (a .n - a .k) (getD (a .marks .now) r 0))
+          (a .s .now) (l .loop .s) (c .right-at .result) (l .loop .inv .1) (omega arith) (c .right-at .ensures ∙ rw (c .before .wide .ensures)),
+    )
 
 same-length : tie.Need-same-length Inv-loop μ-loop
 same-length c = search needs

@@ -40,7 +40,7 @@ returns-2 c = let cf = c .before .before in
     let a = st .args in
     settled-all (a .k) (a .q) (a .n) (cg .gram-offsets .result) (a .dy .now) (a .lam) (a .marks .now) (a .s .now) (cb .fill-bands .last .0) (cr .fill-right .last .0) (cf .factor-solve .last .0)
     (cf .factor-solve .result) (st .pre .1 .0) (cb .fill-bands .ensures .0) (cb .fill-bands .ensures .1) (cr .fill-right .ensures .0) (cr .fill-right .ensures .1)
-    (cf .factor-solve .kept .0) (cf .factor-solve .ensures .0) (cf .factor-solve .ensures .1) (gramRow (a .k)) (cg .gram-offsets .ensures)
+    (cf .factor-solve .kept .0) (cf .factor-solve .ensures .0) (λ x h. let f = cf .factor-solve .ensures .1 x h in (f .0, λ t. f .1 t .1)) (gramRow (a .k)) (cg .gram-offsets .ensures)
 
 pub settle-spec : {M : Type 1} → statement M
 settle-spec =
