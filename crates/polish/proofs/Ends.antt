@@ -1,5 +1,5 @@
 -- How a polish ends, from the marks, the candidate and its certificate. Assumes nothing.
-use mathlib.Core.Bool.{true, false}
+use mathlib.Core.Bool.{true, false, _&&_}
 use mathlib.Core.List.{List}
 use mathlib.Core.Option.{Option, none, some}
 use mathlib.Core.Path.{_≡_, sym, ap, _∙_}
@@ -8,7 +8,8 @@ use native.Mathlib.Nat.{add-zero}
 use native.Mathlib.Omega.{arith}
 use lib.ListN.{length, getD, take, drop}
 use lib.Seq.{getD-take}
-use lib.Ieee.{Float, nan}
+use lib.Ieee.{Float, nan, lt}
+use Rattle.float64.specs.Helpers.{isFinite}
 use Rattle.float64.specs.Ops.{_⊖_}
 use Rattle.vectors.specs.Vec.{at, part, Kept, KeptOf}
 use Rattle.vectors.proofs.Laws.{list-ext, kept-then}
@@ -17,7 +18,8 @@ use Rattle.differences.specs.Diff.{diffK, gramRow}
 use Rattle.differences.proofs.Laws.{length-diffK}
 use Rattle.newton.specs.Places.{point}
 use Rattle.polish.specs.Polish.{Hold, holdAt, freeTo, rightOf, solved, candidate, polish}
-use Rattle.polish.specs.Marks.{Marks, polishFrom, Polished}
+use Rattle.polish.specs.Marks.{Marks, polishFrom, Polished, wins}
+use Rattle.certificate.specs.Certificate.{certify, gapOf}
 use Rattle.certificate.specs.Run.{Certified}
 use Rattle.certificate.proofs.Laws.{room}
 use Rattle.polish.specs.declared.Candidate.{Candidate}
@@ -102,3 +104,12 @@ module _ (k : ℕ) (y : List Float) (lam : Float) {w₀ w₁ : List Float} {v₀
           kept = kept-then (7 * n) (6 * n) kept (kept-part (11 * n) l l w₁ x (omega arith) size (omega arith)) (omega arith) (omega arith) (omega arith) (omega arith);
           marks = marks-all (length y) k marks;
         }
+
+-- ---- for the caller: whether the candidate wins over an iterate with this gap
+
+module _ {k : ℕ} {y : List Float} {lam : Float} {w₀ w : List Float} {v₀ v : List ℕ} {r : Candidate} (p : Polished k y lam w₀ w v₀ v r) (gap : Float) where
+  pub wins-none : polishFrom k y lam w₀ ≡ none → wins r gap ≡ false
+  wins-none e = rw (p .there, e)
+
+  pub wins-some : (z : List Float) → polishFrom k y lam w₀ ≡ some z → wins r gap ≡ (isFinite (gapOf (certify k y lam z)) && lt (gapOf (certify k y lam z)) gap)
+  wins-some z e = rw (p .there, e, p .rated z e .gap)

@@ -2,7 +2,7 @@
 use mathlib.Core.Path.{_≡_}
 use mathlib.Core.Bool.{Bool, true}
 use mathlib.Core.List.{List}
-use Prim.Native.Nat.{ℕ, _+_, _-_, _*_}
+use Prim.Native.Nat.{ℕ, _+_, _-_, _*_, _≤_}
 use lib.ListN.{length}
 use lib.Ieee.{Float}
 use Rattle.vectors.specs.Vec.{part, Kept}
@@ -22,3 +22,11 @@ pub record Solved (p k m : ℕ) (s₀ s : List Float) (ok : Bool) : Type 0 where
   pub factor : (a : Matrix) → part p (m * (k + 1)) s₀ ≡ concat (matrix k a m) → ok ≡ true → part p (m * (k + 1)) s ≡ concat (rows k a m)
   pub solution : (a : Matrix) → part p (m * (k + 1)) s₀ ≡ concat (matrix k a m) → ok ≡ true
       → part (p + m * (k + 1)) m s ≡ solve k (rows k a m) (part (p + m * (k + 1)) m s₀)
+
+-- what a caller in another language may ask for: order 1 or 2, and a system that has its places in a run of n
+pub record Room (k m n : ℕ) : Type 0 where
+  pub least : 1 ≤ k
+  pub most : k ≤ 2
+  pub some : 1 ≤ m
+  pub few : m ≤ 65536
+  pub places : m * (k + 1) + m ≤ n

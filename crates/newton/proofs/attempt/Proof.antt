@@ -1,24 +1,16 @@
 use borrow.Author.Needs.{needs}
 use mathlib.Core.Path.{_≡_, refl, sym, ap, _∙_}
-use mathlib.Core.List.{List}
 use mathlib.Core.Bool.{true, false}
-use Prim.Native.Nat.{ℕ, suc, _≤_, _<_, _-_, _+_, _*_}
+use Prim.Native.Nat.{_-_, _+_, _*_}
 use native.Mathlib.Omega.{arith}
-use native.Mathlib.Nat.{add-zero}
-use lib.ListN.{length}
-use lib.Ieee.{Float, binary64, add, mul}
-use Rattle.newton.specs.Newton.{Dual, inside, lower, norm}
-use Rattle.vectors.specs.Vec.{part, Kept}
+use Rattle.newton.specs.Newton.{Dual, lower, norm}
+use Rattle.vectors.specs.Sums.{inside}
+use Rattle.vectors.specs.Vec.{part}
 use Rattle.newton.specs.Places.{point}
 use Rattle.vectors.proofs.Parts.{range-part}
 use Rattle.newton.proofs.Lines.{point-range, accept-yes, accept-no}
 use Rattle.newton.proofs.attempt.Statement.{statement}
 use Rattle.newton.proofs.attempt.Tie as tie
-use Rattle.newton.proofs.attempt.Reads as reads
-use Rattle.newton.proofs.attempt.Lts as lts
-use Rattle.newton.proofs.inside.Reads as inside-reads
-use Rattle.newton.proofs.low_enough.Reads as low-enough-reads
-use Rattle.newton.proofs.move_to.Reads as move-to-reads
 
 mul-c : tie.Need-mul-c
 mul-c c = search needs

@@ -51,9 +51,10 @@ loop-less c = search needs
 loop-again : tie.Need-loop-again Inv-loop μ-loop
 loop-again c = let a = c .before .before .before .before .before .args in
     let l = c .before .before .loop in
-    let size = l .inv .1 .size in
-    (search needs,
-    store-more (a .p * (a .k + 1)) (l .c) (compressed (a .k) (a .g) (a .free .now) (a .p)) (a .s .now) (l .s) _ (l .inv .1) (omega (arith, one-row (a .k) (a .p))) (c .band-at .ensures))
+    let size = l .inv .1 .size in (
+      search needs,
+      store-more (a .p * (a .k + 1)) (l .c) (compressed (a .k) (a .g) (a .free .now) (a .p)) (a .s .now) (l .s) _ (l .inv .1) (omega (arith, one-row (a .k) (a .p))) (c .band-at .ensures),
+    )
 
 same-length : tie.Need-same-length Inv-loop μ-loop
 same-length c = search needs
