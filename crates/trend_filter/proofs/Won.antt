@@ -9,6 +9,7 @@ use lib.Ieee.{Float, lt, le}
 use Rattle.float64.specs.Ops.{_⊗_}
 use Rattle.float64.specs.Helpers.{isFinite}
 use Rattle.vectors.specs.Vec.{part, put}
+use Rattle.vectors.proofs.Parts.{length-part}
 use Rattle.differences.specs.Diff.{diffK}
 use Rattle.certificate.specs.Certificate.{Certificate, certify, gapOf, minus}
 use Rattle.certificate.specs.Knots.{knots as knotsOf}
@@ -21,6 +22,11 @@ use Rattle.trend_filter.specs.declared.search.End.{End}
 use Rattle.trend_filter.specs.Answers.{summaryOf}
 use Rattle.trend_filter.specs.Inner.{WroteOut, Shows}
 use Rattle.trend_filter.specs.Search.{wonOf, Reached, searchedOf}
+
+-- either trend has a place for each of the series
+pub length-either : (b : Bool) (n : ℕ) (w : List Float) → length (cond b (part (11 * n) n w) (part 0 n w)) ≡ n
+length-either true n w = length-part (11 * n) n w
+length-either false n w = length-part 0 n w
 
 -- what is read of one of two certificates
 choose : {A : Type 0} (f : Certificate → A) (b : Bool) (p c : Certificate) → cond b (f p) (f c) ≡ f (cond b p c)
