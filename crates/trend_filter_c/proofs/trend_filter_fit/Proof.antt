@@ -2,11 +2,6 @@ use borrow.Author.Needs.{needs}
 use Rattle.trend_filter_c.proofs.Laws.{told-refused, told-fit}
 use Rattle.trend_filter_c.proofs.trend_filter_fit.Statement.{statement}
 use Rattle.trend_filter_c.proofs.trend_filter_fit.Tie as tie
-use Rattle.trend_filter_c.proofs.trend_filter_fit.Reads as reads
-use Rattle.trend_filter_c.proofs.trend_filter_fit.Lts as lts
-use Rattle.trend_filter.proofs.l1_trend_filter.Reads as l1-trend-filter-reads
-use Rattle.trend_filter_c.proofs.put_counts.Reads as put-counts-reads
-use Rattle.trend_filter_c.proofs.put_numbers.Reads as put-numbers-reads
 
 l1-trend-filter-requires : tie.Need-l1-trend-filter-requires
 l1-trend-filter-requires c κs = search needs
