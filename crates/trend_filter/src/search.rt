@@ -63,19 +63,19 @@ fn search_polish(
 }
 
 // The numbers of a fit that the search found.
-fn searched(r: End, knots: usize, lam_max: f64, tol: f64) -> Summary
-    ensures { λ x. ⌜ x ≡ searchedOf r knots «lam_max» tol ⌝ }
+fn searched(e: End, knots: usize, lam_max: f64, tol: f64) -> Summary
+    ensures { λ x. ⌜ x ≡ searchedOf e knots «lam_max» tol ⌝ }
 {
     Summary {
         knots: knots,
         lam_max: lam_max,
-        gap: r.gap,
-        first_gap: r.first,
-        best_gap: r.best,
-        objective: r.primal,
-        n_iter: r.n_iter,
-        improvements: r.improvements,
-        converged: r.gap <= tol * r.primal,
+        gap: e.gap,
+        first_gap: e.first,
+        best_gap: e.best,
+        objective: e.primal,
+        n_iter: e.n_iter,
+        improvements: e.improvements,
+        converged: e.gap <= tol * e.primal,
     }
 }
 
