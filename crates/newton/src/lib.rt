@@ -134,7 +134,17 @@ pub fn directions(s: &mut [f64], b: usize, lam: f64, u: f64, m: usize) -> f64
     cap(s, b, m)
 }
 
-fn low_enough(s: &[f64], dy: &[f64], lam: f64, u: f64, g: [f64; 3], k: usize, m: usize, step: f64, old: f64) -> bool
+fn low_enough(
+    s: &[f64],
+    dy: &[f64],
+    lam: f64,
+    u: f64,
+    g: [f64; 3],
+    k: usize,
+    m: usize,
+    step: f64,
+    old: f64,
+) -> bool
     requires { ⌜ (k ≤ 2) × ((m + m + m ≤ length (now s)) × (m ≤ length (now dy))) ⌝ }
     ensures { λ r. ⌜ r ≡ lower (norm k g (now (dy .entry)) lam u (point 0 m (now (s .entry)))) step old ⌝ }
 {
@@ -148,7 +158,18 @@ struct Tried {
 }
 
 // One trial: the point at a step, whether it is inside, and whether it is accepted.
-fn attempt(s: &mut [f64], b: usize, dy: &[f64], lam: f64, u: f64, g: [f64; 3], k: usize, m: usize, step: f64, old: f64) -> Tried
+fn attempt(
+    s: &mut [f64],
+    b: usize,
+    dy: &[f64],
+    lam: f64,
+    u: f64,
+    g: [f64; 3],
+    k: usize,
+    m: usize,
+    step: f64,
+    old: f64,
+) -> Tried
     requires { ⌜ (k ≤ 2) × ((6 * m ≤ b) × ((b + 3 * m ≤ length (now s)) × (m ≤ length (now dy)))) ⌝ }
     ensures { λ r. ⌜ (point (3 * m) m (now (s .exit)) ≡ along (point 0 m (now (s .entry))) (point b m (now (s .entry))) step)
         × (Kept (3 * m) (3 * m) (now (s .entry)) (now (s .exit))
@@ -162,9 +183,15 @@ fn attempt(s: &mut [f64], b: usize, dy: &[f64], lam: f64, u: f64, g: [f64; 3], k
     let within = vectors::inside(&s[c..d], lam);
     if within {
         let low = low_enough(&s[c..e], dy, lam, u, g, k, m, step, old);
-        return Tried { inside: true, good: low };
+        return Tried {
+            inside: true,
+            good: low,
+        };
     }
-    Tried { inside: false, good: false }
+    Tried {
+        inside: false,
+        good: false,
+    }
 }
 
 pub struct Trial {
@@ -173,7 +200,18 @@ pub struct Trial {
 }
 
 // Up to 20 trials; the last stands after the point.
-pub fn line_search(s: &mut [f64], b: usize, dy: &[f64], lam: f64, u: f64, g: [f64; 3], k: usize, m: usize, cap: f64, old: f64) -> Trial
+pub fn line_search(
+    s: &mut [f64],
+    b: usize,
+    dy: &[f64],
+    lam: f64,
+    u: f64,
+    g: [f64; 3],
+    k: usize,
+    m: usize,
+    cap: f64,
+    old: f64,
+) -> Trial
     requires { ⌜ (k ≤ 2) × ((6 * m ≤ b) × ((b + 3 * m ≤ length (now s)) × (m ≤ length (now dy)))) ⌝ }
     ensures { λ r. ⌜ Searched k g (now (dy .entry)) lam u m b cap old (now (s .entry)) (now (s .exit)) (r .step) (r .inside) ⌝ }
 {
@@ -183,11 +221,17 @@ pub fn line_search(s: &mut [f64], b: usize, dy: &[f64], lam: f64, u: f64, g: [f6
     while i < 20 {
         let a = attempt(s, b, dy, lam, u, g, k, m, step, old);
         if a.good {
-            return Trial { step: step, inside: true };
+            return Trial {
+                step: step,
+                inside: true,
+            };
         }
         last = a.inside;
         step = step * 0.5;
         i += 1;
     }
-    Trial { step: step, inside: last }
+    Trial {
+        step: step,
+        inside: last,
+    }
 }
