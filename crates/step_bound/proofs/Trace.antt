@@ -1,7 +1,7 @@
 -- What a search went through, as a value to do inductions on: `Trace L tol r p e` says that from p, with r iterations allowed, it ends in e.
 -- And for a loop that runs the search: one equation for each way an iteration can go.
 use mathlib.Core.Path.{_≡_, refl, sym, ap, _∙_, subst}
-use Prim.Native.Nat.{ℕ, zero, suc, _+_, _*_, _≤_, _<_}
+use Prim.Native.Nat.{ℕ, zero, suc, _+_, _*_, _≤_}
 use native.Mathlib.Nat.{le-refl, le-trans, le-suc}
 use native.Mathlib.Omega.{arith}
 use mathlib.Core.Bool.{Bool, true, false, not, cond}
@@ -9,7 +9,7 @@ use lib.Dec.{T, T-not, eqb, lit≤}
 use lib.Arith.{le-of-le-suc-ne}
 use lib.Ieee.Fits.{eq→eqb}
 use lib.Ieee.{Float}
-use Rattle.step_bound.specs.Search.{Turn, lost, moved, Problem, Point, Ended, Reason, small, spent, stalled, pivot, Next, stop, go, gap, ended, enough, stuck, better, advance, turned, iterate, run}
+use Rattle.step_bound.specs.Search.{Turn, lost, moved, Problem, Point, Ended, small, spent, stalled, pivot, Next, stop, go, gap, ended, enough, stuck, better, advance, turned, iterate, run}
 
 -- the end of an iteration that a bad pivot ends
 abbrev pub afterLoss : {S : Type 0} → Point S → Ended S

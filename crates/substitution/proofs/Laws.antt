@@ -117,7 +117,7 @@ mid-part b m s h = let d : b + m - b ≡ m = omega arith in rw d at (range-part 
 
 pub solved-at : (p k m : ℕ) (s x : List Float) (ok : Bool) → p + (m * (k + 1) + m) ≤ length s → length x ≡ m * (k + 1) + m
     → ((a : Matrix) → take (m * (k + 1)) (take (m * (k + 1) + m) (drop p s)) ≡ concat (matrix k a m)
-    → (ok ≡ sound k a m) × (ok ≡ true → take m (drop (m * (k + 1)) x) ≡ solve k (rows k a m) (take m (drop (m * (k + 1)) (take (m * (k + 1) + m) (drop p s))))))
+    → (ok ≡ sound k a m) × (ok ≡ true → (take (m * (k + 1)) x ≡ concat (rows k a m)) × (take m (drop (m * (k + 1)) x) ≡ solve k (rows k a m) (take m (drop (m * (k + 1)) (take (m * (k + 1) + m) (drop p s)))))))
     → Solved p k m s (putBack p (m * (k + 1) + m) s x) ok
 solved-at p k m s x ok room e h =
     let n = m * (k + 1) in
@@ -130,6 +130,7 @@ solved-at p k m s x ok room e h =
     record {
       kept = kept-put p (n + m) s x room e nan;
       answer = λ a g. h a (head ∙ g) .0;
+      factor = λ a g o. (rw z at (part-put p (n + m) s x room e nan 0 n (omega arith))) ∙ sym (first-part n x (omega arith)) ∙ h a (head ∙ g) .1 o .0;
       solution = λ a g o.
-          part-put p (n + m) s x room e nan n m (omega arith) ∙ sym (mid-part n m x (omega arith)) ∙ h a (head ∙ g) .1 o ∙ ap (solve k (rows k a m)) side;
+          part-put p (n + m) s x room e nan n m (omega arith) ∙ sym (mid-part n m x (omega arith)) ∙ h a (head ∙ g) .1 o .1 ∙ ap (solve k (rows k a m)) side;
     }

@@ -3,6 +3,7 @@ ghost use mathlib.Core.Path.{_≡_};
 ghost use mathlib.Core.Bool.{true};
 ghost use mathlib.Core.List.{List};
 ghost use Prim.Native.Nat.{_≤_, _<_, _-_, _+_, _*_, min};
+ghost use lib.Dec.{eqb};
 ghost use lib.ListN.{length, take, drop};
 ghost use lib.Ieee.{Float};
 ghost use Rattle.float64.specs.Ops.{_⊘_};
@@ -10,7 +11,7 @@ ghost use Rattle.vectors.specs.Vec.{at};
 ghost use Rattle.banded.specs.Rows.{Matrix, rows, sound, matrix, concat};
 ghost use Rattle.banded.specs.Solve.{backAt, divided, back, solve as solve_of};
 ghost use Rattle.banded.specs.Run.{flat, Shape};
-ghost use Rattle.substitution.specs.Solved.{Backed, Solved};
+ghost use Rattle.substitution.specs.Solved.{Backed, Solved, Room};
 
 fn smaller(a: usize, b: usize) -> usize
     ensures { λ r. ⌜ r ≡ min a b ⌝ }
@@ -118,12 +119,13 @@ pub fn solve(s: &mut [f64], k: usize, m: usize)
     back_rest(s, k, m, n);
 }
 
-// Whatever matrix a the first m rows of s are: whether every pivot of its factor is good, and if so the solution for the m places after them, in those places. What comes after those stays.
+// Whatever matrix a the first m rows of s are: whether every pivot of its factor is good, and if so the factor's rows in their place, and after them the solution for the m places that stood there. What comes after those stays.
 pub fn factor_solve(s: &mut [f64], k: usize, m: usize) -> bool
     requires { ⌜ (1 ≤ m) × (m * (k + 1) + m ≤ length (now s)) ⌝ }
     ensures { λ ok. ⌜ (drop (m * (k + 1) + m) (now (s .exit)) ≡ drop (m * (k + 1) + m) (now (s .entry)))
         × ((a : Matrix) → take (m * (k + 1)) (now (s .entry)) ≡ concat (matrix k a m)
-        → (ok ≡ sound k a m) × (ok ≡ true → take m (drop (m * (k + 1)) (now (s .exit))) ≡ solve_of k (rows k a m) (take m (drop (m * (k + 1)) (now (s .entry)))))) ⌝ }
+        → (ok ≡ sound k a m) × (ok ≡ true → (take (m * (k + 1)) (now (s .exit)) ≡ concat (rows k a m))
+        × (take m (drop (m * (k + 1)) (now (s .exit))) ≡ solve_of k (rows k a m) (take m (drop (m * (k + 1)) (now (s .entry))))))) ⌝ }
 {
     if !banded::factor(s, k, m) {
         return false;
@@ -139,4 +141,31 @@ pub fn factor_solve_at(s: &mut [f64], p: usize, k: usize, m: usize) -> bool
 {
     let e = p + (m * (k + 1) + m);
     factor_solve(&mut s[p..e], k, m)
+}
+
+// For callers in other languages: 0 if the system that s begins with is solved, 1 if a pivot was bad. 2 if k or m is out of range or s has not the room for it: then s stays as it is.
+#[no_mangle]
+pub extern "C" fn substitution_factor_solve(s: &mut [f64], k: usize, m: usize) -> u32
+    ensures { λ r. ⌜ (Room k m (length (now (s .entry))) → Solved 0 k m (now (s .entry)) (now (s .exit)) (eqb r 0))
+        × ((Room k m (length (now (s .entry))) → ⊥) → (r ≡ 2) × (now (s .exit) ≡ now (s .entry))) ⌝ }
+{
+    if k < 1 {
+        return 2;
+    }
+    if 2 < k {
+        return 2;
+    }
+    if m < 1 {
+        return 2;
+    }
+    if 65536 < m {
+        return 2;
+    }
+    if s.len() < m * (k + 1) + m {
+        return 2;
+    }
+    if factor_solve_at(s, 0, k, m) {
+        return 0;
+    }
+    1
 }

@@ -51,7 +51,7 @@ returns-2 c = let st = c .before .before .before .before .before .before .before
           let l : length v ≡ m = length-take-le m (drop n (a .s .now)) (omega (arith, length-drop n (a .s .now))) in
           let r = rows k x m in
           let made = f .1 x h .1 yes in
-          (sym yes ∙ f .1 x h .0, λ t. g .1 .1 r (shape-rows k x m) (made .0) ∙ ap (λ (u : List Float). back k r (divided k r u) m) (made .1) ∙ sym (solve-is k m r v l)),
+          (sym yes ∙ f .1 x h .0, λ t. (g .0 ∙ made .0, g .1 .1 r (shape-rows k x m) (made .0) ∙ ap (λ (u : List Float). back k r (divided k r u) m) (made .1) ∙ sym (solve-is k m r v l))),
     )
 
 pub factor-solve-spec : {M : Type 1} → statement M
