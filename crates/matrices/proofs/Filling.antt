@@ -14,11 +14,7 @@ use Rattle.banded.specs.Rows.{Matrix, matrix, concat}
 use Rattle.banded.specs.Run.{flat}
 use Rattle.banded.proofs.Laws.{above, one-row, of-holds, shape-matrix, look-matrix, kept-after}
 use Rattle.matrices.specs.Gram.{more, apart, product}
-
--- s is s₀ with the first r rows of a in its first places
-pub record Laid (k r : ℕ) (a : Matrix) (s₀ s : List Float) : Type 0 where
-  pub kept : Kept 0 (r * (k + 1)) s₀ s
-  pub same : (i j : ℕ) → i < r → j ≤ k → flat k s i j ≡ a i j
+use Rattle.matrices.specs.Layout.{Laid}
 
 pub laid-none : (k : ℕ) (a : Matrix) (s : List Float) → Laid k 0 a s s
 laid-none k a s = record { kept = kept-none 0 (0 * (k + 1)) s; same = λ i j h g. absurd (omega arith) }
