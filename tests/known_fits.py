@@ -1,5 +1,5 @@
-# Writes crates/fit/proofs/Corpus.antt: fits of the Rust, stored as NNN.case and NNN.exp, to be worked out from the definition.
-# Usage, from the repository's root: known_fits.py FOLDER/ NNN,NNN,.. NNN,.. (one table for each argument)
+# Writes crates/fit/proofs/Corpus.antt: fits of the Rust, stored as NAME.case and NAME.exp, to be worked out from the definition.
+# Usage, from the repository's root: known_fits.py NAME,NAME,.. NAME,.. (one table for each argument)
 import struct, sys
 
 def bits(x):
@@ -8,14 +8,14 @@ def bits(x):
 def vector(words):
     return ''.join(w + ' ∷ ' for w in words) + '[]'
 
-def case(folder, name):
-    d = open(folder + name + '.case', 'rb').read()
+def case(name):
+    d = open(name + '.case', 'rb').read()
     n = struct.unpack_from('<I', d, 8)[0]
     lent = struct.unpack_from('<5I', d, 12)
     lam, tol = struct.unpack_from('<dd', d, 32)
     limit = struct.unpack_from('<Q', d, 48)[0]
     y = struct.unpack_from('<%dd' % n, d, 56)
-    e = open(folder + name + '.exp').read().split('\n')
+    e = open(name + '.exp').read().split('\n')
     asked = 'record { y = %s; lam = %s; tol = %s; limit = %d; order = %d; penalty = %d }' % (vector(map(bits, y)), bits(lam), bits(tol), limit, d[4], d[5])
     room = 'record { trend = %d; cycle = %d; knots = %d; work = %d; marks = %d }' % lent
     if e[0].startswith('refused'):
@@ -30,19 +30,19 @@ def case(folder, name):
     return say, asked, room, end
 
 def main():
-    folder, groups = sys.argv[1], sys.argv[2:]
+    groups = sys.argv[1:]
     uses = open('crates/fit/proofs/Known.antt').read().split('\n')
     keep = [l for l in uses if l.startswith('use Rattle') and 'specs.Known' not in l]
     opened = [l for l in uses if l.startswith('unfolding')][0]
     out = ['-- Fits that the Rust made, worked out from the definition and compared bit by bit. Written by tests/known_fits.py.',
         'use mathlib.Core.Path.{_≡_, refl}', 'use mathlib.Core.Bool.{true, false}', 'use mathlib.Core.List.{List, [], _∷_}', 'use Prim.Native.Nat.{ℕ}',
         'use lib.Ieee.{Float, binary64, ofBits, ofInt, add, sub, mul, div, neg, lt, le, eq, isNan}'] + keep
-    out = [l.replace('closed, fitL2', 'Outcome, refused, fitted, closed, fitL2') for l in out]
+    out = [l.replace('closed, fitL2', 'fitted, closed, fitL2') for l in out]
     out += ['use Rattle.fit.specs.Known.{Case, worked, stated}', '', '-- a double by its bits', 'abbrev pub F : ℕ → Float', 'F = ofBits binary64', '']
     for i, g in enumerate(groups):
         rows = []
         for name in g.split(','):
-            say, asked, room, end = case(folder, name)
+            say, asked, room, end = case(name)
             rows.append('    %s\n    %srecord { asked = %s; lent = %s; outcome = %s }\n' % (say, '∷ ' if rows else '', asked, room, end))
         out.append('abbrev pub table-%d : List Case\ntable-%d =\n%s    ∷ []\n\npub known-%d : worked table-%d ≡ stated table-%d\n%s\nknown-%d = refl\n' % (i + 1, i + 1, ''.join(rows), i + 1, i + 1, i + 1, opened, i + 1))
     open('crates/fit/proofs/Corpus.antt', 'w').write('\n'.join(out))

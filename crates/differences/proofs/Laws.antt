@@ -1,19 +1,17 @@
 -- Laws of D and D': how long they are, and what stands at each place of them. Assumes nothing.
 use mathlib.Core.Path.{_≡_, refl, sym, ap, ap₂, _∙_}
-use mathlib.Core.Bool.{true, cond}
-use mathlib.Core.List.{List, [], _∷_, _++_}
+use mathlib.Core.List.{List, _++_}
 use Prim.Native.Nat.{ℕ, zero, suc, _+_, _-_, _≤_, _<_}
-use native.Mathlib.Nat.{zero-add, sub-zero}
-use native.Mathlib.Numerals.{add-one}
+use native.Mathlib.Nat.{sub-zero}
 use native.Mathlib.Omega.{arith}
 use borrow.Author.Tests.{lt-ltb, ltb-true}
 use lib.Dec.{ltb}
-use lib.ListN.{length, getD, take, drop, length-append, length-drop, take-append-drop}
-use lib.Seq.{ext-getD, getD-drop, take-at}
-use lib.Ieee.{Float, nan}
+use lib.ListN.{length, take}
+use lib.Seq.{take-at}
+use lib.Ieee.{Float}
 use Rattle.float64.specs.Ops.{_⊖_}
-use Rattle.vectors.specs.Vec.{at, list, put, WrittenOf}
-use Rattle.vectors.proofs.Laws.{length-list, at-list, list-ext, list-is, front, cond-cong}
+use Rattle.vectors.specs.Vec.{at}
+use Rattle.vectors.proofs.Laws.{length-list, at-list, cond-cong}
 use Rattle.differences.specs.Diff.{rise, diff, diffK, trail, before, here, fall, diffT, diffKT}
 
 -- ---- D
@@ -99,16 +97,3 @@ inner-2 v j a b =
     at-fall-2 v j (omega arith)
     ∙ fall-inner (length v + 1) (fall (length v) (at v)) j (omega arith) (omega arith)
     ∙ ap₂ (λ (x y : Float). x ⊖ y) (fall-inner (length v) (at v) (j - 1) (omega arith) (omega arith) ∙ rw d) (fall-inner (length v) (at v) j (omega arith) b)
-
--- ---- a loop that wrote t from place 0 on
-
-pub written-put : {A : Type 0} {z : A} {n : ℕ} {f : ℕ → A} {v₀ v : List A} (t : List A) → WrittenOf z 0 n f v₀ v
-    → length t ≡ n → n ≤ length v₀ → ((i : ℕ) → i < n → f i ≡ getD t i z) → v ≡ put v₀ 0 t
-written-put {A} {z} {n} {f} {v₀} {v} t w e h q =
-    let size = w .size in
-    let a : take n v ≡ t = front w (omega arith) ∙ list-ext n f (λ i. getD t i z) q ∙ sym (rw e at (list-is z t)) in
-    let b : drop n v ≡ drop n v₀ =
-    ext-getD z (drop n v) (drop n v₀) (omega (arith, length-drop n v, length-drop n v₀))
-    (λ i l. getD-drop n v i z ∙ w .above (n + i) (omega arith) ∙ sym (getD-drop n v₀ i z)) in
-    let r : n ≡ 0 + length t = omega arith in
-    sym (take-append-drop n v) ∙ ap₂ (λ (x y : List A). x ++ y) a b ∙ ap (λ (p : ℕ). t ++ drop p v₀) r

@@ -29,7 +29,7 @@ pub fn gram_offsets(k: usize) -> [f64; 3]
 }
 
 // The first differences of v, in all places of it but the last, which stays.
-pub fn diff_1(v: &mut [f64])
+fn diff_1(v: &mut [f64])
     requires { ⌜ 1 ≤ length (now v) ⌝ }
     ensures { λ _. ⌜ Written 0 (length (now (v .entry)) - 1) (rise (now (v .entry))) (now (v .entry)) (now (v .exit)) ⌝ }
 {
@@ -70,7 +70,7 @@ fn here(v: &[f64], m: usize, j: usize) -> f64
 }
 
 // The transposed difference of all places of v but the last, in all places of v.
-pub fn diff_1_transpose(v: &mut [f64])
+fn diff_1_transpose(v: &mut [f64])
     requires { ⌜ 1 ≤ length (now v) ⌝ }
     ensures { λ _. ⌜ Written 0 (length (now (v .entry))) (fall (length (now (v .entry)) - 1) (at (now (v .entry)))) (now (v .entry)) (now (v .exit)) ⌝ }
 {

@@ -7,7 +7,7 @@ use lib.Ieee.{Float, binary64, ofBits, ofInt, add, sub, mul, div, neg, lt, le, e
 use Rattle.float64.specs.Helpers.{absOf, isFinite, maxOf, minOf, clampOf}
 use Rattle.float64.specs.Sqrt.{isqrtOf, isqrt, nearestRoot, sqrtOf}
 use Rattle.vectors.specs.Vec.{list}
-use Rattle.vectors.specs.Sums.{sumTo, maxTo, norm2Sq, dot, sumAbs, maxAbs}
+use Rattle.vectors.specs.Sums.{sumTo, maxTo, norm2Sq, dot, sumAbs, maxAbs, insideTo}
 use Rattle.differences.specs.Diff.{diff, diffK, diffT, diffKT}
 use Rattle.banded.specs.Rows.{less, taken, rest, entry, rowTo, row, rows, sound}
 use Rattle.banded.specs.Solve.{forwardAt, forward, divided, backAt, back, solve}
@@ -16,12 +16,13 @@ use Rattle.matrices.specs.Ridge.{ridge}
 use Rattle.certificate.specs.Certificate.{minus, clamped, certify}
 use Rattle.certificate.specs.Knots.{threshold, aboveTo, knots}
 use Rattle.step_bound.specs.Search.{iterate, run}
-use Rattle.newton.specs.Newton.{barrier, rightAt, dmu1At, dmu2At, squareAt, capped, system, right, direction, squares, norm, capTo, stepped, along, insideTo, accepted, trials, newtonZ, searchLine}
+use Rattle.newton.specs.Newton.{barrier, rightAt, dmu1At, dmu2At, squareAt, capped, system, right, direction, squares, norm, capTo, stepped, along, accepted, trials, newtonZ, searchLine}
 use Rattle.interior_point.specs.InteriorPoint.{nextT, move, problem, origin, interiorPoint}
-use Rattle.polish.specs.Polish.{holdAt, freeTo, compressed, lessTo, rightOf, candidateAt, polish}
+use Rattle.polish.specs.Polish.{holdAt, freeTo, compressed, lessTo, rightOf, solved, candidateAt, candidate, polish}
 use Rattle.l2.specs.L2.{soundL2, trendL2, scaled, objectiveL2, dualL2, gapL2}
 use Rattle.fit.specs.Questions.{finiteTo, question}
-use Rattle.fit.specs.Fit.{Outcome, refused, fitted, closed, fitL2, fitZero, fitFlat, polished, searchOf, keptOf, firstGap, fitEnd, fitL1, fitBy, fit}
+use Rattle.fit.specs.Fit.{fitted, closed, fitL2, fitZero, fitFlat, polished, searchOf, keptOf, firstGap, fitEnd, fitL1, fitBy, fit}
+use Rattle.fit.proofs.Passed.{on, size-passes, size-refused}
 use Rattle.fit.specs.Known.{Case, worked, stated}
 
 -- a double by its bits
@@ -47,7 +48,7 @@ table-1 =
     ∷ []
 
 pub known-1 : worked table-1 ≡ stated table-1
-unfolding absOf isFinite maxOf minOf clampOf isqrtOf isqrt nearestRoot sqrtOf list sumTo maxTo norm2Sq dot sumAbs maxAbs diff diffK diffT diffKT less taken rest entry rowTo row rows sound forwardAt forward divided backAt back solve gram more product zstar lamMax ridge minus clamped certify threshold aboveTo knots iterate run barrier rightAt dmu1At dmu2At squareAt capped system right direction squares norm capTo stepped along insideTo accepted trials newtonZ searchLine nextT move problem origin interiorPoint holdAt freeTo compressed lessTo rightOf candidateAt polish soundL2 trendL2 scaled objectiveL2 dualL2 gapL2 finiteTo question closed fitL2 fitZero fitFlat polished searchOf keptOf firstGap fitEnd fitL1 fitBy fit ofBits ofInt add sub mul div neg lt le eq isNan
+unfolding absOf isFinite maxOf minOf clampOf isqrtOf isqrt nearestRoot sqrtOf list sumTo maxTo norm2Sq dot sumAbs maxAbs diff diffK diffT diffKT less taken rest entry rowTo row rows sound forwardAt forward divided backAt back solve gram more product zstar lamMax ridge minus clamped certify threshold aboveTo knots iterate run barrier rightAt dmu1At dmu2At squareAt capped system right direction squares norm capTo stepped along insideTo accepted trials newtonZ searchLine nextT move problem origin interiorPoint holdAt freeTo compressed lessTo rightOf solved candidateAt candidate polish soundL2 trendL2 scaled objectiveL2 dualL2 gapL2 finiteTo question closed fitL2 fitZero fitFlat polished searchOf keptOf firstGap fitEnd fitL1 fitBy fit ofBits ofInt add sub mul div neg lt le eq isNan
 known-1 = refl
 
 abbrev pub table-2 : List Case
@@ -63,7 +64,7 @@ table-2 =
     ∷ []
 
 pub known-2 : worked table-2 ≡ stated table-2
-unfolding absOf isFinite maxOf minOf clampOf isqrtOf isqrt nearestRoot sqrtOf list sumTo maxTo norm2Sq dot sumAbs maxAbs diff diffK diffT diffKT less taken rest entry rowTo row rows sound forwardAt forward divided backAt back solve gram more product zstar lamMax ridge minus clamped certify threshold aboveTo knots iterate run barrier rightAt dmu1At dmu2At squareAt capped system right direction squares norm capTo stepped along insideTo accepted trials newtonZ searchLine nextT move problem origin interiorPoint holdAt freeTo compressed lessTo rightOf candidateAt polish soundL2 trendL2 scaled objectiveL2 dualL2 gapL2 finiteTo question closed fitL2 fitZero fitFlat polished searchOf keptOf firstGap fitEnd fitL1 fitBy fit ofBits ofInt add sub mul div neg lt le eq isNan
+unfolding absOf isFinite maxOf minOf clampOf isqrtOf isqrt nearestRoot sqrtOf list sumTo maxTo norm2Sq dot sumAbs maxAbs diff diffK diffT diffKT less taken rest entry rowTo row rows sound forwardAt forward divided backAt back solve gram more product zstar lamMax ridge minus clamped certify threshold aboveTo knots iterate run barrier rightAt dmu1At dmu2At squareAt capped system right direction squares norm capTo stepped along insideTo accepted trials newtonZ searchLine nextT move problem origin interiorPoint holdAt freeTo compressed lessTo rightOf solved candidateAt candidate polish soundL2 trendL2 scaled objectiveL2 dualL2 gapL2 finiteTo question closed fitL2 fitZero fitFlat polished searchOf keptOf firstGap fitEnd fitL1 fitBy fit ofBits ofInt add sub mul div neg lt le eq isNan
 known-2 = refl
 
 abbrev pub table-3 : List Case
@@ -75,7 +76,7 @@ table-3 =
     ∷ []
 
 pub known-3 : worked table-3 ≡ stated table-3
-unfolding absOf isFinite maxOf minOf clampOf isqrtOf isqrt nearestRoot sqrtOf list sumTo maxTo norm2Sq dot sumAbs maxAbs diff diffK diffT diffKT less taken rest entry rowTo row rows sound forwardAt forward divided backAt back solve gram more product zstar lamMax ridge minus clamped certify threshold aboveTo knots iterate run barrier rightAt dmu1At dmu2At squareAt capped system right direction squares norm capTo stepped along insideTo accepted trials newtonZ searchLine nextT move problem origin interiorPoint holdAt freeTo compressed lessTo rightOf candidateAt polish soundL2 trendL2 scaled objectiveL2 dualL2 gapL2 finiteTo question closed fitL2 fitZero fitFlat polished searchOf keptOf firstGap fitEnd fitL1 fitBy fit ofBits ofInt add sub mul div neg lt le eq isNan
+unfolding absOf isFinite maxOf minOf clampOf isqrtOf isqrt nearestRoot sqrtOf list sumTo maxTo norm2Sq dot sumAbs maxAbs diff diffK diffT diffKT less taken rest entry rowTo row rows sound forwardAt forward divided backAt back solve gram more product zstar lamMax ridge minus clamped certify threshold aboveTo knots iterate run barrier rightAt dmu1At dmu2At squareAt capped system right direction squares norm capTo stepped along insideTo accepted trials newtonZ searchLine nextT move problem origin interiorPoint holdAt freeTo compressed lessTo rightOf solved candidateAt candidate polish soundL2 trendL2 scaled objectiveL2 dualL2 gapL2 finiteTo question closed fitL2 fitZero fitFlat polished searchOf keptOf firstGap fitEnd fitL1 fitBy fit ofBits ofInt add sub mul div neg lt le eq isNan
 known-3 = refl
 
 abbrev pub table-4 : List Case
@@ -87,15 +88,29 @@ table-4 =
     ∷ []
 
 pub known-4 : worked table-4 ≡ stated table-4
-unfolding absOf isFinite maxOf minOf clampOf isqrtOf isqrt nearestRoot sqrtOf list sumTo maxTo norm2Sq dot sumAbs maxAbs diff diffK diffT diffKT less taken rest entry rowTo row rows sound forwardAt forward divided backAt back solve gram more product zstar lamMax ridge minus clamped certify threshold aboveTo knots iterate run barrier rightAt dmu1At dmu2At squareAt capped system right direction squares norm capTo stepped along insideTo accepted trials newtonZ searchLine nextT move problem origin interiorPoint holdAt freeTo compressed lessTo rightOf candidateAt polish soundL2 trendL2 scaled objectiveL2 dualL2 gapL2 finiteTo question closed fitL2 fitZero fitFlat polished searchOf keptOf firstGap fitEnd fitL1 fitBy fit ofBits ofInt add sub mul div neg lt le eq isNan
+unfolding absOf isFinite maxOf minOf clampOf isqrtOf isqrt nearestRoot sqrtOf list sumTo maxTo norm2Sq dot sumAbs maxAbs diff diffK diffT diffKT less taken rest entry rowTo row rows sound forwardAt forward divided backAt back solve gram more product zstar lamMax ridge minus clamped certify threshold aboveTo knots iterate run barrier rightAt dmu1At dmu2At squareAt capped system right direction squares norm capTo stepped along insideTo accepted trials newtonZ searchLine nextT move problem origin interiorPoint holdAt freeTo compressed lessTo rightOf solved candidateAt candidate polish soundL2 trendL2 scaled objectiveL2 dualL2 gapL2 finiteTo question closed fitL2 fitZero fitFlat polished searchOf keptOf firstGap fitEnd fitL1 fitBy fit ofBits ofInt add sub mul div neg lt le eq isNan
 known-4 = refl
 
 abbrev pub table-5 : List Case
 table-5 =
-    -- order 1, penalty 1, y (-5.938852467468885e-110, 1.2533205402819163e-109, -2.256748761808825e-110, 1.6278720953274091e-111), lam 1.7721587262088014e-110, tol 1e-300, at most 100000 iterations: fit 4 1 1 10 0 0 3 3
-    record { asked = record { y = F 0xa941da5d82347d03 ∷ F 0x2952d69797a4ab80 ∷ F 0xa92b22e892ed1289 ∷ F 0x28ef51ada4f668b7 ∷ []; lam = F 0x29254f342ea6110b; tol = F 0x01a56e1fc2f8f359; limit = 100000; order = 1; penalty = 1 }; lent = record { trend = 4; cycle = 4; knots = 4; work = 160; marks = 8 }; outcome = fitted (record { trend = F 0xa9390d20ed15f180 ∷ F 0x2952d69797a4ab80 ∷ F 0xa92b22e892ed1289 ∷ F 0xa9235a195456aa80 ∷ []; cycle = F 0xa9254f342ea6110c ∷ F 0x0000000000000000 ∷ F 0x0000000000000000 ∷ F 0x29254f342ea6110b ∷ []; knots = 0 ∷ 1 ∷ 2 ∷ []; lam-max = F 0x29453c3511efd8c3; gap = F 0x129d9b6cb795d4cb; first-gap = F 0x12a1db70dec0d673; best-gap = F 0x12a1db70dec0d673; objective = F 0x12a0f865564d804f; n-iter = 10; improvements = 0; converged = false }) }
+    -- order 1, penalty 1, y (3.861483728055782e-162, 7.722967456111564e-162), lam 1.4480563980209183e-162, tol 0.5, at most 1 iterations: fit 2 1 1 1 0 1 2 1
+    record { asked = record { y = F 0x1e6bcbc4cfccbcb4 ∷ F 0x1e7bcbc4cfccbcb4 ∷ []; lam = F 0x1e54d8d39bd98d87; tol = F 0x3fe0000000000000; limit = 1; order = 1; penalty = 1 }; lent = record { trend = 2; cycle = 2; knots = 2; work = 80; marks = 4 }; outcome = fitted (record { trend = F 0x1e731c174edcc1bc ∷ F 0x1e76958fe8d65952 ∷ []; cycle = F 0x9e54d8d39bd98d88 ∷ F 0x1e54d8d39bd98d88 ∷ []; knots = 0 ∷ []; lam-max = F 0x1e5bcbc4cfccbcb4; gap = F 0x8000000000000001; first-gap = F 0x0000000000000001; best-gap = F 0x0000000000000001; objective = F 0x0000000000000000; n-iter = 1; improvements = 0; converged = true }) }
+    -- order 1, penalty 1, y (-1.0, -8.0, -3.0, -8.0, 9.0, 5.0, -4.0), lam 1.43, tol 1e-08, at most 1 iterations: fit 7 1 1 1 1 0 2 4
+    ∷ record { asked = record { y = F 0xbff0000000000000 ∷ F 0xc020000000000000 ∷ F 0xc008000000000000 ∷ F 0xc020000000000000 ∷ F 0x4022000000000000 ∷ F 0x4014000000000000 ∷ F 0xc010000000000000 ∷ []; lam = F 0x3ff6e147ae147ae1; tol = F 0x3e45798ee2308c3a; limit = 1; order = 1; penalty = 1 }; lent = record { trend = 7; cycle = 7; knots = 7; work = 280; marks = 14 }; outcome = fitted (record { trend = F 0xc00370a3d70a3d70 ∷ F 0xc0148f5c28f5c290 ∷ F 0xc016000000000000 ∷ F 0xc016000000000000 ∷ F 0x401647ae147ae148 ∷ F 0x401647ae147ae148 ∷ F 0xc0048f5c28f5c290 ∷ []; cycle = F 0x3ff6e147ae147ae0 ∷ F 0xc006e147ae147ae0 ∷ F 0x4004000000000000 ∷ F 0xc004000000000000 ∷ F 0x400b70a3d70a3d70 ∷ F 0xbfe23d70a3d70a40 ∷ F 0xbff6e147ae147ae0 ∷ []; knots = 0 ∷ 1 ∷ 3 ∷ 5 ∷ []; lam-max = F 0x402c924924924926; gap = F 0x3ff5ac083126e960; first-gap = F 0x4050cd70a3d70a3d; best-gap = F 0x4041e29a593606e4; objective = F 0x4049251eb851eb84; n-iter = 1; improvements = 1; converged = false }) }
     ∷ []
 
 pub known-5 : worked table-5 ≡ stated table-5
-unfolding absOf isFinite maxOf minOf clampOf isqrtOf isqrt nearestRoot sqrtOf list sumTo maxTo norm2Sq dot sumAbs maxAbs diff diffK diffT diffKT less taken rest entry rowTo row rows sound forwardAt forward divided backAt back solve gram more product zstar lamMax ridge minus clamped certify threshold aboveTo knots iterate run barrier rightAt dmu1At dmu2At squareAt capped system right direction squares norm capTo stepped along insideTo accepted trials newtonZ searchLine nextT move problem origin interiorPoint holdAt freeTo compressed lessTo rightOf candidateAt polish soundL2 trendL2 scaled objectiveL2 dualL2 gapL2 finiteTo question closed fitL2 fitZero fitFlat polished searchOf keptOf firstGap fitEnd fitL1 fitBy fit ofBits ofInt add sub mul div neg lt le eq isNan
+unfolding absOf isFinite maxOf minOf clampOf isqrtOf isqrt nearestRoot sqrtOf list sumTo maxTo norm2Sq dot sumAbs maxAbs diff diffK diffT diffKT less taken rest entry rowTo row rows sound forwardAt forward divided backAt back solve gram more product zstar lamMax ridge minus clamped certify threshold aboveTo knots iterate run barrier rightAt dmu1At dmu2At squareAt capped system right direction squares norm capTo stepped along insideTo accepted trials newtonZ searchLine nextT move problem origin interiorPoint holdAt freeTo compressed lessTo rightOf solved candidateAt candidate polish soundL2 trendL2 scaled objectiveL2 dualL2 gapL2 finiteTo question closed fitL2 fitZero fitFlat polished searchOf keptOf firstGap fitEnd fitL1 fitBy fit ofBits ofInt add sub mul div neg lt le eq isNan
 known-5 = refl
+
+abbrev pub table-6 : List Case
+table-6 =
+    -- order 2, penalty 1, y (3.0, -2.0, -6.0, 2.0, -8.0, 1.0, 2.0), lam 6.11, tol 1e-08, at most 1 iterations: fit 7 2 1 1 1 1 2 2
+    record { asked = record { y = F 0x4008000000000000 ∷ F 0xc000000000000000 ∷ F 0xc018000000000000 ∷ F 0x4000000000000000 ∷ F 0xc020000000000000 ∷ F 0x3ff0000000000000 ∷ F 0x4000000000000000 ∷ []; lam = F 0x401870a3d70a3d71; tol = F 0x3e45798ee2308c3a; limit = 1; order = 2; penalty = 1 }; lent = record { trend = 7; cycle = 7; knots = 7; work = 280; marks = 14 }; outcome = fitted (record { trend = F 0xbfe12f95fc62c930 ∷ F 0xbff092f95fc62c94 ∷ F 0xbff88e27c15af490 ∷ F 0xbffc8e27c15af488 ∷ F 0xc0004713e0ad7a4a ∷ F 0xbff092f95fc62c8e ∷ F 0xbfa2f95fc62c9340 ∷ []; cycle = F 0x400c4be57f18b24c ∷ F 0xbfeeda0d4073a6d8 ∷ F 0xc011dc760fa942dc ∷ F 0x400e4713e0ad7a44 ∷ F 0xc017dc760fa942db ∷ F 0x4000497cafe31647 ∷ F 0x40004be57f18b24d ∷ []; knots = 1 ∷ 3 ∷ []; lam-max = F 0x4020492492492492; gap = F 0x3d34000000000000; first-gap = F 0x407626147ae147ae; best-gap = F 0x4028c9eb1ce551c4; objective = F 0x404b788c52faea93; n-iter = 1; improvements = 1; converged = true }) }
+    -- order 2, penalty 1, y (-3.0, 3.0, 0.0, -2.0, -7.0, 9.0, 7.0), lam 2.5, tol 1e-08, at most 1 iterations: fit 7 2 1 1 1 0 2 3
+    ∷ record { asked = record { y = F 0xc008000000000000 ∷ F 0x4008000000000000 ∷ F 0x0000000000000000 ∷ F 0xc000000000000000 ∷ F 0xc01c000000000000 ∷ F 0x4022000000000000 ∷ F 0x401c000000000000 ∷ []; lam = F 0x4004000000000000; tol = F 0x3e45798ee2308c3a; limit = 1; order = 2; penalty = 1 }; lent = record { trend = 7; cycle = 7; knots = 7; work = 280; marks = 14 }; outcome = fitted (record { trend = F 0xbfe0000000000000 ∷ F 0xbffc000000000000 ∷ F 0xbfe0000000000000 ∷ F 0x3fe8000000000000 ∷ F 0xc006000000000000 ∷ F 0x4008000000000000 ∷ F 0x4021800000000000 ∷ []; cycle = F 0xc004000000000000 ∷ F 0x4013000000000000 ∷ F 0x3fe0000000000000 ∷ F 0xc006000000000000 ∷ F 0xc011000000000000 ∷ F 0x4018000000000000 ∷ F 0xbffc000000000000 ∷ []; knots = 0 ∷ 2 ∷ 3 ∷ []; lam-max = F 0x4024000000000002; gap = F 0x4042200000000000; first-gap = F 0x4060400000000000; best-gap = F 0x4042f98dbb2cea84; objective = F 0x4056080000000000; n-iter = 1; improvements = 1; converged = false }) }
+    ∷ []
+
+pub known-6 : worked table-6 ≡ stated table-6
+unfolding absOf isFinite maxOf minOf clampOf isqrtOf isqrt nearestRoot sqrtOf list sumTo maxTo norm2Sq dot sumAbs maxAbs diff diffK diffT diffKT less taken rest entry rowTo row rows sound forwardAt forward divided backAt back solve gram more product zstar lamMax ridge minus clamped certify threshold aboveTo knots iterate run barrier rightAt dmu1At dmu2At squareAt capped system right direction squares norm capTo stepped along insideTo accepted trials newtonZ searchLine nextT move problem origin interiorPoint holdAt freeTo compressed lessTo rightOf solved candidateAt candidate polish soundL2 trendL2 scaled objectiveL2 dualL2 gapL2 finiteTo question closed fitL2 fitZero fitFlat polished searchOf keptOf firstGap fitEnd fitL1 fitBy fit ofBits ofInt add sub mul div neg lt le eq isNan
+known-6 = refl

@@ -18,7 +18,7 @@ use Rattle.fit.specs.Questions.{Asked, Lent, question}
 use Rattle.fit.specs.Fit.{Fit, Outcome, refused, fitted, places, closed, fitL2, fitZero, fitFlat, polished, searchOf, keptOf, firstGap, fitWith, fitEnd, lamZero, lamHigh, fitL1, fitBy, soundDD, fit}
 use Rattle.fit.specs.Demand3.{Bounds, withLimit, Demand3}
 use Rattle.fit.proofs.Sign.{lam-positive, primal-clear}
-use Rattle.fit.proofs.Passed.{Answered, answered, same-question, same-questions, fit-passed, Passed, passed}
+use Rattle.fit.proofs.Passed.{Answered, answered, lam-finite, lam-not-below, tol-above, same-question, same-questions, fit-passed, passed}
 
 -- ---- the search of a fit
 abbrev problemOf : Asked → Problem State
@@ -28,7 +28,10 @@ abbrev Searches : Asked → Type 0
 Searches a = search.Demand3 (problemOf a) (a .tol) (origin (places a))
 
 searches : (a : Asked) (l : Lent) → Answered a l → lamZero a ≡ false → Searches a
-searches a l q z = demand3 (problemOf a) (a .tol) (q .tol) (primal-clear (a .order) (gramRow (a .order)) (a .y) (a .lam) (lam-positive (a .lam) (q .lam-finite) (q .lam-not-below) z)) (origin (places a))
+searches a l q z =
+    demand3 (problemOf a) (a .tol) (tol-above a (q .tol))
+    (primal-clear (a .order) (gramRow (a .order)) (a .y) (a .lam) (lam-positive (a .lam) (lam-finite a (q .lam)) (lam-not-below a (q .lam)) z))
+    (origin (places a))
 
 -- ---- the numeric bounds
 abbrev Within : ℕ → Outcome → Type 0

@@ -1,28 +1,28 @@
 -- How long the lists of a fit are: trend and cycle have a place for each of y, and a knot is one of the n - k differences.
-use mathlib.Core.Path.{_≡_, refl, sym, ap, _∙_, subst}
-use Prim.Native.Nat.{ℕ, zero, suc, _+_, _-_, _≤_, _<_}
-use native.Mathlib.Nat.{le-refl, le-trans, le-of-eq}
-use native.Mathlib.Omega.{arith}
+use mathlib.Core.Path.{_≡_, refl, ap, _∙_, subst}
+use Prim.Native.Nat.{ℕ, _-_, _≤_}
+use native.Mathlib.Nat.{le-trans, le-of-eq}
 use mathlib.Core.Bool.{Bool, true, false, cond}
-use mathlib.Core.List.{List, [], _∷_, _++_}
+use mathlib.Core.List.{List}
 use mathlib.Core.Option.{Option, none, some}
 use lib.Dec.{T, eqb}
-use lib.ListN.{length, length-append}
-use lib.Ieee.{Float, lt}
-use Rattle.float64.specs.Helpers.{absOf}
-use Rattle.vectors.specs.Vec.{at}
-use Rattle.vectors.proofs.Laws.{length-list}
-use Rattle.differences.specs.Diff.{diff, diffK}
+use lib.ListN.{length}
+use lib.Ieee.{Float}
+use Rattle.differences.specs.Diff.{diffK}
+use Rattle.differences.proofs.Laws.{length-diffK}
 use Rattle.banded.specs.Solve.{forward, divided, solve}
-use Rattle.banded.proofs.Steps.{length-forward, length-divided, length-back}
-use Rattle.certificate.specs.Certificate.{Certificate, minus, certify}
-use Rattle.certificate.specs.Knots.{aboveTo, knots}
+use Rattle.banded.proofs.Elimination.{length-forward}
+use Rattle.substitution.proofs.Laws.{length-divided, length-back}
+use Rattle.certificate.specs.Certificate.{Certificate, certify}
+use Rattle.certificate.proofs.Laws.{length-minus}
+use Rattle.certificate.proofs.Above.{above-few}
+use Rattle.certificate.specs.Knots.{knots}
 use Rattle.step_bound.specs.Search.{Ended}
 use Rattle.interior_point.specs.InteriorPoint.{State}
 use Rattle.l2.specs.L2.{soundL2, trendL2}
 use Rattle.fit.specs.Questions.{Asked, Lent}
 use Rattle.fit.specs.Fit.{Fit, Outcome, refused, fitted, places, closed, fitL2, fitZero, fitFlat, better, polished, searchOf, keptOf, fitEnd, lamZero, lamHigh, fitL1, fitBy, fit}
-use Rattle.fit.proofs.Passed.{Passed, passed}
+use Rattle.fit.proofs.Passed.{passed}
 
 pub record Lengths (a : Asked) (f : Fit) : Type 0 where
   pub trend : length (f .trend) ≡ length (a .y)
@@ -30,22 +30,6 @@ pub record Lengths (a : Asked) (f : Fit) : Type 0 where
   pub knots : length (f .knots) ≤ places a
 
 -- ---- of the parts
-pub length-minus : (u v : List Float) → length (minus u v) ≡ length u
-unfolding minus
-length-minus u v = length-list (length u) _
-
-length-diff : (w : List Float) → length (diff w) ≡ length w - 1
-unfolding diff
-length-diff w = length-list (length w - 1) _
-
-pub length-diffK : (k : ℕ) (w : List Float) → length (diffK k w) ≡ length w - k
-unfolding diffK
-length-diffK zero w = omega arith
-length-diffK (suc k) w = length-diff (diffK k w) ∙ rest (length (diffK k w)) (length w) k (length-diffK k w)
-  where
-    rest : (d n k : ℕ) → d ≡ n - k → d - 1 ≡ n - suc k
-    rest d n k e = omega arith
-
 pub length-solve : (k : ℕ) (f : List (List Float)) (b : List Float) → length (solve k f b) ≡ length b
 unfolding solve
 length-solve k f b =
@@ -53,22 +37,9 @@ length-solve k f b =
     let w = divided k f u in
     length-back k f w (length w) ∙ length-divided k f u ∙ length-forward k f b (length b)
 
-one-more : (b : Bool) (n : ℕ) → length (cond b (n ∷ []) []) ≤ 1
-one-more true n = le-refl 1
-one-more false n = omega arith
-
-length-above : (t : Float) (d : List Float) (n : ℕ) → length (aboveTo t d n) ≤ n
-unfolding aboveTo
-length-above t d zero = le-refl 0
-length-above t d (suc n) =
-    let e = length-append (aboveTo t d n) (cond (lt t (absOf (at d n))) (n ∷ []) []) in
-    let h = length-above t d n in
-    let o = one-more (lt t (absOf (at d n))) n in
-    omega (arith, e, h, o)
-
 pub length-knots : (k : ℕ) (y d : List Float) → length (knots k y d) ≤ length d
 unfolding knots
-length-knots k y d = length-above _ d (length d)
+length-knots k y d = above-few _ d (length d)
 
 -- ---- of a certificate
 record Sizes (a : Asked) (c : Certificate) : Type 0 where

@@ -1,16 +1,16 @@
 -- What holds where no question is answered no, and how a fit comes about.
 use mathlib.Core.Path.{_≡_, refl, sym, ap, _∙_, subst}
-use Prim.Native.Nat.{ℕ, zero, suc, _+_, _*_, _≤_, _<_}
+use Prim.Native.Nat.{ℕ, zero, suc, _+_, _≤_, _<_}
 use native.Mathlib.Omega.{arith}
 use mathlib.Core.Bool.{Bool, true, false, cond, not, _&&_, _||_}
 use lib.Dec.{T, ltb, eqb, ltb→lt, lt→ltb, eqb→eq, eqb·suc-zero}
 use lib.ListN.{length}
-use lib.Ieee.{Float, lt}
+use lib.Ieee.{lt}
 use lib.Ieee.Fits.{eq→eqb}
 use lib.Ieee.Positive.{positive}
 use Rattle.float64.specs.Helpers.{isFinite}
 use Rattle.float64.specs.Ops.{c0}
-use Rattle.fit.specs.Questions.{Asked, Lent, oneOrTwo, finiteTo, question}
+use Rattle.fit.specs.Questions.{Asked, Lent, oneOrTwo, no-1, no-2, no-3, no-4, no-5, no-6, no-7, no-8, no-9, question}
 use Rattle.l2.specs.L2.{soundL2}
 use Rattle.fit.specs.Fit.{Fit, Outcome, refused, fitted, soundDD, fitL2, fitL1, fitBy, fit}
 use Rattle.fit.specs.Demand3.{withLimit}
@@ -19,6 +19,10 @@ use Rattle.fit.proofs.Sign.{tol-positive}
 -- ---- booleans
 off : (b : Bool) → b ≡ true → b ≡ false → ⊥
 off b e f = subst T (sym e ∙ f) tt
+
+pub on : (b : Bool) → T b → b ≡ true
+on true t = refl
+on false t = absurd t
 
 pub cond-on : {A : Type 0} (b : Bool) (x y : A) → b ≡ true → cond b x y ≡ x
 cond-on b x y e = ap (λ (c : Bool). cond c x y) e
@@ -38,57 +42,46 @@ or-right : (a b : Bool) → a || b ≡ false → b ≡ false
 or-right true b e = absurd (off true refl e)
 or-right false b e = e
 
-and-left : (a b : Bool) → a && b ≡ true → a ≡ true
-and-left true b e = refl
-and-left false b e = e
-
-and-right : (a b : Bool) → a && b ≡ true → b ≡ true
-and-right true b e = e
-and-right false b e = absurd (off false e refl)
-
 -- ---- the questions
 past : (b : Bool) (n x : ℕ) → eqb n 0 ≡ false → cond b n x ≡ 0 → (b ≡ false) × (x ≡ 0)
 past true n x h e = absurd (off (eqb n 0) (on (eqb n 0) (eq→eqb e)) h)
-  where
-    on : (c : Bool) → T c → c ≡ true
-    on true t = refl
-    on false t = absurd t
 past false n x h e = (refl, e)
 
 -- no question of 1 to 9 is answered no
 pub record Answered (a : Asked) (l : Lent) : Type 0 where
-  pub order : oneOrTwo (a .order) ≡ true
-  pub penalty : oneOrTwo (a .penalty) ≡ true
-  pub long : ltb (length (a .y)) (a .order + 1) ≡ false
-  pub short : ltb 65536 (length (a .y)) ≡ false
-  pub series : finiteTo (a .y) (length (a .y)) ≡ true
-  pub lam-finite : isFinite (a .lam) ≡ true
-  pub lam-not-below : lt (a .lam) c0 ≡ false
-  pub tol : T (positive (a .tol))
-  pub limit : eqb (a .limit) 0 ≡ false
+  pub kind : no-1 a ≡ false
+  pub long : no-2 a ≡ false
+  pub short : no-3 a ≡ false
+  pub series : no-4 a ≡ false
+  pub lam : no-5 a ≡ false
+  pub tol : no-6 a ≡ false
+  pub limit : no-7 a ≡ false
+  pub lent : no-8 a l ≡ false
+  pub room : no-9 a l ≡ false
 
 pub answered : (a : Asked) (l : Lent) → question a l ≡ 0 → Answered a l
 unfolding question
 answered a l e =
-    let q1 = past _ 1 _ refl e in
-    let q2 = past _ 2 _ refl (q1 .1) in
-    let q3 = past _ 3 _ refl (q2 .1) in
-    let q4 = past _ 4 _ refl (q3 .1) in
-    let q5 = past _ 5 _ refl (q4 .1) in
-    let q6 = past _ 6 _ refl (q5 .1) in
-    let q7 = past _ 7 _ refl (q6 .1) in
-    let one = yes _ (q1 .0) in
-    record {
-      order = and-left (oneOrTwo (a .order)) (oneOrTwo (a .penalty)) one;
-      penalty = and-right (oneOrTwo (a .order)) (oneOrTwo (a .penalty)) one;
-      long = q2 .0;
-      short = q3 .0;
-      series = yes _ (q4 .0);
-      lam-finite = yes _ (or-left (not (isFinite (a .lam))) (lt (a .lam) c0) (q5 .0));
-      lam-not-below = or-right (not (isFinite (a .lam))) (lt (a .lam) c0) (q5 .0);
-      tol = tol-positive (a .tol) (yes _ (q6 .0));
-      limit = q7 .0;
-    }
+    let q1 = past (no-1 a) 1 _ refl e in
+    let q2 = past (no-2 a) 2 _ refl (q1 .1) in
+    let q3 = past (no-3 a) 3 _ refl (q2 .1) in
+    let q4 = past (no-4 a) 4 _ refl (q3 .1) in
+    let q5 = past (no-5 a) 5 _ refl (q4 .1) in
+    let q6 = past (no-6 a) 6 _ refl (q5 .1) in
+    let q7 = past (no-7 a) 7 _ refl (q6 .1) in
+    let q8 = past (no-8 a l) 8 _ refl (q7 .1) in
+    let q9 = past (no-9 a l) 9 0 refl (q8 .1) in
+    record { kind = q1 .0; long = q2 .0; short = q3 .0; series = q4 .0; lam = q5 .0; tol = q6 .0; limit = q7 .0; lent = q8 .0; room = q9 .0 }
+
+-- lam is finite and not below 0, tol is above 0
+pub lam-finite : (a : Asked) → no-5 a ≡ false → isFinite (a .lam) ≡ true
+lam-finite a e = yes (isFinite (a .lam)) (or-left (not (isFinite (a .lam))) (lt (a .lam) c0) e)
+
+pub lam-not-below : (a : Asked) → no-5 a ≡ false → lt (a .lam) c0 ≡ false
+lam-not-below a e = or-right (not (isFinite (a .lam))) (lt (a .lam) c0) e
+
+pub tol-above : (a : Asked) → no-6 a ≡ false → T (positive (a .tol))
+tol-above a e = tol-positive (a .tol) (yes (isFinite (a .tol) && lt c0 (a .tol)) e)
 
 -- ---- question 3: n 65,536 passes and 65,537 does not, whatever the places hold
 most : (k : ℕ) → oneOrTwo k ≡ true → k ≤ 2
@@ -107,60 +100,35 @@ not-below m n h = go (ltb m n) (ltb→lt m n)
     go false k = refl
 
 is-below : (m n : ℕ) → m < n → ltb m n ≡ true
-is-below m n h = go (ltb m n) (lt→ltb m n h)
-  where
-    go : (b : Bool) → T b → b ≡ true
-    go true t = refl
-    go false t = absurd t
+is-below m n h = on (ltb m n) (lt→ltb m n h)
 
 pub size-asked : (a : Asked) (l : Lent) → oneOrTwo (a .order) ≡ true → oneOrTwo (a .penalty) ≡ true → 65536 < length (a .y) → question a l ≡ 3
 unfolding question
 size-asked a l o p h =
     let k = most (a .order) o in
-    cond-off _ _ _ (ap not ((λ i. o i && p i)))
-    ∙ cond-off _ _ _ (not-below (length (a .y)) (a .order + 1) (omega arith))
-    ∙ cond-on _ _ _ (is-below 65536 (length (a .y)) h)
+    cond-off (no-1 a) _ _ (λ i. not (o i && p i))
+    ∙ cond-off (no-2 a) _ _ (not-below (length (a .y)) (a .order + 1) (omega arith))
+    ∙ cond-on (no-3 a) _ _ (is-below 65536 (length (a .y)) h)
 
 only-three : (b : Bool) (n x : ℕ) → eqb n 3 ≡ false → cond b n x ≡ 3 → x ≡ 3
 only-three true n x h e = absurd (off (eqb n 3) (ap (λ (m : ℕ). eqb m 3) e) h)
 only-three false n x h e = e
 
--- the number of the first that is on
-abbrev firstOf : (b1 b2 b3 b4 b5 b6 b7 b8 b9 : Bool) → ℕ
-firstOf b1 b2 b3 b4 b5 b6 b7 b8 b9 = cond b1 1 (cond b2 2 (cond b3 3 (cond b4 4 (cond b5 5 (cond b6 6 (cond b7 7 (cond b8 8 (cond b9 9 0))))))))
-
-none-three : (b1 b2 b3 b4 b5 b6 b7 b8 b9 : Bool) → b3 ≡ false → firstOf b1 b2 b3 b4 b5 b6 b7 b8 b9 ≡ 3 → ⊥
-none-three b1 b2 b3 b4 b5 b6 b7 b8 b9 h e =
-    let q2 = only-three b2 2 _ refl (only-three b1 1 _ refl e) in
-    let q3 = sym (cond-off b3 3 _ h) ∙ q2 in
-    let q6 = only-three b6 6 _ refl (only-three b5 5 _ refl (only-three b4 4 _ refl q3)) in
-    last (only-three b9 9 0 refl (only-three b8 8 _ refl (only-three b7 7 _ refl q6)))
+pub size-not-asked : (a : Asked) (l : Lent) → length (a .y) ≤ 65536 → question a l ≡ 3 → ⊥
+unfolding question
+size-not-asked a l h e =
+    let q2 = only-three (no-2 a) 2 _ refl (only-three (no-1 a) 1 _ refl e) in
+    let q3 = sym (cond-off (no-3 a) 3 _ (not-below 65536 (length (a .y)) h)) ∙ q2 in
+    let q6 = only-three (no-6 a) 6 _ refl (only-three (no-5 a) 5 _ refl (only-three (no-4 a) 4 _ refl q3)) in
+    last (only-three (no-9 a l) 9 0 refl (only-three (no-8 a l) 8 _ refl (only-three (no-7 a) 7 _ refl q6)))
   where
     last : (zero ≡ 3) → ⊥
     last w = omega arith
 
-pub size-not-asked : (a : Asked) (l : Lent) → length (a .y) ≤ 65536 → question a l ≡ 3 → ⊥
-unfolding question
-size-not-asked a l h e =
-    let n = length (a .y) in
-    none-three (not (oneOrTwo (a .order) && oneOrTwo (a .penalty))) (ltb n (a .order + 1)) (ltb 65536 n) (not (finiteTo (a .y) n)) (not (isFinite (a .lam)) || lt (a .lam) c0)
-    (not (isFinite (a .tol) && lt c0 (a .tol))) (eqb (a .limit) 0) (ltb (l .trend) n || ltb (l .cycle) n || ltb (l .knots) n) (ltb (l .work) (40 * n) || ltb (l .marks) (2 * n))
-    (not-below 65536 (length (a .y)) h) e
-
--- the questions with the answer to the seventh given
+-- ---- another limit: the questions with the answer to the seventh given
 abbrev asksWith : Asked → Lent → Bool → ℕ
 asksWith a l b =
-    let n = length (a .y) in
-    cond (not (oneOrTwo (a .order) && oneOrTwo (a .penalty))) 1
-    (cond (ltb n (a .order + 1)) 2
-    (cond (ltb 65536 n) 3
-    (cond (not (finiteTo (a .y) n)) 4
-    (cond (not (isFinite (a .lam)) || lt (a .lam) c0) 5
-    (cond (not (isFinite (a .tol) && lt c0 (a .tol))) 6
-    (cond b 7
-    (cond (ltb (l .trend) n || ltb (l .cycle) n || ltb (l .knots) n) 8
-    (cond (ltb (l .work) (40 * n) || ltb (l .marks) (2 * n)) 9
-    0))))))))
+    cond (no-1 a) 1 (cond (no-2 a) 2 (cond (no-3 a) 3 (cond (no-4 a) 4 (cond (no-5 a) 5 (cond (no-6 a) 6 (cond b 7 (cond (no-8 a l) 8 (cond (no-9 a l) 9 0))))))))
 
 asks : (a : Asked) (l : Lent) → question a l ≡ asksWith a l (eqb (a .limit) 0)
 unfolding question

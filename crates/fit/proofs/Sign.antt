@@ -1,13 +1,13 @@
 -- Signs: a tolerance that passes question 6 is above 0, a lam that passes question 5 and is no zero too, and then P is a NaN or has a clear sign.
-use mathlib.Core.Path.{_≡_, refl, sym, ap, _∙_, subst}
-use Prim.Native.Nat.{ℕ, zero, suc, _+_, _*_, _≤_, _<_}
+use mathlib.Core.Path.{_≡_, sym, ap, _∙_, subst}
+use Prim.Native.Nat.{ℕ, zero, suc, _+_, _*_, _<_}
 use native.Mathlib.Nat.{lt-of-le-of-lt, zero-mul}
 use native.Mathlib.Omega.{arith}
 use mathlib.Core.Bool.{Bool, true, false, not, _&&_, _||_}
 use mathlib.Core.List.{List}
-use lib.Dec.{T, ltb, ltb→lt, lt→ltb}
+use lib.Dec.{T, ltb→lt, lt→ltb}
 use lib.ListN.{length}
-use lib.Ieee.{Float, nan, inf, fin, binary64, ofBits, up, down, add, mul, lt, le, eq, isNan}
+use lib.Ieee.{Float, nan, inf, fin, binary64, ofBits, up, down, mul, lt, le, eq, isNan}
 use lib.Ieee.Positive.{positive, above}
 use Rattle.float64.specs.Helpers.{absOf, isFinite}
 use Rattle.float64.specs.Ops.{_⊗_, c0, half}

@@ -1,5 +1,5 @@
 -- Document 01, "Questions before and during a fit" and "Polish, knots, closed paths": the whole fit, from what is asked and lent to its outcome.
-use mathlib.Core.Bool.{Bool, true, false, cond, _&&_}
+use mathlib.Core.Bool.{Bool, true, cond, _&&_}
 use mathlib.Core.List.{List}
 use mathlib.Core.Option.{Option, none, some}
 use Prim.Native.Nat.{ℕ, _-_}

@@ -1,14 +1,12 @@
 -- Values whose sign is clear, and NaN: products of two, sums of two and squares are such values. And where a gap is not at most tol times such a primal objective, the gap is a NaN or above zero.
-use mathlib.Core.Path.{_≡_, refl, sym, ap, _∙_, subst}
-use mathlib.Core.Logic.{_⊎_, inl, inr}
-use Prim.Native.Nat.{ℕ, zero, suc, _+_, _*_, _^_, _≤_, _<_, zero-le}
-use native.Mathlib.Nat.{zero-mul, zero-lt-suc, eq-zero-or-pos, lt-irrefl, lt-of-lt-of-le, mul-pos}
+use mathlib.Core.Path.{_≡_, sym, ap, _∙_, subst}
+use Prim.Native.Nat.{ℕ, zero, suc, _+_, _*_, _^_, _≤_, _<_}
+use native.Mathlib.Nat.{zero-mul, zero-lt-suc, lt-irrefl}
 use native.Mathlib.Omega.{arith}
 use mathlib.Core.Bool.{Bool, true, false, not, _&&_, _||_, cond, true≢false}
-use lib.IntN.{ℤ}
-use lib.Dec.{T, T-not, ltb, eqb, ltb→lt, nltb→le, lt→ltb, eqb→eq}
-use lib.Ieee.{Float, nan, inf, fin, Format, prec, emax, low, up, down, odd, units, round, neg, sum, add, sub, mul, lt, le, isNan, fits}
-use lib.Ieee.Fits.{round-is, core, eq→eqb}
+use lib.Dec.{T, ltb, eqb, ltb→lt, nltb→le, lt→ltb, eqb→eq}
+use lib.Ieee.{Float, nan, inf, fin, Format, prec, emax, low, up, down, odd, units, round, add, sub, mul, le, isNan}
+use lib.Ieee.Fits.{round-is, eq→eqb}
 use lib.Ieee.Exact.{HasValue, odd-sign}
 use lib.Ieee.Positive.{positive, above}
 use Rattle.step_bound.specs.Demand3.{clear}

@@ -1,16 +1,16 @@
 -- Demand 3 holds of every problem whose primal objective is a NaN or has a clear sign.
-use mathlib.Core.Path.{_≡_, refl, sym, ap, _∙_, subst}
+use mathlib.Core.Path.{_≡_, refl, sym, ap, subst}
 use mathlib.Core.Logic.{_⊎_, inl, inr}
-use Prim.Native.Nat.{ℕ, zero, suc, _+_, _*_, _^_, _≤_, _<_, zero-le}
+use Prim.Native.Nat.{ℕ, zero, suc, _+_, _*_, _≤_, _<_, zero-le}
 use native.Mathlib.Omega.{arith}
 use mathlib.Core.Bool.{Bool, true, false, not, _||_}
 use lib.Signed.{≤ℤ-refl}
 use lib.IntN.{pos, _*ℤ_}
 use lib.Dec.{T}
-use lib.Ieee.{Float, nan, inf, fin, binary64, mul, lt, le, isNan, ofBits}
+use lib.Ieee.{Float, nan, inf, fin, binary64, mul, lt, isNan, ofBits}
 use lib.Ieee.Fits.{sub-fits}
 use lib.Ieee.Positive.{positive, above}
-use Rattle.step_bound.specs.Search.{Problem, Point, Ended, Reason, small, spent, stalled, pivot, mark, gap, start, ended, enough, better, searched, run}
+use Rattle.step_bound.specs.Search.{Problem, Point, Ended, Reason, small, spent, stalled, pivot, mark, gap, start, ended, enough, better, searched}
 use Rattle.step_bound.specs.Demand3.{units, Kept, Alike, Demand3, clear}
 use Rattle.step_bound.proofs.Trace.{Trace, closes, spends, stalls, loses, gains, stays, trace, traced, steps-grow, steps-within, idle}
 use Rattle.step_bound.proofs.Falls.{Falls, here, lower, falls-whole, few-improvements}

@@ -1,21 +1,20 @@
 -- A run of best gaps, each below 0.99 of the one before it: how far down it is, and how long it can be.
 use mathlib.Core.Path.{_≡_, refl, sym, ap, _∙_, subst}
-use mathlib.Core.Logic.{_⊎_, inl, inr}
-use Prim.Native.Nat.{ℕ, zero, suc, _+_, _-_, _*_, _/_, _^_, _≤_, _<_, zero-le, suc-le-suc}
-use native.Mathlib.Nat.{le-refl, le-trans, le-of-eq, le-of-lt, lt-of-not-le, not-le-of-lt, lt-irrefl, lt-of-lt-of-le, lt-of-le-of-lt, zero-mul, mul-one, one-mul, mul-comm, mul-assoc, mul-left-comm, mul-right-comm, mul-mul-mul-comm, mul-le-mul, mul-le-mul-right, mul-le-mul-left, mul-lt-mul-of-pos-right, le-of-suc-le-suc, pow-suc, pow-zero, pow-le-pow-left, one-le-pow, mul-pos, eq-zero-or-pos}
+use Prim.Native.Nat.{ℕ, zero, suc, _+_, _-_, _*_, _^_, _≤_, _<_, zero-le, suc-le-suc}
+use native.Mathlib.Nat.{le-refl, le-trans, le-of-eq, lt-of-not-le, not-le-of-lt, lt-of-le-of-lt, zero-mul, one-mul, mul-comm, mul-assoc, mul-left-comm, mul-mul-mul-comm, mul-le-mul, mul-le-mul-right, mul-le-mul-left, mul-lt-mul-of-pos-right, pow-suc, pow-le-pow-left, one-le-pow}
 use native.Mathlib.Omega.{arith}
-use mathlib.Core.Bool.{Bool, true, false, not, _&&_, _||_}
-use lib.IntN.{ℤ, pos, negsuc, negℤ, _*ℤ_}
-use lib.Signed.{_≤ℤ_, ≤ℤ-refl, leZ, leZ-yes}
-use lib.Dec.{T, ltb, leb, ltb→lt, leb→le, le→leb, lit≤, lit<}
-use lib.Pow.{pow-add, pow-pos}
-use lib.Ieee.{Float, nan, inf, fin, binary64, up, down, mul, lt, fits}
+use mathlib.Core.Bool.{Bool, true, false, not}
+use lib.IntN.{ℤ, pos, negℤ, _*ℤ_}
+use lib.Signed.{_≤ℤ_, ≤ℤ-refl, leZ}
+use lib.Dec.{T, ltb→lt, le→leb, lit≤, lit<}
+use lib.Pow.{pow-add}
+use lib.Ieee.{Float, nan, inf, fin, binary64, down, mul, lt, fits}
 use lib.Ieee.Scale.{finite}
 use lib.Ieee.Positive.{above, positive}
 use lib.Ieee.Digits.{back}
 use Rattle.step_bound.specs.Search.{mark}
 use Rattle.step_bound.specs.Demand3.{count, units}
-use Rattle.step_bound.proofs.Shrink.{Fit, fit-of, shrinks, count-pos, count-under}
+use Rattle.step_bound.proofs.Shrink.{fit-of, shrinks, count-pos, count-under}
 
 -- b is reached from a by j improvements: each is below the rounded 0.99 of the one before, which was above zero, and all are doubles
 pub data Falls (a : Float) : ℕ → Float → Type 0 where

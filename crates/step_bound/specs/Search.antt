@@ -58,6 +58,10 @@ ended p r = record { state = p .state; steps = p .steps; best = p .best; gains =
 abbrev pub enough : {S : Type 0} → Problem S → Float → Point S → Bool
 enough L tol p = le (gap L (p .state)) (tol ⊗ L .primal (p .state))
 
+-- the stall count is 10
+abbrev pub stuck : {S : Type 0} → Point S → Bool
+stuck p = eqb (p .stall) 10
+
 -- the gap at t is below 0.99 of the best, the product rounded
 abbrev pub better : {S : Type 0} → Problem S → Point S → S → Bool
 better L p t = lt (gap L t) (mark ⊗ p .best)
@@ -76,9 +80,9 @@ abbrev pub turned : {S : Type 0} → Problem S → Point S → Turn S → Next S
 turned L p lost = stop (record { state = p .state; steps = suc (p .steps); best = p .best; gains = p .gains; reason = pivot })
 turned L p (moved t) = go (advance L p t (better L p t))
 
--- before each iteration: is the gap small enough, and else, is the stall count 10
+-- before each iteration, while the limit allows one: is the gap small enough, and else, is the stall count 10
 unfoldable pub iterate : {S : Type 0} → Problem S → Float → Point S → Next S
-iterate L tol p = cond (enough L tol p) (stop (ended p small)) (cond (eqb (p .stall) 10) (stop (ended p stalled)) (turned L p (L .move (p .state))))
+iterate L tol p = cond (enough L tol p) (stop (ended p small)) (cond (stuck p) (stop (ended p stalled)) (turned L p (L .move (p .state))))
 
 -- r is how many iterations the limit still allows
 unfoldable pub run : {S : Type 0} → Problem S → Float → ℕ → Point S → Ended S

@@ -3,9 +3,9 @@ use Prim.Native.Nat.{_≤_, _-_, _+_}
 use native.Mathlib.Omega.{arith}
 use lib.ListN.{length}
 use Rattle.vectors.specs.Vec.{at, Written}
-use Rattle.vectors.proofs.Laws.{none, up}
+use Rattle.vectors.proofs.Laws.{none, up, written-put}
 use Rattle.differences.specs.Diff.{diffK}
-use Rattle.differences.proofs.Laws.{length-diffK, written-put}
+use Rattle.differences.proofs.Laws.{length-diffK}
 use borrow.Author.Needs.{needs}
 use Rattle.differences.proofs.diff_into.Statement.{statement}
 use Rattle.differences.proofs.diff_into.Tie as tie
