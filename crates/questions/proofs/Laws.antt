@@ -1,13 +1,12 @@
 -- The nine questions asked in groups are the nine asked in a row; what holds where none is answered no. Assumes nothing.
-use mathlib.Core.Path.{_≡_, refl, sym, ap, _∙_}
+use mathlib.Core.Path.{_≡_, refl, sym, _∙_}
 use mathlib.Core.Bool.{Bool, true, false, cond, not, _&&_, _||_}
-use mathlib.Core.List.{List}
 use Prim.Native.Nat.{ℕ, _+_, _*_, _≤_, _<_}
 use native.Mathlib.Omega.{arith}
 use borrow.Author.Tests.{ltb-false, eqb-true, ne-eqb, eq-eqb}
 use lib.Dec.{ltb, eqb}
 use lib.ListN.{length}
-use lib.Ieee.{Float, lt}
+use lib.Ieee.{lt}
 use Rattle.float64.specs.Helpers.{isFinite}
 use Rattle.float64.specs.Ops.{c0}
 use Rattle.fit.specs.Questions.{Asked, Lent, oneOrTwo, finiteTo, question}

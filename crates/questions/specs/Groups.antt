@@ -1,5 +1,5 @@
 -- Document 01, "Questions before and during a fit": questions 1 to 9 in three groups, each the first that is answered no and 0 where none is.
-use mathlib.Core.Bool.{Bool, cond, not, _&&_, _||_}
+use mathlib.Core.Bool.{cond, not, _&&_, _||_}
 use mathlib.Core.List.{List}
 use Prim.Native.Nat.{ℕ, _+_, _*_}
 use lib.Dec.{ltb, eqb}

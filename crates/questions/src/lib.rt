@@ -102,7 +102,19 @@ fn room(n: usize, trend: usize, cycle: usize, knots: usize, work: usize, marks: 
 }
 
 // The first question of 1 to 9 that is answered no; 0 where none is. trend, cycle, knots, work and marks are the lengths lent.
-pub fn question(y: &[f64], lam: f64, tol: f64, max_iter: u64, order: u32, penalty: u32, trend: usize, cycle: usize, knots: usize, work: usize, marks: usize) -> u32
+pub fn question(
+    y: &[f64],
+    lam: f64,
+    tol: f64,
+    max_iter: u64,
+    order: u32,
+    penalty: u32,
+    trend: usize,
+    cycle: usize,
+    knots: usize,
+    work: usize,
+    marks: usize,
+) -> u32
     ensures { λ r. ⌜ r ≡ question (asking (now (y .entry)) lam tol «max_iter» order penalty) (lending trend cycle knots work marks) ⌝ }
 {
     let n = y.len();

@@ -5,8 +5,7 @@ use mathlib.Core.List.{List}
 use mathlib.Core.Option.{Option, none, some}
 use Prim.Native.Nat.{ℕ, _*_}
 use lib.ListN.{length}
-use lib.Ieee.{Float, lt, le}
-use Rattle.float64.specs.Ops.{_⊗_}
+use lib.Ieee.{Float, lt}
 use Rattle.float64.specs.Helpers.{isFinite}
 use Rattle.vectors.specs.Vec.{part, put}
 use Rattle.vectors.proofs.Parts.{length-part}
@@ -16,7 +15,7 @@ use Rattle.certificate.specs.Knots.{knots as knotsOf}
 use Rattle.polish.specs.declared.Candidate.{Candidate}
 use Rattle.polish.specs.Marks.{isSome, Rated, wins}
 use Rattle.fit.specs.Questions.{Asked}
-use Rattle.fit.specs.Fit.{lamMaxOf, better, polished, keptOf, searchOf, firstGap, fitWith, fitEnd}
+use Rattle.fit.specs.Fit.{lamMaxOf, better, polished, keptOf, searchOf, fitEnd}
 use Rattle.trend_filter.specs.declared.Summary.{Summary}
 use Rattle.trend_filter.specs.declared.search.End.{End}
 use Rattle.trend_filter.specs.Answers.{summaryOf}
@@ -42,15 +41,17 @@ module _ (a : Asked) (c : Certificate) (q : Candidate) (w : List Float) (gap pri
       × (cond (wins q gap) (part (11 * length (a .y)) (length (a .y)) w) x ≡ polished a c o .trend))
   unfolding polished
   kept-of none e h =
-      let s : wins q gap ≡ false = ap (λ (b : Bool). b && (isFinite (q .gap) && lt (q .gap) gap)) e in
-      (ap (λ (b : Bool). cond b (q .gap) gap) s ∙ eg,
-        (ap (λ (b : Bool). cond b (q .primal) primal) s ∙ ep, ap (λ (b : Bool). cond b (part (11 * length (a .y)) (length (a .y)) w) x) s ∙ et))
+      let s : wins q gap ≡ false = ap (λ (b : Bool). b && (isFinite (q .gap) && lt (q .gap) gap)) e in (
+        ap (λ (b : Bool). cond b (q .gap) gap) s ∙ eg,
+        (ap (λ (b : Bool). cond b (q .primal) primal) s ∙ ep, ap (λ (b : Bool). cond b (part (11 * length (a .y)) (length (a .y)) w) x) s ∙ et),
+      )
   kept-of (some z) e h =
       let p = certify (a .order) (a .y) (a .lam) z in
       let k = h z refl in
-      let s : wins q gap ≡ better p c = rw (e, k .gap, eg) in
-      (rw (s, k .gap, eg) (choose gapOf (better p c) p c),
-        (rw (s, k .primal, ep) (choose (λ d. d .primal) (better p c) p c), rw (s, k .trend, et) (choose (λ d. d .trend) (better p c) p c)))
+      let s : wins q gap ≡ better p c = rw (e, k .gap, eg) in (
+        rw (s, k .gap, eg) (choose gapOf (better p c) p c),
+        (rw (s, k .primal, ep) (choose (λ d. d .primal) (better p c) p c), rw (s, k .trend, et) (choose (λ d. d .trend) (better p c) p c)),
+      )
 
 -- the differences that a kept certificate carries are those of its trend
 jumps-choose : (k : ℕ) (b : Bool) (p c : Certificate) → p .jumps ≡ diffK k (p .trend) → c .jumps ≡ diffK k (c .trend) → cond b p c .jumps ≡ diffK k (cond b p c .trend)

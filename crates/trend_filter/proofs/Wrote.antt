@@ -1,18 +1,18 @@
 -- Laws of what is written out: D y stood in the cycle meanwhile; the trend was handed over by another name. Assumes nothing.
-use mathlib.Core.Path.{_≡_, refl, sym, ap, subst, _∙_}
+use mathlib.Core.Path.{_≡_, sym, ap, subst, _∙_}
 use mathlib.Core.List.{List}
-use Prim.Native.Nat.{ℕ, _+_, _-_, _*_, _≤_}
+use Prim.Native.Nat.{ℕ, _+_, _-_, _≤_}
 use native.Mathlib.Nat.{add-zero}
 use native.Mathlib.Omega.{arith}
 use lib.ListN.{length, take, drop}
 use lib.Ieee.{Float, nan}
 use Rattle.float64.specs.Ops.{_⊖_}
 use Rattle.vectors.specs.Vec.{at, part, put, Kept}
-use Rattle.vectors.proofs.Laws.{length-list, kept-then}
+use Rattle.vectors.proofs.Laws.{length-list}
 use Rattle.vectors.proofs.Parts.{putBack, partOf-range, range-part, part-put, part-below, kept-put, length-put}
 use Rattle.certificate.specs.Certificate.{minus, certify}
 use Rattle.certificate.specs.Run.{dualOf, Certified}
-use Rattle.l2.specs.L2.{trendL2, gapL2, objectiveL2}
+use Rattle.l2.specs.L2.{gapL2, objectiveL2}
 use Rattle.l2.specs.Solved.{Ended}
 use Rattle.l2.specs.declared.Ends.{Ends}
 use Rattle.trend_filter.specs.Inner.{WroteOut}

@@ -1,6 +1,6 @@
 -- What the functions below the entry ask of the buffers and leave in them. n is the length of the series and k the order.
 use mathlib.Core.Path.{_≡_}
-use mathlib.Core.Bool.{Bool, true}
+use mathlib.Core.Bool.{true}
 use mathlib.Core.List.{List}
 use Prim.Native.Nat.{ℕ, _≤_, _<_, _+_, _-_, _*_}
 use lib.ListN.{length}

@@ -10,7 +10,6 @@ ghost use Rattle.fit.specs.Fit.{fitEnd, searchOf};
 ghost use Rattle.questions.specs.Groups.{asking};
 ghost use Rattle.trend_filter.specs.Inner.{Room, Shows};
 ghost use Rattle.trend_filter.specs.Search.{Reached, searchedOf};
-
 use crate::Summary;
 
 // The gap and P that are kept, the search's gaps and counts, and whether the candidate won.
@@ -31,7 +30,16 @@ fn pick(second: bool, a: f64, b: f64) -> f64
 }
 
 // The search and its polish. work then holds the iterate's trend and the candidate's.
-fn search_polish(work: &mut [f64], marks: &mut [u32], y: &[f64], dy: &[f64], lam: f64, tol: f64, max_iter: u64, k: usize) -> End
+fn search_polish(
+    work: &mut [f64],
+    marks: &mut [u32],
+    y: &[f64],
+    dy: &[f64],
+    lam: f64,
+    tol: f64,
+    max_iter: u64,
+    k: usize,
+) -> End
     requires { ⌜ (1 ≤ k) × ((k ≤ 2) × ((k < length (now y)) × ((length (now y) ≤ 65536) × ((13 * length (now y) ≤ length (now work)) × ((2 * length (now y) ≤ length (now marks))
         × (take (length (now y) - k) (now dy) ≡ diffK k (now y))))))) ⌝ }
     ensures { λ r. ⌜ ((penalty : ℕ) → Reached (asking (now (y .entry)) lam tol «max_iter» k penalty) (now (work .exit)) r)
@@ -55,28 +63,40 @@ fn search_polish(work: &mut [f64], marks: &mut [u32], y: &[f64], dy: &[f64], lam
 }
 
 // The numbers of a fit that the search found.
-fn searched(r: End, knots: usize, lam_max: f64, tol: f64) -> Summary
-    ensures { λ x. ⌜ x ≡ searchedOf r knots «lam_max» tol ⌝ }
+fn searched(e: End, knots: usize, lam_max: f64, tol: f64) -> Summary
+    ensures { λ x. ⌜ x ≡ searchedOf e knots «lam_max» tol ⌝ }
 {
     Summary {
         knots: knots,
         lam_max: lam_max,
-        gap: r.gap,
-        first_gap: r.first,
-        best_gap: r.best,
-        objective: r.primal,
-        n_iter: r.n_iter,
-        improvements: r.improvements,
-        converged: r.gap <= tol * r.primal,
+        gap: e.gap,
+        first_gap: e.first,
+        best_gap: e.best,
+        objective: e.primal,
+        n_iter: e.n_iter,
+        improvements: e.improvements,
+        converged: e.gap <= tol * e.primal,
     }
 }
 
 // The fit. cycle holds D y meanwhile.
-pub fn fit_search(y: &[f64], lam: f64, tol: f64, max_iter: u64, k: usize, lam_max: f64, trend: &mut [f64], cycle: &mut [f64], knots: &mut [u32], work: &mut [f64], marks: &mut [u32]) -> Summary
+pub fn fit_search(
+    y: &[f64],
+    lam: f64,
+    tol: f64,
+    max_iter: u64,
+    k: usize,
+    lam_max: f64,
+    trend: &mut [f64],
+    cycle: &mut [f64],
+    knots: &mut [u32],
+    work: &mut [f64],
+    marks: &mut [u32],
+) -> Summary
     requires { ⌜ Room k (length (now y)) (length (now trend)) (length (now cycle)) (length (now knots))
         × ((40 * length (now y) ≤ length (now work)) × ((2 * length (now y) ≤ length (now marks)) × («lam_max» ≡ lamMax k (gramRow k) (length (now y) - k) (now y)))) ⌝ }
     ensures { λ r. ⌜ ((penalty : ℕ) → Shows (fitEnd (asking (now (y .entry)) lam tol «max_iter» k penalty) (searchOf (asking (now (y .entry)) lam tol «max_iter» k penalty))) r
-            (now (trend .entry)) (now (trend .exit)) (now (cycle .entry)) (now (cycle .exit)) (now (knots .entry)) (now (knots .exit)))
+        (now (trend .entry)) (now (trend .exit)) (now (cycle .entry)) (now (cycle .exit)) (now (knots .entry)) (now (knots .exit)))
         × (Kept 0 (40 * length (now (y .entry))) (now (work .entry)) (now (work .exit))
         × KeptOf 0 0 (2 * length (now (y .entry))) (now (marks .entry)) (now (marks .exit))) ⌝ }
 {

@@ -3,7 +3,6 @@ ghost use mathlib.Core.Path.{_≡_};
 ghost use lib.ListN.{length};
 ghost use Rattle.questions.specs.Groups.{asking, lending};
 ghost use Rattle.trend_filter_c.specs.Calls.{oneIf, numbersOf, countsOf, Called};
-
 use trend_filter::Answer;
 use trend_filter::Summary;
 use trend_filter::TrendFilterOptions;
@@ -29,7 +28,21 @@ fn put_counts(counts: &mut [u64; 4], s: Summary)
 
 // numbers are lam_max, gap, first gap, best gap and objective; counts are knots, n_iter, improvements and converged (0 or 1).
 #[no_mangle]
-pub extern "C" fn trend_filter_fit(y: &[f64], lam: f64, tol: f64, max_iter: u64, order: u32, penalty: u32, trend: &mut [f64], cycle: &mut [f64], knots: &mut [u32], work: &mut [f64], marks: &mut [u32], numbers: &mut [f64; 5], counts: &mut [u64; 4]) -> u32
+pub extern "C" fn trend_filter_fit(
+    y: &[f64],
+    lam: f64,
+    tol: f64,
+    max_iter: u64,
+    order: u32,
+    penalty: u32,
+    trend: &mut [f64],
+    cycle: &mut [f64],
+    knots: &mut [u32],
+    work: &mut [f64],
+    marks: &mut [u32],
+    numbers: &mut [f64; 5],
+    counts: &mut [u64; 4],
+) -> u32
     ensures { λ r. ⌜ Called (asking (now (y .entry)) lam tol «max_iter» order penalty)
         (lending (length (now (trend .entry))) (length (now (cycle .entry))) (length (now (knots .entry))) (length (now (work .entry))) (length (now (marks .entry)))) r
         (now (trend .entry)) (now (trend .exit)) (now (cycle .entry)) (now (cycle .exit)) (now (knots .entry)) (now (knots .exit))

@@ -1,13 +1,13 @@
 use borrow.Author.Needs.{needs}
-use mathlib.Core.Path.{_≡_, refl, sym, ap, _∙_}
+use mathlib.Core.Path.{_≡_, sym, ap, _∙_}
 use mathlib.Core.List.{List}
-use Prim.Native.Nat.{ℕ, _≤_, _-_, _+_}
+use Prim.Native.Nat.{ℕ, _-_, _+_}
 use native.Mathlib.Omega.{arith}
-use lib.ListN.{length, take, drop}
+use lib.ListN.{length}
 use lib.Ieee.{Float, nan, lt}
 use borrow.Author.Tests.{not-true, not-false}
-use Rattle.float64.specs.Ops.{_⊕_, _⊗_, _⊖_, half, c0}
-use Rattle.vectors.specs.Vec.{at, list, part, Kept, Written}
+use Rattle.float64.specs.Ops.{_⊕_, _⊗_, half, c0}
+use Rattle.vectors.specs.Vec.{at, list, part, Written}
 use Rattle.vectors.specs.Sums.{norm2Sq}
 use Rattle.vectors.proofs.Laws.{kept-none, written-kept, kept-then}
 use Rattle.vectors.proofs.Parts.{range-part, store-done, length-part}
@@ -17,12 +17,6 @@ use Rattle.certificate.specs.Certificate.{minus}
 use Rattle.l2.specs.L2.{objectiveL2, gapL2, scaled, dualL2}
 use Rattle.l2.proofs.objectives.Statement.{statement}
 use Rattle.l2.proofs.objectives.Tie as tie
-use Rattle.l2.proofs.objectives.Reads as reads
-use Rattle.l2.proofs.objectives.Lts as lts
-use Rattle.l2.proofs.dual_l2.Reads as dual-l2-reads
-use Rattle.l2.proofs.sums.diff_squares.Reads as diff-squares-reads
-use Rattle.l2.proofs.sums.residual_squares.Reads as residual-squares-reads
-use Rattle.l2.proofs.sums.scale_diff.Reads as scale-diff-reads
 
 -- the objective, from the two sums
 whole : (k : ℕ) (y : List Float) (lam : Float) (x : List Float) (a b : Float) → a ≡ norm2Sq (minus y x) → b ≡ norm2Sq (diffK k x)
@@ -75,9 +69,9 @@ returns c = let q = c .before .before .before .before .before .before .before .b
     let g = range-part 0 n n s (omega arith) (omega (arith, q .pre)) in
     record {
       objective =
-        whole (p .k) (p .y .now) (p .lam) (part 0 n s) (c .before .before .before .before .residual-squares .result) (c .before .diff-squares .result)
-        (c .before .before .before .before .residual-squares .ensures ∙ ap (λ (x : List Float). norm2Sq (minus (p .y .now) x)) g)
-        (c .before .diff-squares .ensures ∙ ap (λ (x : List Float). norm2Sq (diffK (p .k) x)) g);
+          whole (p .k) (p .y .now) (p .lam) (part 0 n s) (c .before .before .before .before .residual-squares .result) (c .before .diff-squares .result)
+          (c .before .before .before .before .residual-squares .ensures ∙ ap (λ (x : List Float). norm2Sq (minus (p .y .now) x)) g)
+          (c .before .diff-squares .ensures ∙ ap (λ (x : List Float). norm2Sq (diffK (p .k) x)) g);
       gap = rw (not-true (lt c0 (p .lam)) (c .if1 .taken));
       kept = kept-none n n s;
     }

@@ -1,9 +1,9 @@
 use borrow.Author.Needs.{needs}
-use mathlib.Core.Path.{_≡_, refl, sym, ap, _∙_}
+use mathlib.Core.Path.{_≡_, ap, _∙_}
 use mathlib.Core.List.{List}
-use Prim.Native.Nat.{ℕ, _≤_, _<_, _-_, _+_, _*_}
+use Prim.Native.Nat.{_≤_, _-_, _+_, _*_}
 use native.Mathlib.Omega.{arith}
-use lib.ListN.{length, take, drop, length-drop}
+use lib.ListN.{length, drop, length-drop}
 use lib.Seq.{length-take-le}
 use lib.Ieee.{Float}
 use Rattle.banded.specs.Rows.{matrix, concat}
@@ -11,12 +11,6 @@ use Rattle.matrices.specs.Ridge.{ridge}
 use Rattle.l2.proofs.System.{l2-done}
 use Rattle.l2.proofs.solve_l2.Statement.{statement}
 use Rattle.l2.proofs.solve_l2.Tie as tie
-use Rattle.l2.proofs.solve_l2.Reads as reads
-use Rattle.l2.proofs.solve_l2.Lts as lts
-use Rattle.differences.proofs.stencil.Reads as stencil-reads
-use Rattle.matrices.proofs.ridge.fill_ridge.Reads as fill-ridge-reads
-use Rattle.substitution.proofs.factor_solve.Reads as factor-solve-reads
-use Rattle.vectors.proofs.copy.Reads as copy-reads
 
 stencil-requires : tie.Need-stencil-requires
 stencil-requires c κs = search needs

@@ -7,10 +7,6 @@ use lib.ListN.{length}
 use Rattle.fit.specs.Questions.{finiteTo}
 use Rattle.questions.proofs.all_finite.Statement.{statement}
 use Rattle.questions.proofs.all_finite.Tie as tie
-use Rattle.questions.proofs.all_finite.Reads as reads
-use Rattle.questions.proofs.all_finite.Lts as lts
-use Rattle.float64.proofs.is_finite.Reads as is-finite-reads
-use Rattle.questions.proofs.both.Reads as both-reads
 
 abbrev Inv-loop : tie.InvT-loop
 Inv-loop y all₀ i₀ all i = (i ≤ length y) × (all ≡ finiteTo y i)

@@ -1,11 +1,6 @@
-use borrow.Author.Needs.{needs}
-use mathlib.Core.Path.{_≡_, refl}
 use borrow.Author.Tests.{eq-eqb, ne-eqb}
-use lib.Dec.{eqb}
 use Rattle.questions.proofs.one_or_two.Statement.{statement}
 use Rattle.questions.proofs.one_or_two.Tie as tie
-use Rattle.questions.proofs.one_or_two.Reads as reads
-use Rattle.questions.proofs.one_or_two.Lts as lts
 
 returns : tie.Need-returns
 returns c = rw (eq-eqb _ 1 (c .if1 .taken))

@@ -1,16 +1,10 @@
-use mathlib.Core.Path.{_≡_, refl, sym, _∙_}
-use native.Mathlib.Omega.{arith}
+use mathlib.Core.Path.{sym, _∙_}
 use lib.ListN.{length}
 use Rattle.questions.specs.Groups.{asking, lending}
 use Rattle.questions.proofs.Laws.{stop-sizes, stop-values, stop-room, short}
 use borrow.Author.Needs.{needs}
 use Rattle.questions.proofs.question.Statement.{statement}
 use Rattle.questions.proofs.question.Tie as tie
-use Rattle.questions.proofs.question.Reads as reads
-use Rattle.questions.proofs.question.Lts as lts
-use Rattle.questions.proofs.room.Reads as room-reads
-use Rattle.questions.proofs.sizes.Reads as sizes-reads
-use Rattle.questions.proofs.values.Reads as values-reads
 
 sizes-requires : tie.Need-sizes-requires
 sizes-requires c κs = search needs

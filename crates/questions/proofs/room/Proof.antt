@@ -1,13 +1,8 @@
-use mathlib.Core.Path.{_≡_, refl}
-use native.Mathlib.Omega.{arith}
 use borrow.Author.Tests.{lt-ltb, le-ltb}
-use lib.Dec.{ltb}
 use Rattle.questions.specs.Groups.{room}
 use borrow.Author.Needs.{needs}
 use Rattle.questions.proofs.room.Statement.{statement}
 use Rattle.questions.proofs.room.Tie as tie
-use Rattle.questions.proofs.room.Reads as reads
-use Rattle.questions.proofs.room.Lts as lts
 
 returns : tie.Need-returns
 unfolding room

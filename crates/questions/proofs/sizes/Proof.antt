@@ -1,16 +1,11 @@
-use mathlib.Core.Path.{_≡_, refl, sym, _∙_}
-use mathlib.Core.Bool.{true, false}
+use mathlib.Core.Path.{sym, _∙_}
 use Prim.Native.Nat.{_+_}
 use native.Mathlib.Omega.{arith}
 use borrow.Author.Tests.{not-true, not-false, lt-ltb, le-ltb}
-use lib.Dec.{ltb}
 use Rattle.questions.specs.Groups.{sizes}
 use borrow.Author.Needs.{needs}
 use Rattle.questions.proofs.sizes.Statement.{statement}
 use Rattle.questions.proofs.sizes.Tie as tie
-use Rattle.questions.proofs.sizes.Reads as reads
-use Rattle.questions.proofs.sizes.Lts as lts
-use Rattle.questions.proofs.one_or_two.Reads as one-or-two-reads
 
 one-or-two-requires : tie.Need-one-or-two-requires
 one-or-two-requires c κs = search needs

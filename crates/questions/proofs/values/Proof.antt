@@ -1,13 +1,9 @@
-use mathlib.Core.Path.{_≡_, refl, sym, _∙_}
+use mathlib.Core.Path.{sym, _∙_}
 use borrow.Author.Tests.{not-true, not-false, eq-eqb, ne-eqb}
 use Rattle.questions.specs.Groups.{values}
 use borrow.Author.Needs.{needs}
 use Rattle.questions.proofs.values.Statement.{statement}
 use Rattle.questions.proofs.values.Tie as tie
-use Rattle.questions.proofs.values.Reads as reads
-use Rattle.questions.proofs.values.Lts as lts
-use Rattle.float64.proofs.is_finite.Reads as is-finite-reads
-use Rattle.questions.proofs.all_finite.Reads as all-finite-reads
 
 all-finite-requires : tie.Need-all-finite-requires
 all-finite-requires c κs = search needs

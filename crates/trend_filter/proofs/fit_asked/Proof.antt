@@ -1,8 +1,8 @@
 use borrow.Author.Needs.{needs}
-use mathlib.Core.Path.{_≡_, refl, sym, ap, _∙_}
-use Prim.Native.Nat.{ℕ, _≤_, _<_, _-_, _+_, _*_}
+use mathlib.Core.Path.{sym, _∙_}
+use Prim.Native.Nat.{_-_, _*_}
 use native.Mathlib.Omega.{arith}
-use borrow.Author.Tests.{not-true, not-false, eq-eqb, ne-eqb}
+use borrow.Author.Tests.{not-true, not-false}
 use lib.ListN.{length}
 use Rattle.vectors.proofs.Laws.{kept-none, kept-then}
 use Rattle.questions.specs.Groups.{asking, lending}
@@ -10,10 +10,6 @@ use Rattle.questions.proofs.Laws.{passed}
 use Rattle.trend_filter.proofs.Laws.{gives-refused, gives-same, sound-fit, unsound-fit}
 use Rattle.trend_filter.proofs.fit_asked.Statement.{statement}
 use Rattle.trend_filter.proofs.fit_asked.Tie as tie
-use Rattle.trend_filter.proofs.fit_asked.Reads as reads
-use Rattle.trend_filter.proofs.fit_asked.Lts as lts
-use Rattle.trend_filter.proofs.fit_by.Reads as fit-by-reads
-use Rattle.trend_filter.proofs.prepare.Reads as prepare-reads
 
 cast-k : tie.Need-cast-k
 cast-k c = search needs
@@ -37,8 +33,7 @@ returns c = let q = c .before .before .before .before .before .before .before .b
     let a = asking (p .y .now) (p .lam) (o .tol) (o .«max_iter») (o .order) (o .penalty) in
     let l = lending (length (p .trend .now)) (length (p .cycle .now)) (length (p .knots .now)) (length (p .work .now)) (length (p .marks .now)) in
     let h = passed a l (q .pre) in
-    let r = c .before .before .before .before .prepare in
-    (
+    let r = c .before .before .before .before .prepare in (
       gives-same (unsound-fit a l (q .pre) (sym (r .ensures .good) ∙ not-true _ (c .if1 .taken))) (gives-refused 10 (p .trend .now) (p .cycle .now) (p .knots .now)),
       (r .ensures .kept, kept-none 0 (2 * length (p .y .now)) (p .marks .now)),
     )
@@ -51,8 +46,7 @@ fit-by-requires c κs = let q = c .before .before .before .before .before .befor
     let l = lending (length (p .trend .now)) (length (p .cycle .now)) (length (p .knots .now)) (length (p .work .now)) (length (p .marks .now)) in
     let h = passed a l (q .pre) in
     let r = c .before .before .before .before .before .before .before .before .before .prepare in
-    let yes = not-false _ (c .before .before .before .before .before .if1 .left) in
-    (
+    let yes = not-false _ (c .before .before .before .before .before .if1 .left) in (
       record { low = h .low; high = h .high; long = h .long; short = h .short; trend = h .trend; cycle = h .cycle; knots = h .knots },
       (omega (arith, r .ensures .kept .size, h .work), (h .marks, (r .ensures .top yes, r .ensures .star yes))),
     )
@@ -81,8 +75,7 @@ returns-2 c = let q = c .before .before .before .before .before .before .before 
     let h = passed a l (q .pre) in
     let r = c .before .before .before .before .before .before .before .before .before .before .before .before .before .before .before .before .before .before .before .before .prepare in
     let e = c .before .before .before .before .before .before .before .before .before .before .fit-by .ensures in
-    let yes = not-false _ (c .before .before .before .before .before .before .before .before .before .before .before .before .before .before .before .before .if1 .left) in
-    (
+    let yes = not-false _ (c .before .before .before .before .before .before .before .before .before .before .before .before .before .before .before .before .if1 .left) in (
       gives-same (sound-fit a l (q .pre) (sym (r .ensures .good) ∙ yes)) (e .0),
       (kept-then 0 (40 * length (p .y .now)) (r .ensures .kept) (e .1 .0) (omega arith) (omega arith) (omega arith) (omega arith), e .1 .1),
     )

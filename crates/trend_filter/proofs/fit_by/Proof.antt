@@ -1,18 +1,12 @@
 use borrow.Author.Needs.{needs}
-use mathlib.Core.Path.{_≡_, refl, sym, ap, _∙_}
-use Prim.Native.Nat.{ℕ, _≤_, _<_, _-_, _+_, _*_}
+use Prim.Native.Nat.{_-_, _*_}
 use native.Mathlib.Omega.{arith}
-use borrow.Author.Tests.{not-true, not-false, eq-eqb, ne-eqb}
 use lib.ListN.{length}
 use Rattle.vectors.proofs.Laws.{kept-none, kept-then}
-use Rattle.questions.specs.Groups.{asking, lending}
-use Rattle.trend_filter.proofs.Laws.{gives-refused, gives-fit, gives-same, by-1, by-2, late, sound-fit, unsound-fit}
+use Rattle.questions.specs.Groups.{asking}
+use Rattle.trend_filter.proofs.Laws.{gives-fit, gives-same, by-1, by-2}
 use Rattle.trend_filter.proofs.fit_by.Statement.{statement}
 use Rattle.trend_filter.proofs.fit_by.Tie as tie
-use Rattle.trend_filter.proofs.fit_by.Reads as reads
-use Rattle.trend_filter.proofs.fit_by.Lts as lts
-use Rattle.trend_filter.proofs.fit_l1.Reads as fit-l1-reads
-use Rattle.trend_filter.proofs.fit_l2.Reads as fit-l2-reads
 
 fit-l2-requires : tie.Need-fit-l2-requires
 fit-l2-requires c κs = search needs
@@ -35,8 +29,7 @@ returns c = let d = c .before .before .before .before .before .before .before .b
     let p = q .args in
     let o = p .opts in
     let a = asking (p .y .now) (p .lam) (o .tol) (o .«max_iter») (p .k) (o .penalty) in
-    let e = d .fit-l2 .ensures in
-    (
+    let e = d .fit-l2 .ensures in (
       gives-same (by-2 a (c .before .before .before .before .before .before .before .before .before .before .before .before .before .if1 .taken)) (e .0 (o .tol) (o .«max_iter») (o .penalty)),
       (
         kept-then 0 (40 * length (p .y .now)) (e .1) (kept-none 0 0 _) (omega arith) (omega arith) (omega arith) (omega arith),

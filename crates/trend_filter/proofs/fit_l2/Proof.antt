@@ -1,31 +1,21 @@
 use borrow.Author.Needs.{needs}
 use mathlib.Core.Path.{_≡_, refl, sym, ap, ap₂, _∙_}
-use mathlib.Core.List.{List}
-use mathlib.Core.Bool.{true, false}
-use Prim.Native.Nat.{ℕ, _≤_, _<_, _-_, _+_, _*_}
-use native.Mathlib.Nat.{mul-le-mul-left, mul-le-mul-right}
+use Prim.Native.Nat.{ℕ, _≤_, _-_, _+_, _*_}
+use native.Mathlib.Nat.{mul-le-mul-left}
 use native.Mathlib.Omega.{arith}
 use borrow.Author.Tests.{not-true, not-false}
-use lib.ListN.{length, take, drop, length-drop}
+use lib.ListN.{length, drop, length-drop}
 use lib.Seq.{length-take-le}
-use lib.Ieee.{Float, nan}
-use Rattle.float64.specs.Ops.{_⊖_, c0}
-use Rattle.vectors.specs.Vec.{part, put}
+use lib.Ieee.{Float}
+use Rattle.vectors.specs.Vec.{part}
 use Rattle.vectors.proofs.Laws.{kept-none, kept-then}
 use Rattle.questions.specs.Groups.{asking}
-use Rattle.l2.specs.L2.{soundL2, trendL2, gapL2, objectiveL2}
+use Rattle.l2.specs.L2.{trendL2, gapL2, objectiveL2}
 use Rattle.trend_filter.specs.Inner.{closedOf}
 use Rattle.trend_filter.proofs.Laws.{gives-refused, gives-fit, gives-same, closed-shows, l2-sound, l2-unsound}
 use Rattle.trend_filter.proofs.Wrote.{wrote-as, l2-gap, l2-objective, l2-trend, l2-kept}
 use Rattle.trend_filter.proofs.fit_l2.Statement.{statement}
 use Rattle.trend_filter.proofs.fit_l2.Tie as tie
-use Rattle.trend_filter.proofs.fit_l2.Reads as reads
-use Rattle.trend_filter.proofs.fit_l2.Lts as lts
-use Rattle.l2.proofs.objectives.Reads as objectives-reads
-use Rattle.l2.proofs.solve_l2.Reads as solve-l2-reads
-use Rattle.trend_filter.proofs.closed.closed.Reads as closed-reads
-use Rattle.trend_filter.proofs.closed.rows_end.Reads as rows-end-reads
-use Rattle.trend_filter.proofs.closed.write_out.Reads as write-out-reads
 
 solve-l2-requires : tie.Need-solve-l2-requires
 solve-l2-requires c κs = let q = c .before .before .before .before .before .before in
@@ -46,8 +36,7 @@ returns c = let q = c .before .before .before .before .before .before .before .b
     let n = length y in
     let h = q .pre .0 in
     let top : n * (k + 1) ≤ n * 3 = mul-le-mul-left n (omega (arith, h .high)) in
-    let so = c .before .before .before .solve-l2 in
-    (
+    let so = c .before .before .before .solve-l2 in (
       λ tol limit penalty.
           gives-same (l2-unsound (asking y (p .lam) tol limit k penalty) (sym (so .ensures .sound) ∙ not-true _ (c .if1 .taken)))
           (gives-refused 10 (p .trend .now) (p .cycle .now) (p .knots .now)),
@@ -132,8 +121,7 @@ returns-2 c = let q = c .before .before .before .before .before .before .before 
     let sz : length x ≡ e - a = omega (arith, ob .kept .0, length-take-le (e - a) (drop a w) (omega (arith, length-drop a w))) in
     let ga = l2-gap k y (p .lam) w x t (ob .result) a b e refl refl fi sz held (ob .ensures) in
     let oj = l2-objective k y (p .lam) w x t (ob .result) a b e refl refl fi sz held (ob .ensures) in
-    let tr = l2-trend k y (p .lam) w x t (ob .result) a b e refl refl fi sz held (ob .ensures) in
-    (
+    let tr = l2-trend k y (p .lam) w x t (ob .result) a b e refl refl fi sz held (ob .ensures) in (
       λ tol limit penalty.
           let A = asking y (p .lam) tol limit k penalty in
           gives-same (l2-sound A (sym (so .ensures .sound) ∙ yes))

@@ -1,20 +1,15 @@
 use borrow.Author.Needs.{needs}
-use mathlib.Core.Path.{_≡_, refl, sym, ap, _∙_}
-use Prim.Native.Nat.{ℕ, _≤_, _<_, _-_, _+_, _*_}
-use native.Mathlib.Omega.{arith}
-use borrow.Author.Tests.{not-true, not-false, eq-eqb, ne-eqb}
+use mathlib.Core.Path.{refl, sym, _∙_}
+use Prim.Native.Nat.{_-_, _*_}
+use borrow.Author.Tests.{ne-eqb}
 use lib.ListN.{length}
-use Rattle.vectors.proofs.Laws.{kept-none, kept-then}
+use Rattle.vectors.proofs.Laws.{kept-none}
 use Rattle.questions.specs.Groups.{asking, lending}
-use Rattle.trend_filter.proofs.Laws.{gives-refused, gives-fit, gives-same, by-1, by-2, not-early, sound-fit, unsound-fit}
+use Rattle.trend_filter.proofs.Laws.{gives-refused, gives-same, not-early}
 use Rattle.fit.proofs.Passed.{fit-refused}
 use Rattle.fit.proofs.Demand3.{bounds}
 use Rattle.trend_filter.proofs.l1_trend_filter.Statement.{statement}
 use Rattle.trend_filter.proofs.l1_trend_filter.Tie as tie
-use Rattle.trend_filter.proofs.l1_trend_filter.Reads as reads
-use Rattle.trend_filter.proofs.l1_trend_filter.Lts as lts
-use Rattle.questions.proofs.question.Reads as question-reads
-use Rattle.trend_filter.proofs.fit_asked.Reads as fit-asked-reads
 
 question-requires : tie.Need-question-requires
 question-requires c κs = search needs

@@ -1,28 +1,14 @@
 use borrow.Author.Needs.{needs}
-use mathlib.Core.Path.{_≡_, refl, sym, ap, ap₂, _∙_}
-use mathlib.Core.List.{List}
-use mathlib.Core.Bool.{true, false}
-use Prim.Native.Nat.{ℕ, _≤_, _<_, _-_, _+_, _*_}
-use native.Mathlib.Nat.{mul-le-mul-left, mul-le-mul-right}
+use mathlib.Core.Path.{_≡_, sym, _∙_}
+use Prim.Native.Nat.{_≤_, _-_, _+_, _*_}
+use native.Mathlib.Nat.{mul-le-mul-left}
 use native.Mathlib.Omega.{arith}
-use borrow.Author.Tests.{not-true, not-false}
-use lib.ListN.{length, take, drop, length-drop}
-use lib.Seq.{length-take-le}
-use lib.Ieee.{Float, nan}
-use Rattle.float64.specs.Ops.{_⊖_, c0}
-use Rattle.vectors.specs.Vec.{part, put}
+use lib.ListN.{length}
+use lib.Ieee.{nan}
 use Rattle.vectors.proofs.Laws.{kept-none, kept-then}
-use Rattle.questions.specs.Groups.{asking}
-use Rattle.differences.specs.Diff.{diffK, gramRow}
-use Rattle.banded.specs.Rows.{sound}
-use Rattle.matrices.specs.Gram.{gram, lamMax, zstar}
 use Rattle.l2.proofs.System.{kept-drop, taken-part}
 use Rattle.trend_filter.proofs.prepare.Statement.{statement}
 use Rattle.trend_filter.proofs.prepare.Tie as tie
-use Rattle.trend_filter.proofs.prepare.Reads as reads
-use Rattle.trend_filter.proofs.prepare.Lts as lts
-use Rattle.differences.proofs.gram_offsets.Reads as gram-offsets-reads
-use Rattle.matrices.proofs.prepare.Reads as prepare-reads
 
 sub-m : tie.Need-sub-m
 sub-m c = search needs

@@ -1,21 +1,16 @@
 use borrow.Author.Needs.{needs}
-use mathlib.Core.Path.{_≡_, refl, sym, ap, _∙_}
-use mathlib.Core.List.{List}
-use Prim.Native.Nat.{ℕ, _≤_, _<_, _-_, _+_}
+use mathlib.Core.Path.{_≡_, refl}
+use Prim.Native.Nat.{_≤_, _-_}
 use native.Mathlib.Numerals.{add-one}
 use native.Mathlib.Omega.{arith}
 use lib.ListN.{length}
-use lib.Ieee.{Float}
-use Rattle.float64.specs.Ops.{_⊗_, _⊖_}
+use Rattle.float64.specs.Ops.{_⊗_}
 use Rattle.vectors.specs.Vec.{at}
-use Rattle.vectors.specs.Sums.{sumTo, norm2Sq, dot}
-use Rattle.differences.specs.Diff.{diffK, diffKT}
+use Rattle.vectors.specs.Sums.{sumTo, norm2Sq}
+use Rattle.differences.specs.Diff.{diffK}
 use Rattle.differences.proofs.Laws.{length-diffK}
 use Rattle.l2.proofs.sums.diff_squares.Statement.{statement}
 use Rattle.l2.proofs.sums.diff_squares.Tie as tie
-use Rattle.l2.proofs.sums.diff_squares.Reads as reads
-use Rattle.l2.proofs.sums.diff_squares.Lts as lts
-use Rattle.differences.proofs.diff_at.Reads as diff-at-reads
 
 abbrev Inv-loop : tie.InvT-loop
 Inv-loop x k m sum₀ i₀ sum i = (i ≤ m) × (sum ≡ sumTo (λ j. at (diffK k x) j ⊗ at (diffK k x) j) i)

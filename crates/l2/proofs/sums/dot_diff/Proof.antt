@@ -1,20 +1,15 @@
 use borrow.Author.Needs.{needs}
-use mathlib.Core.Path.{_≡_, refl, sym, ap, _∙_}
-use mathlib.Core.List.{List}
-use Prim.Native.Nat.{ℕ, _≤_, _<_, _-_, _+_}
+use mathlib.Core.Path.{_≡_, refl}
+use Prim.Native.Nat.{_≤_, _-_}
 use native.Mathlib.Numerals.{add-one}
 use native.Mathlib.Omega.{arith}
 use lib.ListN.{length}
-use lib.Ieee.{Float}
-use Rattle.float64.specs.Ops.{_⊗_, _⊖_}
+use Rattle.float64.specs.Ops.{_⊗_}
 use Rattle.vectors.specs.Vec.{at}
-use Rattle.vectors.specs.Sums.{sumTo, norm2Sq, dot}
-use Rattle.differences.specs.Diff.{diffK, diffKT}
+use Rattle.vectors.specs.Sums.{sumTo, dot}
+use Rattle.differences.specs.Diff.{diffK}
 use Rattle.l2.proofs.sums.dot_diff.Statement.{statement}
 use Rattle.l2.proofs.sums.dot_diff.Tie as tie
-use Rattle.l2.proofs.sums.dot_diff.Reads as reads
-use Rattle.l2.proofs.sums.dot_diff.Lts as lts
-use Rattle.differences.proofs.diff_at.Reads as diff-at-reads
 
 abbrev Inv-loop : tie.InvT-loop
 Inv-loop v y k sum₀ i₀ sum i = (i ≤ length v) × (sum ≡ sumTo (λ j. at v j ⊗ at (diffK k y) j) i)

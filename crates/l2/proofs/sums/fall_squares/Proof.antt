@@ -1,21 +1,16 @@
 use borrow.Author.Needs.{needs}
-use mathlib.Core.Path.{_≡_, refl, sym, ap, _∙_}
-use mathlib.Core.List.{List}
-use Prim.Native.Nat.{ℕ, _≤_, _<_, _-_, _+_}
+use mathlib.Core.Path.{_≡_, refl}
+use Prim.Native.Nat.{_≤_, _-_}
 use native.Mathlib.Numerals.{add-one}
 use native.Mathlib.Omega.{arith}
 use lib.ListN.{length}
-use lib.Ieee.{Float}
-use Rattle.float64.specs.Ops.{_⊗_, _⊖_}
+use Rattle.float64.specs.Ops.{_⊗_}
 use Rattle.vectors.specs.Vec.{at}
-use Rattle.vectors.specs.Sums.{sumTo, norm2Sq, dot}
-use Rattle.differences.specs.Diff.{diffK, diffKT}
+use Rattle.vectors.specs.Sums.{sumTo, norm2Sq}
+use Rattle.differences.specs.Diff.{diffKT}
 use Rattle.differences.proofs.Laws.{length-diffKT}
 use Rattle.l2.proofs.sums.fall_squares.Statement.{statement}
 use Rattle.l2.proofs.sums.fall_squares.Tie as tie
-use Rattle.l2.proofs.sums.fall_squares.Reads as reads
-use Rattle.l2.proofs.sums.fall_squares.Lts as lts
-use Rattle.differences.proofs.diff_t_at.Reads as diff-t-at-reads
 
 abbrev Inv-loop : tie.InvT-loop
 Inv-loop v k n sum₀ j₀ sum j = (j ≤ n) × (sum ≡ sumTo (λ i. at (diffKT k v) i ⊗ at (diffKT k v) i) j)

@@ -1,22 +1,19 @@
 use borrow.Author.Needs.{needs}
-use mathlib.Core.Path.{_≡_, refl, sym, ap, _∙_}
+use mathlib.Core.Path.{_≡_, refl, ap, _∙_}
 use mathlib.Core.List.{List}
-use Prim.Native.Nat.{ℕ, _≤_, _<_, _-_, _+_}
+use Prim.Native.Nat.{ℕ, _≤_, _-_}
 use native.Mathlib.Numerals.{add-one}
 use native.Mathlib.Omega.{arith}
 use lib.ListN.{length}
 use lib.Ieee.{Float}
 use Rattle.float64.specs.Ops.{_⊗_, _⊖_}
 use Rattle.vectors.specs.Vec.{at}
-use Rattle.vectors.specs.Sums.{sumTo, norm2Sq, dot}
-use Rattle.differences.specs.Diff.{diffK, diffKT}
+use Rattle.vectors.specs.Sums.{sumTo, norm2Sq}
 use Rattle.vectors.proofs.Laws.{length-list, at-list}
 use Rattle.vectors.proofs.Sums.{sum-ext}
 use Rattle.certificate.specs.Certificate.{minus}
 use Rattle.l2.proofs.sums.residual_squares.Statement.{statement}
 use Rattle.l2.proofs.sums.residual_squares.Tie as tie
-use Rattle.l2.proofs.sums.residual_squares.Reads as reads
-use Rattle.l2.proofs.sums.residual_squares.Lts as lts
 
 abbrev less : List Float → List Float → ℕ → Float
 less y x i = at y i ⊖ at x i

@@ -1,25 +1,17 @@
 use borrow.Author.Needs.{needs}
-use mathlib.Core.Path.{_≡_, refl, sym, ap, _∙_}
+use mathlib.Core.Path.{_≡_, ap, _∙_}
 use mathlib.Core.List.{List}
-use Prim.Native.Nat.{ℕ, _≤_, _<_, _-_, _+_}
-use native.Mathlib.Numerals.{add-one}
+use Prim.Native.Nat.{ℕ, _≤_, _-_, _+_}
 use native.Mathlib.Omega.{arith}
-use lib.ListN.{length}
-use lib.Ieee.{Float}
-use Rattle.float64.specs.Ops.{_⊗_, _⊖_}
-use Rattle.vectors.specs.Vec.{at}
-use Rattle.vectors.specs.Sums.{sumTo, norm2Sq, dot}
-use Rattle.differences.specs.Diff.{diffK, diffKT}
+use lib.Ieee.{Float, nan}
+use Rattle.float64.specs.Ops.{_⊗_}
+use Rattle.vectors.specs.Vec.{at, part, Written}
+use Rattle.differences.specs.Diff.{diffK}
 use native.Mathlib.Nat.{add-zero}
-use lib.Ieee.{nan}
-use Rattle.vectors.specs.Vec.{part, Written}
 use Rattle.vectors.proofs.Laws.{none, store-more, written-kept}
 use Rattle.vectors.proofs.Parts.{range-part, part-below}
 use Rattle.l2.proofs.sums.scale_diff.Statement.{statement}
 use Rattle.l2.proofs.sums.scale_diff.Tie as tie
-use Rattle.l2.proofs.sums.scale_diff.Reads as reads
-use Rattle.l2.proofs.sums.scale_diff.Lts as lts
-use Rattle.differences.proofs.diff_at.Reads as diff-at-reads
 
 abbrev value : Float → ℕ → ℕ → List Float → ℕ → Float
 value lam k n s i = lam ⊗ at (diffK k (part 0 n s)) i

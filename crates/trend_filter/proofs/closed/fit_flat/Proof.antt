@@ -1,17 +1,12 @@
 use borrow.Author.Needs.{needs}
-use mathlib.Core.Path.{_≡_, refl, sym, ap, ap₂, _∙_}
-use mathlib.Core.List.{List}
-use mathlib.Core.Bool.{true, false}
-use Prim.Native.Nat.{ℕ, _≤_, _<_, _-_, _+_, _*_}
-use native.Mathlib.Nat.{mul-le-mul-left, mul-le-mul-right}
+use mathlib.Core.Path.{_≡_, refl, ap, ap₂, _∙_}
+use Prim.Native.Nat.{ℕ, _≤_, _-_, _+_, _*_}
 use native.Mathlib.Omega.{arith}
-use borrow.Author.Tests.{not-true, not-false}
 use lib.ListN.{length, take, drop, length-drop}
 use lib.Seq.{length-take-le}
-use lib.Ieee.{Float, nan}
-use Rattle.float64.specs.Ops.{_⊖_, c0}
-use Rattle.vectors.specs.Vec.{part, put}
-use Rattle.vectors.proofs.Laws.{kept-none, kept-then}
+use lib.Ieee.{Float}
+use Rattle.float64.specs.Ops.{_⊖_}
+use Rattle.vectors.specs.Vec.{part}
 use Rattle.questions.specs.Groups.{asking}
 use Rattle.differences.specs.Diff.{diffK, gramRow}
 use Rattle.differences.proofs.Laws.{length-diffK}
@@ -23,13 +18,6 @@ use Rattle.trend_filter.proofs.Laws.{closed-shows, take-put}
 use Rattle.trend_filter.proofs.Wrote.{wrote-as, wrote-over, flat-primal, flat-dual, flat-trend, flat-kept}
 use Rattle.trend_filter.proofs.closed.fit_flat.Statement.{statement}
 use Rattle.trend_filter.proofs.closed.fit_flat.Tie as tie
-use Rattle.trend_filter.proofs.closed.fit_flat.Reads as reads
-use Rattle.trend_filter.proofs.closed.fit_flat.Lts as lts
-use Rattle.certificate.proofs.certify_l1.Reads as certify-l1-reads
-use Rattle.differences.proofs.diff_into.Reads as diff-into-reads
-use Rattle.trend_filter.proofs.closed.closed.Reads as closed-reads
-use Rattle.trend_filter.proofs.closed.rows_end.Reads as rows-end-reads
-use Rattle.trend_filter.proofs.closed.write_out.Reads as write-out-reads
 
 sub-m : tie.Need-sub-m
 sub-m c = search needs
@@ -62,9 +50,19 @@ certify-l1-requires : tie.Need-certify-l1-requires
 certify-l1-requires c κs = let q = c .before .before .before .before .before .before .before .before .before .before .before .before in
     let p = q .args in
     let y = p .y .now in
-    let h = q .pre .0 in
-    (h .low, (h .high, (h .long, (search needs,
-    ap (take (length y - p .k)) (c .before .before .before .before .diff-into .ensures) ∙ take-put (p .cycle .now) (diffK (p .k) y) (length y - p .k) (length-diffK (p .k) y)))))
+    let h = q .pre .0 in (
+      h .low,
+      (
+        h .high,
+        (
+          h .long,
+          (
+            search needs,
+            ap (take (length y - p .k)) (c .before .before .before .before .diff-into .ensures) ∙ take-put (p .cycle .now) (diffK (p .k) y) (length y - p .k) (length-diffK (p .k) y),
+          ),
+        ),
+      ),
+    )
 
 mul-write-out : tie.Need-mul-write-out
 mul-write-out c = search needs
@@ -123,8 +121,7 @@ returns c = let q = c .before .before .before .before .before .before .before .b
     let star = ap (λ (j : ℕ). part j m w) (ra .0) ∙ q .pre .1 .1 .1 in
     let pr = flat-primal k y (p .lam) w x z (ce .result .primal) (ce .result .dual) s a e le st refl fi sz star (ce .ensures) in
     let du = flat-dual k y (p .lam) w x z (ce .result .primal) (ce .result .dual) s a e le st refl fi sz star (ce .ensures) in
-    let tr = flat-trend k y (p .lam) w x z (ce .result .primal) (ce .result .dual) s a e le st refl fi sz star (ce .ensures) in
-    (
+    let tr = flat-trend k y (p .lam) w x z (ce .result .primal) (ce .result .dual) s a e le st refl fi sz star (ce .ensures) in (
       λ tol limit penalty.
           closed-shows (asking y (p .lam) tol limit k penalty) (d .trend) (gapOf d) (d .primal)
           (c .closed .ensures ∙ ap₂ (λ (u v : Float). closedOf (wo .result) (p .lam-max) (u ⊖ v) u) pr du) (q .pre .1 .1 .0)

@@ -1,26 +1,11 @@
 use borrow.Author.Needs.{needs}
-use mathlib.Core.Path.{_≡_, refl, sym, ap, ap₂, _∙_}
-use mathlib.Core.List.{List}
-use mathlib.Core.Bool.{true, false}
-use Prim.Native.Nat.{ℕ, _≤_, _<_, _-_, _+_, _*_}
-use native.Mathlib.Nat.{mul-le-mul-left, mul-le-mul-right}
-use native.Mathlib.Omega.{arith}
-use borrow.Author.Tests.{not-true, not-false}
-use lib.ListN.{length, take, drop, length-drop}
-use lib.Seq.{length-take-le}
-use lib.Ieee.{Float, nan}
-use Rattle.float64.specs.Ops.{_⊖_, c0}
-use Rattle.vectors.specs.Vec.{part, put}
-use Rattle.vectors.proofs.Laws.{kept-none, kept-then}
+use Prim.Native.Nat.{_-_}
+use Rattle.float64.specs.Ops.{c0}
 use Rattle.questions.specs.Groups.{asking}
 use Rattle.fit.specs.Fit.{fitZero}
 use Rattle.trend_filter.proofs.Laws.{closed-shows}
 use Rattle.trend_filter.proofs.closed.fit_zero.Statement.{statement}
 use Rattle.trend_filter.proofs.closed.fit_zero.Tie as tie
-use Rattle.trend_filter.proofs.closed.fit_zero.Reads as reads
-use Rattle.trend_filter.proofs.closed.fit_zero.Lts as lts
-use Rattle.trend_filter.proofs.closed.closed.Reads as closed-reads
-use Rattle.trend_filter.proofs.closed.write_out.Reads as write-out-reads
 
 write-out-requires : tie.Need-write-out-requires
 write-out-requires c κs = search needs

@@ -1,22 +1,10 @@
 use borrow.Author.Needs.{needs}
-use mathlib.Core.Path.{_≡_, refl, sym, ap, ap₂, _∙_}
-use mathlib.Core.List.{List}
-use mathlib.Core.Bool.{true, false}
-use Prim.Native.Nat.{ℕ, _≤_, _<_, _-_, _+_, _*_}
+use mathlib.Core.Path.{refl}
+use Prim.Native.Nat.{_≤_, _-_, _+_, _*_}
 use native.Mathlib.Nat.{mul-le-mul-left, mul-le-mul-right}
 use native.Mathlib.Omega.{arith}
-use borrow.Author.Tests.{not-true, not-false}
-use lib.ListN.{length, take, drop, length-drop}
-use lib.Seq.{length-take-le}
-use lib.Ieee.{Float, nan}
-use Rattle.float64.specs.Ops.{_⊖_, c0}
-use Rattle.vectors.specs.Vec.{part, put}
-use Rattle.vectors.proofs.Laws.{kept-none, kept-then}
-use Rattle.questions.specs.Groups.{asking}
 use Rattle.trend_filter.proofs.closed.rows_end.Statement.{statement}
 use Rattle.trend_filter.proofs.closed.rows_end.Tie as tie
-use Rattle.trend_filter.proofs.closed.rows_end.Reads as reads
-use Rattle.trend_filter.proofs.closed.rows_end.Lts as lts
 
 add-result : tie.Need-add-result
 add-result c = search needs

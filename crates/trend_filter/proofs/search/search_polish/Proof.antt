@@ -1,17 +1,16 @@
 use borrow.Author.Needs.{needs}
-use mathlib.Core.Path.{_≡_, refl, sym, ap, ap₂, _∙_}
+use mathlib.Core.Path.{ap, _∙_}
 use mathlib.Core.List.{List}
-use mathlib.Core.Bool.{Bool, true, false, cond}
-use mathlib.Core.Option.{Option, some}
-use Prim.Native.Nat.{ℕ, _≤_, _<_, _-_, _+_, _*_}
+use mathlib.Core.Bool.{Bool, cond}
+use mathlib.Core.Option.{Option}
+use Prim.Native.Nat.{_-_, _*_}
 use native.Mathlib.Omega.{arith}
-use lib.ListN.{length, take, drop}
+use lib.ListN.{length}
 use lib.Ieee.{Float, nan}
-use Rattle.vectors.specs.Vec.{part, put}
-use Rattle.vectors.proofs.Laws.{kept-none, kept-then}
+use Rattle.vectors.specs.Vec.{part}
+use Rattle.vectors.proofs.Laws.{kept-then}
 use Rattle.vectors.proofs.Parts.{part-below}
 use Rattle.differences.specs.Diff.{diffK, gramRow}
-use Rattle.differences.proofs.Laws.{length-diffK}
 use Rattle.questions.specs.Groups.{asking}
 use Rattle.newton.specs.Newton.{Dual}
 use Rattle.certificate.specs.Certificate.{certify}
@@ -21,12 +20,6 @@ use Rattle.fit.specs.Fit.{searchOf, keptOf, firstGap}
 use Rattle.trend_filter.proofs.Won.{kept-of}
 use Rattle.trend_filter.proofs.search.search_polish.Statement.{statement}
 use Rattle.trend_filter.proofs.search.search_polish.Tie as tie
-use Rattle.trend_filter.proofs.search.search_polish.Reads as reads
-use Rattle.trend_filter.proofs.search.search_polish.Lts as lts
-use Rattle.interior_point.proofs.ipm_l1.Reads as ipm-l1-reads
-use Rattle.polish.proofs.polish_l1.Reads as polish-l1-reads
-use Rattle.polish.proofs.won.Reads as won-reads
-use Rattle.trend_filter.proofs.search.pick.Reads as pick-reads
 
 ipm-l1-requires : tie.Need-ipm-l1-requires
 ipm-l1-requires c κs = search needs
@@ -67,8 +60,7 @@ returns c = let q = c .before .before .before .before .before .before .before .b
     let r = ip .result in
     let v = po .result in
     let w = po .last .0 in
-    let of : Dual → Option (List Float) = λ d. polish k (gramRow k) (diffK k y) lam d in
-    (
+    let of : Dual → Option (List Float) = λ d. polish k (gramRow k) (diffK k y) lam d in (
       λ penalty.
           let a = asking y lam (p .tol) (p .max-iter) k penalty in
           let d = searchOf a .state .point in

@@ -1,0 +1,2 @@
+-- The laws of trend_filter_c.
+pub mod Laws
