@@ -1,0 +1,4 @@
+mod Floats
+mod Heads
+mod Passing
+mod Asking
