@@ -1,14 +1,14 @@
 -- The digits that `io` writes are those of the listing. Assumes nothing.
-use mathlib.Core.Path.{_≡_, refl, sym, ap, ap₂, _∙_, subst}
+use mathlib.Core.Path.{_≡_, refl, ap, _∙_}
 use mathlib.Core.Bool.{Bool, true, false, cond}
 use mathlib.Core.List.{List, [], _∷_, _++_}
-use Prim.Native.Nat.{ℕ, zero, suc, _+_, _-_, _*_, _/_, _%_, _^_, _≤_, _<_}
+use Prim.Native.Nat.{ℕ, zero, suc, _-_, _*_, _/_, _%_, _^_, _≤_, _<_}
 use native.Mathlib.Omega.{arith, pow-step}
-use native.Mathlib.Nat.{mod-eq-of-lt, pow-zero, pow-le-pow-right}
+use native.Mathlib.Nat.{mod-eq-of-lt, pow-le-pow-right}
 use lib.Dec.{leb, ltb, lit<}
 use borrow.Author.Tests.{ltb-true, ltb-false, leb-true, leb-false}
 use Rattle.io.specs.Digits.{glyph, digits, Fewest}
-use Rattle.listing.specs.Listing.{decimalIn, decimal}
+use Rattle.listing.specs.Listing.{decimalIn}
 
 -- no more digits than hold it
 pub fewest-le : (b least n r k : ℕ) → 0 < b → least ≤ k → n < b ^ k → Fewest b least n r → r ≤ k

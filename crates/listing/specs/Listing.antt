@@ -1,5 +1,5 @@
 -- Document 01, "The weekly program": what is printed, byte by byte. Fields are parted by one space, lines end in byte 10, whole numbers print in decimal, doubles as 16 lower-case hexadecimal digits, highest first, any NaN 7ff8000000000000.
-use Prim.Native.Nat.{ℕ, zero, suc, _+_, _/_, _%_}
+use Prim.Native.Nat.{ℕ, zero, suc, _/_, _%_}
 use mathlib.Core.Bool.{cond}
 use mathlib.Core.List.{List, [], _∷_, _++_}
 use lib.ListN.{getD}

@@ -1,7 +1,7 @@
 -- Which case of `readWeek` holds, from the tests of `read_week`. Assumes nothing.
 use mathlib.Core.Path.{_≡_, refl, sym, ap, ap₂, _∙_}
 use mathlib.Core.Bool.{cond}
-use Prim.Native.Nat.{ℕ, suc, _+_, _≤_, _<_}
+use Prim.Native.Nat.{ℕ, suc, _≤_, _<_}
 use native.Mathlib.Omega.{arith}
 use mathlib.Core.List.{List, [], _∷_, _++_}
 use mathlib.Core.Option.{Option, none, some, Option·map}
@@ -16,7 +16,6 @@ use Rattle.records.specs.declared.Settings.{Settings}
 use Rattle.records.specs.declared.Week.the-variants.{Read}
 use Rattle.records.specs.declared.Head.{Head}
 use Rattle.records.specs.declared.Head.the-variants.{End, Bad, Record}
-use Rattle.records.specs.declared.Tally.{Tally}
 use Rattle.records.specs.declared.Tally.the-variants.{Broken, Whole}
 use Rattle.records.proofs.Passing.{placed}
 

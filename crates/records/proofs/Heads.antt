@@ -1,13 +1,12 @@
 -- Which case of `headAt` holds, from the tests of `head_at`. Assumes nothing.
-use mathlib.Core.Path.{_≡_, refl, sym, ap, _∙_}
+use mathlib.Core.Path.{_≡_, sym, ap, _∙_}
 use Prim.Native.Nat.{ℕ, _+_, _-_, _≤_, _<_}
 use mathlib.Core.List.{List}
 use lib.ListN.{length}
-use borrow.Author.Tests.{lt-ltb, le-ltb, le-leb, lt-leb, eq-eqb, ne-eqb}
+use borrow.Author.Tests.{lt-ltb, le-ltb, lt-leb, eq-eqb, ne-eqb}
 use Rattle.records.specs.Bytes.{two·at}
 use Rattle.records.specs.Records.{headAt, lengthOf}
-use Rattle.records.specs.declared.Head.{Head}
-use Rattle.records.specs.declared.Head.the-variants.{End, Bad, Record}
+use Rattle.records.specs.declared.Head.the-variants.{Bad, Record}
 
 module _ (s : List ℕ) (at l k : ℕ) (hl : l ≡ two·at s at) (hk : k ≡ two·at s (at + 2)) (h₁ : at < length s) (h₂ : 4 ≤ length s - at) where
   pub head-empty : l ≡ 0 → Bad ≡ headAt s at

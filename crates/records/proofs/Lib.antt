@@ -2,3 +2,4 @@ mod Floats
 mod Heads
 mod Passing
 mod Asking
+mod Known

@@ -8,7 +8,7 @@ use mathlib.Core.Option.{Option, none, some, Option·map}
 use lib.ListN.{length, length-append}
 use lib.Dec.{leb, ltb, eqb}
 use lib.Ieee.{Float}
-use borrow.Author.Tests.{leb-true, leb-false, ltb-true, ltb-false, eqb-true, eqb-false}
+use borrow.Author.Tests.{leb-false, ltb-false, eqb-true}
 use Rattle.records.specs.Bytes.{two·at}
 use Rattle.records.specs.Records.{headAt, lengthOf, Rec, rec, follow, recordsAt, records, countKind, hourOf, hoursOf}
 use Rattle.vectors.specs.Vec.{Wrote}

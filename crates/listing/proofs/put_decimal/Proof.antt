@@ -1,8 +1,6 @@
-use mathlib.Core.Path.{_≡_, refl, sym, ap, _∙_, subst}
-use Prim.Native.Nat.{ℕ, _≤_, _+_}
+use mathlib.Core.Path.{_∙_}
+use Prim.Native.Nat.{_≤_}
 use lib.Dec.{lit<, lit≤}
-use lib.ListN.{length}
-use Rattle.vectors.specs.Vec.{Wrote}
 use Rattle.listing.specs.Listing.{decimal}
 use Rattle.listing.proofs.Decimals.{fewest-le, fewest-decimal}
 use native.Mathlib.Omega.{arith}

@@ -1,11 +1,8 @@
 use native.Mathlib.Omega.{arith}
-use mathlib.Core.Path.{_≡_, refl, sym, ap, ap₂, _∙_, subst}
-use Prim.Native.Nat.{ℕ, _≤_, _+_}
+use mathlib.Core.Path.{_≡_, ap₂, _∙_}
+use Prim.Native.Nat.{ℕ, _≤_}
 use lib.Dec.{lit<, lit≤}
-use lib.ListN.{length}
-use lib.Ieee.{toBits, binary64}
 use Rattle.io.specs.Digits.{digits}
-use Rattle.vectors.specs.Vec.{Wrote}
 use Rattle.listing.specs.Listing.{hexOf}
 use Rattle.listing.proofs.Decimals.{fewest-le}
 use borrow.Author.Needs.{needs}

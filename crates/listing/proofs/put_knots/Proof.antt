@@ -1,11 +1,11 @@
 use native.Mathlib.Omega.{arith}
 use borrow.Author.Needs.{needs}
-use mathlib.Core.Path.{_≡_, refl, sym, ap, _∙_, subst}
-use Prim.Native.Nat.{ℕ, _≤_, _+_, _-_, _*_}
+use mathlib.Core.Path.{_≡_}
+use Prim.Native.Nat.{_≤_, _+_, _-_, _*_}
 use lib.ListN.{length}
 use Rattle.vectors.specs.Vec.{Wrote}
 use Rattle.listing.specs.Listing.{knotLines}
-use Rattle.vectors.proofs.Texts.{wrote-none, wrote-then, wrote-length}
+use Rattle.vectors.proofs.Texts.{wrote-length}
 use Rattle.listing.proofs.Lines.{knots-none, knots-more}
 use denote.Ref.{now}
 use Rattle.listing.proofs.put_knots.Statement.{statement}

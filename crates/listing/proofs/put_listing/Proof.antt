@@ -1,4 +1,3 @@
-use native.Mathlib.Omega.{arith}
 use Rattle.listing.specs.Listing.{listingOf}
 use Rattle.vectors.proofs.Texts.{wrote-then}
 use borrow.Author.Needs.{needs}

@@ -1,4 +1,4 @@
-use mathlib.Core.Path.{_≡_, refl, ap, sym, _∙_}
+use mathlib.Core.Path.{_≡_, refl, sym, _∙_}
 use lib.Ieee.{binary64, nan, div, ofBits}
 use Rattle.records.proofs.Floats.{not-nan-bits, nan-bits}
 use borrow.Author.Needs.{needs}

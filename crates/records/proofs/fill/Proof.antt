@@ -1,13 +1,8 @@
 use native.Mathlib.Omega.{arith}
 use borrow.Author.Needs.{needs}
-use mathlib.Core.Path.{_≡_, refl, sym, ap, _∙_, subst}
-use mathlib.Core.List.{List, []}
-use Prim.Native.Nat.{_≤_, _+_, _-_}
+use mathlib.Core.Path.{sym, _∙_}
+use Prim.Native.Nat.{_≤_, _-_}
 use lib.ListN.{length}
-use lib.Ieee.{Float}
-use Rattle.vectors.specs.Vec.{Wrote}
-use Rattle.records.specs.Records.{headAt}
-use Rattle.records.specs.Week.{hoursIn}
 use Rattle.vectors.proofs.Texts.{wrote-length}
 use Rattle.records.proofs.Passing.{passed-end, passed-bad, placed, Filled, filled-none, filled-more, filled-room, hour-inside}
 use Rattle.records.proofs.fill.Statement.{statement}

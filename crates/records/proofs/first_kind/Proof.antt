@@ -1,4 +1,4 @@
-use mathlib.Core.Path.{_≡_, sym, ap, _∙_}
+use mathlib.Core.Path.{sym, ap, _∙_}
 use Rattle.records.specs.Records.{kindOf}
 use borrow.Author.Needs.{needs}
 use Rattle.records.proofs.first_kind.Statement.{statement}

@@ -1,4 +1,3 @@
-use mathlib.Core.Path.{_≡_, refl, sym, ap, _∙_}
 use Rattle.records.specs.Week.{settingsAt}
 use borrow.Author.Needs.{needs}
 use Rattle.records.proofs.first_settings.Statement.{statement}

@@ -1,11 +1,7 @@
 use Rattle.records.proofs.Heads.{head-empty, head-other, head-cut, head-whole}
-use native.Mathlib.Omega.{arith}
-use mathlib.Core.Path.{_≡_, refl, ap, ap₂, sym, _∙_}
-use borrow.Author.Tests.{lt-ltb, le-ltb, le-leb, lt-leb, eq-eqb, ne-eqb}
-use Rattle.records.specs.Records.{headAt, lengthOf}
-use Rattle.records.specs.Bytes.{two·at}
-use Rattle.records.specs.declared.Head.the-variants.{Record}
-use Prim.Native.Nat.{ℕ, _+_}
+use mathlib.Core.Path.{sym, _∙_}
+use borrow.Author.Tests.{lt-ltb, le-leb, lt-leb}
+use Rattle.records.specs.Records.{headAt}
 use borrow.Author.Needs.{needs}
 use Rattle.records.proofs.head_at.Statement.{statement}
 use Rattle.records.proofs.head_at.Tie as tie

@@ -1,13 +1,6 @@
 use native.Mathlib.Omega.{arith}
-use mathlib.Core.Path.{_≡_, refl, sym, ap, _∙_, subst}
-use mathlib.Core.List.{List, [], _∷_}
-use Prim.Native.Nat.{ℕ, _+_, _<_}
 use borrow.Author.Tests.{eq-eqb, ne-eqb}
-use lib.ListN.{length}
-use Rattle.vectors.specs.Vec.{Wrote}
-use Rattle.records.specs.Records.{hourOf}
 use Rattle.vectors.proofs.Texts.{wrote-one, wrote-none}
-use Rattle.records.proofs.Passing.{one-hour}
 use borrow.Author.Needs.{needs}
 use Rattle.records.proofs.put_hour.Statement.{statement}
 use Rattle.records.proofs.put_hour.Tie as tie

@@ -1,16 +1,11 @@
 use Rattle.records.proofs.Asking.{said-taken, hours-room, not-none}
 use native.Mathlib.Omega.{arith}
-use mathlib.Core.Path.{_≡_, refl, sym, ap, _∙_, subst}
-use Prim.Native.Nat.{ℕ, _≤_}
-use mathlib.Core.Option.{none, some}
+use mathlib.Core.Path.{_≡_, sym, _∙_}
+use mathlib.Core.Option.{some}
 use mathlib.Core.List.{List}
 use lib.ListN.{length}
 use denote.Ref.{now}
-use Rattle.records.specs.Records.{Rec, records, headAt, kindOf, countKind, hoursOf}
-use Rattle.vectors.specs.Vec.{Wrote, put}
-use Rattle.records.specs.Week.{readWeek, hoursIn, answer, series}
-use Rattle.records.specs.declared.Week.the-variants.{Read}
-use Rattle.vectors.proofs.Texts.{wrote-length}
+use Rattle.records.specs.Records.{Rec, records, countKind, hoursOf}
 use Rattle.records.proofs.Asking.{walked, broken, settings-inside, week-long, week-broken, week-first, week-settings, week-hours, week-taken, said}
 use borrow.Author.Needs.{needs}
 use Rattle.records.proofs.read_week.Statement.{statement}

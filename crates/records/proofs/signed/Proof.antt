@@ -1,10 +1,10 @@
 use mathlib.Core.Bool.{true}
 use Prim.Native.Nat.{_^_}
-use mathlib.Core.Path.{_≡_, refl, ap, sym, _∙_}
+use mathlib.Core.Path.{_≡_, ap, _∙_}
 use native.Mathlib.Omega.{arith}
 use Prim.Native.Nat.{ℕ, suc, _-_}
-use borrow.Author.Tests.{lt-ltb, le-ltb, le-leb}
-use lib.Ieee.{Float, binary64, inFloat, ofInt, round}
+use borrow.Author.Tests.{lt-ltb, le-ltb}
+use lib.Ieee.{binary64, inFloat, ofInt, round}
 use Rattle.records.specs.Bytes.{signed32}
 use Rattle.records.proofs.Floats.{leb-T, round-neg}
 use borrow.Author.Needs.{needs}

@@ -1,12 +1,8 @@
 use native.Mathlib.Omega.{arith}
 use borrow.Author.Needs.{needs}
-use mathlib.Core.Path.{_≡_, refl, sym, ap, _∙_}
-use mathlib.Core.List.{List, []}
-use Prim.Native.Nat.{_≤_, _+_}
-use lib.ListN.{length-append}
-use Rattle.records.specs.Records.{headAt, Rec, countKind, hoursOf, hourOf}
-use Rattle.records.specs.Week.{tallyOf}
-use Rattle.records.proofs.Passing.{Passed, passed-none, passed-more, passed-end, passed-bad, count-more, hours-more, placed, Counted, counted-none, counted-more}
+use mathlib.Core.Path.{sym, _∙_}
+use Prim.Native.Nat.{_≤_}
+use Rattle.records.proofs.Passing.{passed-end, passed-bad, placed, Counted, counted-none, counted-more}
 use Prim.Native.Nat.{_-_}
 use lib.ListN.{length}
 use Rattle.records.proofs.walk.Statement.{statement}
