@@ -212,7 +212,7 @@ pub fn put_listing(
 pub fn put_refused(out: &mut [u8; 16384], number: u32) -> usize
     ensures { λ r. ⌜ Wrote (now (out .entry)) 0 (refusedLine number) (now (out .exit)) r ⌝ }
 {
-    let a1 = put_all(out, 0, b"refused");
-    let a2 = put_field(out, a1, number as u64);
-    put_byte(out, a2, 10)
+    let word = put_all(out, 0, b"refused");
+    let end = put_field(out, word, number as u64);
+    put_byte(out, end, 10)
 }
