@@ -7,10 +7,10 @@ use lib.Ieee
 use lib.Ieee.{Float, binary64, ofBits}
 use Rattle.listing.specs.Listing
 use Rattle.listing.specs.Listing.{listingOf, refusedLine}
-use Rattle.listing.specs.declared.Fit.{Fit}
+use Rattle.listing.specs.declared.Shown.{Shown}
 
 -- document 01's listing. The slices are longer than the week: what lies past it is not printed
-abbrev first-fit : Fit
+abbrev first-fit : Shown
 first-fit = record { n = 2; order = 1; penalty = 1; «n_iter» = 0; improvements = 0; converged = true; «lam_max» = ofBits binary64 0x40af_4000_0000_0000; gap = ofBits binary64 0; objective = ofBits binary64 0x416e_8480_0000_0000; knots = 0 }
 
 abbrev level : Float
@@ -23,7 +23,7 @@ abbrev first-cycle : List Float
 first-cycle = level ∷ ofBits binary64 0xc0af_4000_0000_0000 ∷ ofBits binary64 0 ∷ []
 
 -- three hours, with a NaN (two patterns), both infinities, −0, the least and the greatest double, and two knots
-abbrev second-fit : Fit
+abbrev second-fit : Shown
 second-fit = record { n = 3; order = 2; penalty = 1; «n_iter» = 18446744073709551615; improvements = 10; converged = false; «lam_max» = ofBits binary64 0x7ff0_0000_0000_0001; gap = ofBits binary64 0x7ff0_0000_0000_0000; objective = ofBits binary64 0x8000_0000_0000_0000; knots = 2 }
 
 abbrev second-trend : List Float

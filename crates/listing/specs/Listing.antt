@@ -4,8 +4,9 @@ use mathlib.Core.Bool.{cond}
 use mathlib.Core.List.{List, [], _∷_, _++_}
 use lib.ListN.{getD}
 use lib.Dec.{ltb}
-use lib.Ieee.{Float, nan, binary64, toBits}
-use Rattle.listing.specs.declared.Fit.{Fit}
+use lib.Ieee.{Float, binary64, toBits}
+use Rattle.vectors.specs.Vec.{at}
+use Rattle.listing.specs.declared.Shown.{Shown}
 use Rattle.io.specs.Digits.{glyph, digits}
 
 -- a whole number in decimal, of at most `most` digits
@@ -28,42 +29,44 @@ field n = (32 ∷ []) ++ decimal n
 unfoldable pub hexField : Float → List ℕ
 hexField x = (32 ∷ []) ++ hexOf x
 
--- `h`, the hour's index, its trend and its cycle
+-- `h` (104), the hour's index, its trend and its cycle, and byte 10
 unfoldable pub hourLine : ℕ → Float → Float → List ℕ
 hourLine i t c = (104 ∷ []) ++ field i ++ hexField t ++ hexField c ++ (10 ∷ [])
 
--- `knot` and its index
+-- `knot` (107 110 111 116) and its index
 unfoldable pub knotLine : ℕ → List ℕ
 knotLine i = (107 ∷ 110 ∷ 111 ∷ 116 ∷ []) ++ field i ++ (10 ∷ [])
 
 -- the lines of the first n hours, and of the first n knots
 unfoldable pub hourLines : List Float → List Float → ℕ → List ℕ
 hourLines t c zero = []
-hourLines t c (suc n) = hourLines t c n ++ hourLine n (getD t n nan) (getD c n nan)
+hourLines t c (suc n) = hourLines t c n ++ hourLine n (at t n) (at c n)
 
 unfoldable pub knotLines : List ℕ → ℕ → List ℕ
 knotLines k zero = []
 knotLines k (suc n) = knotLines k n ++ knotLine (getD k n 0)
 
+-- three fields
 unfoldable pub three : ℕ → ℕ → ℕ → List ℕ
 three a b c = field a ++ field b ++ field c
 
--- `fit` and its whole numbers
-unfoldable pub fitLine : Fit → List ℕ
+-- `fit` (102 105 116), n, order, penalty, n_iter, improvements, converged (0 or 1)
+unfoldable pub fitLine : Shown → List ℕ
 fitLine f =
     (102 ∷ 105 ∷ 116 ∷ [])
     ++ three (f .n) (f .order) (f .penalty)
     ++ three (f .«n_iter») (f .improvements) (cond (f .converged) 1 0)
     ++ (10 ∷ [])
 
+-- lam_max, gap, objective
 unfoldable pub numbersLine : Float → Float → Float → List ℕ
 numbersLine a b c = hexOf a ++ hexField b ++ hexField c ++ (10 ∷ [])
 
--- the listing of a fit
-unfoldable pub listingOf : Fit → List Float → List Float → List ℕ → List ℕ
+-- the listing of a fit: two lines, one for each hour, one for each knot
+unfoldable pub listingOf : Shown → List Float → List Float → List ℕ → List ℕ
 listingOf f trend cycle knots =
     fitLine f ++ numbersLine (f .«lam_max») (f .gap) (f .objective) ++ hourLines trend cycle (f .n) ++ knotLines knots (f .knots)
 
--- `refused` and its number
+-- `refused` (114 101 102 117 115 101 100) and its number
 unfoldable pub refusedLine : ℕ → List ℕ
 refusedLine k = (114 ∷ 101 ∷ 102 ∷ 117 ∷ 115 ∷ 101 ∷ 100 ∷ []) ++ field k ++ (10 ∷ [])

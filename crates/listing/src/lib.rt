@@ -9,8 +9,8 @@ ghost use lib.ListN.{length};
 ghost use Rattle.vectors.specs.Vec.{Wrote};
 ghost use Rattle.listing.specs.Listing.{decimal, hexOf, field, hexField, hourLine, knotLine, hourLines, knotLines, three, fitLine, numbersLine, listingOf, refusedLine};
 
-// What is printed of a fit besides its trend, its cycle and its knots: n hours, and so many knots.
-pub struct Fit {
+// What is shown of a fit besides its trend, its cycle and its knots: n hours, and so many knots.
+pub struct Shown {
     pub n: usize,
     pub order: u32,
     pub penalty: u32,
@@ -168,7 +168,7 @@ fn bit(b: bool) -> u64
 }
 
 // The first line of a fit.
-fn put_fit_line(out: &mut [u8], at: usize, f: Fit) -> usize
+fn put_fit_line(out: &mut [u8], at: usize, f: Shown) -> usize
     requires { ⌜ at + 130 ≤ length (now out) ⌝ }
     ensures { λ r. ⌜ (Wrote (now (out .entry)) at (fitLine f) (now (out .exit)) r) × (r ≤ at + 130) ⌝ }
 {
@@ -192,7 +192,7 @@ fn put_numbers_line(out: &mut [u8], at: usize, a: f64, b: f64, c: f64) -> usize
 // The whole listing of a fit, at the start of out: answers how many bytes it has.
 pub fn put_listing(
     out: &mut [u8; 16384],
-    f: Fit,
+    f: Shown,
     trend: &[f64; 168],
     cycle: &[f64; 168],
     knots: &[u32; 168],
