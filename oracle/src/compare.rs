@@ -35,7 +35,7 @@ fn number(e: &MlError) -> u32 {
     }
 }
 
-fn expected(c: &Case) -> Result<(TrendFilterFit, counted::Seen), u32> {
+pub fn expected(c: &Case) -> Result<(TrendFilterFit, counted::Seen), u32> {
     let penalty = match c.penalty {
         1 => Penalty::L1,
         2 => Penalty::L2,

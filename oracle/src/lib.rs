@@ -17,3 +17,4 @@ pub mod cases;
 pub mod compare;
 pub mod port;
 pub mod random;
+pub mod replay;

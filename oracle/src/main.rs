@@ -1,5 +1,6 @@
 //! oracle SEED FITS LARGE: compares FITS cases of up to 168 places, every short one, and LARGE cases of up to 65,536 places.
-//! It prints how the cases ended and 'differences: 0', or the first case that differs, and exits 1.
+//! oracle replay SEED EACH PATH: writes the list of answers that the program `replay` reads, EACH cases a group.
+//! The first prints how the cases ended and 'differences: 0', or the first case that differs, and exits 1.
 use oracle::cases::{damaged, good, short_ones, Case};
 use oracle::compare::{compare, Tally};
 use oracle::port::{Lengths, Port};
@@ -38,6 +39,14 @@ fn only_here(port: &mut Port) {
 }
 
 fn main() {
+    let args: Vec<String> = std::env::args().skip(1).collect();
+    if let [how, seed, each, path] = &args[..] {
+        assert_eq!(how, "replay", "oracle replay SEED EACH PATH");
+        let words = oracle::replay::list(seed.parse().unwrap(), each.parse().unwrap());
+        std::fs::write(path, words.iter().flat_map(|w| w.to_le_bytes()).collect::<Vec<u8>>()).unwrap();
+        println!("{} cases, {} bytes", words[0], 8 * words.len());
+        return;
+    }
     let word: Vec<u64> = std::env::args().skip(1).map(|w| w.parse().expect("oracle SEED FITS LARGE")).collect();
     let [seed, fits, large] = word[..] else {
         panic!("oracle SEED FITS LARGE");

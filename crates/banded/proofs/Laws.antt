@@ -4,18 +4,18 @@ use mathlib.Core.Logic.{⊎-elim}
 use mathlib.Core.List.{List, [], _∷_, _++_}
 use mathlib.Core.Path.{_≡_, refl, sym, ap, _∙_}
 use Prim.Native.Nat.{ℕ, zero, suc, _+_, _-_, _*_, _/_, _%_, _≤_, _<_}
-use native.Mathlib.Nat.{mul-le-mul-right, add-mul, one-mul, suc-mul, mul-suc, zero-mul, zero-add, eq-or-lt-of-le, le-of-suc-le-suc, ne-of-lt, ne-of-gt, mod-lt, div-add-mod', div-lt-iff-lt-mul}
+use native.Mathlib.Nat.{mul-le-mul-right, add-mul, one-mul, suc-mul, mul-suc, zero-mul, zero-add, eq-or-lt-of-le, le-of-suc-le-suc, ne-of-lt, ne-of-gt, mod-lt, div-add-mod', div-lt-iff-lt-mul, min-le-left}
 use native.Mathlib.Numerals.{add-one}
 use native.Mathlib.Omega.{arith}
 use lib.Dec.{ltb}
-use lib.ListN.{length, getD, set, take, drop, length-append, length-set, length-drop, List·getD-append}
+use lib.ListN.{length, getD, set, take, drop, length-append, length-set, length-take, length-drop, List·getD-append}
 use lib.Seq.{getD-at, getD-set-same, getD-set-other, getD-take, getD-drop, getD-append-add, length-take-le, ext-getD}
 use lib.Ieee.{Float, nan, binary64, ofBits, mul, sub, div}
 use borrow.Author.Tests.{ltb-true, ltb-false}
 use Rattle.vectors.specs.Vec.{at, list}
 use Rattle.vectors.proofs.Laws.{length-list, at-list, cond-cong}
 use Rattle.banded.specs.Rows.{Matrix, line, look, less, taken, rest, entry, rowTo, row, rows, sound, good, matrix, concat}
-use Rattle.banded.specs.Run.{flat, Shape, Holds}
+use Rattle.banded.specs.Run.{flat, Shape, Holds, Stands, Factored}
 
 -- ---- places of rows
 
@@ -60,7 +60,8 @@ cond-right : (b : Bool) (x y z : Float) → (b ≡ false → x ≡ y) → cond b
 cond-right true x y z h = refl
 cond-right false x y z h = h refl
 
-module _ (k r c : ℕ) (l l′ : Matrix) (v : Float) (b : c ≤ k) (up : (i j : ℕ) → i < r → j ≤ k → l i j ≡ l′ i j) (left : (j : ℕ) → j < c → l r j ≡ l′ r j) where
+module _ (k r c : ℕ) (l l′ : Matrix) (v v′ : Float) (b : c ≤ k) (same : k ≤ r + c → v ≡ v′) (up : (i j : ℕ) → i < r → j ≤ k → l i j ≡ l′ i j)
+    (left : (j : ℕ) → j < c → l r j ≡ l′ r j) where
   column : k ≤ r + c → (t : ℕ) → t < c → l (r + c - k) (t + k - c) ≡ l′ (r + c - k) (t + k - c)
   column g t q =
       ⊎-elim
@@ -68,13 +69,15 @@ module _ (k r c : ℕ) (l l′ : Matrix) (v : Float) (b : c ≤ k) (up : (i j : 
       (λ (u : c < k). up (r + c - k) (t + k - c) (omega arith) (omega arith))
       (eq-or-lt-of-le b)
 
-  rest-ext : k ≤ r + c → rest k l v r c ≡ rest k l′ v r c
+  rest-ext : k ≤ r + c → rest k l v r c ≡ rest k l′ v′ r c
   unfolding rest taken
   rest-ext g =
-      less-ext v _ _ (c - (k - r))
-      (λ n h. rw (left (k - r + n) (omega arith), column g (k - r + n) (omega arith), up (r + (k - r + n) - k) k (omega arith) (omega arith)))
+      rw (same g)
+      (less-ext v′ _ _ (c - (k - r))
+      (λ n h. rw (left (k - r + n) (omega arith), column g (k - r + n) (omega arith), up (r + (k - r + n) - k) k (omega arith) (omega arith))))
 
-  pub entry-ext : entry k l v r c ≡ entry k l′ v r c
+  -- a place that stands for no column does not read the matrix
+  pub entry-ext : entry k l v r c ≡ entry k l′ v′ r c
   unfolding entry
   entry-ext =
       cond-right (ltb (r + c) k) _ _ (ofBits binary64 0)
@@ -122,56 +125,29 @@ holds-snoc {k} {r} {f} {s} p h e q =
 pub holds-kept : {k r : ℕ} {f : List (List Float)} {s s′ : List Float} → Holds k r f s → ((q : ℕ) → q < r * (k + 1) → at s′ q ≡ at s q) → Holds k r f s′
 holds-kept {k} {r} {f} {s} {s′} h e = record { shape = h .shape; same = λ i j b g. e (i * (k + 1) + j) (above k r i j b g) ∙ h .same i j b g }
 
--- s₀ with the first c places of row r factored
-pub record Row (k r c : ℕ) (s₀ s : List Float) : Type 0 where
-  pub size : length s ≡ length s₀
-  pub below : (q : ℕ) → q < r * (k + 1) → at s q ≡ at s₀ q
-  pub after : (q : ℕ) → r * (k + 1) + c ≤ q → at s q ≡ at s₀ q
-  pub made : (a : Matrix) (f : List (List Float)) → Holds k r f s₀ → ((j : ℕ) → j ≤ k → flat k s₀ r j ≡ a r j)
-      → (j : ℕ) → j < c → flat k s r j ≡ at (rowTo k a f r c) j
+-- nothing stored yet; one more place, at q
+pub row-none : {k r : ℕ} {s : List Float} → Factored k r 0 s s
+row-none = record { size = refl; below = λ q h. refl; after = λ q h. refl; made = λ j b. absurd (omega arith) }
 
-pub row-none : {k r : ℕ} {s : List Float} → Row k r 0 s s
-row-none = record { size = refl; below = λ q h. refl; after = λ q h. refl; made = λ a f h e j b. absurd (omega arith) }
-
-module _ {k r c : ℕ} {s₀ s : List Float} {x : Float} (w : Row k r c s₀ s) (b : c ≤ k) (fits : r * (k + 1) + c < length s)
-    (is : x ≡ entry k (flat k s) (flat k s r c) r c) (a : Matrix) (f : List (List Float)) (h : Holds k r f s₀) (e : (j : ℕ) → j ≤ k → flat k s₀ r j ≡ a r j) where
-  abbrev p : List Float
-  p = rowTo k a f r c
-
-  same-entry : x ≡ entry k (look (f ++ (p ∷ []))) (a r c) r c
-  same-entry =
-      is ∙ rw (w .after (r * (k + 1) + c) (omega arith), e c b)
-      (entry-ext k r c (flat k s) (look (f ++ (p ∷ []))) (a r c) b
-      (λ i j u g. w .below (i * (k + 1) + j) (above k r i j u g) ∙ h .same i j u g ∙ sym (ap (λ (l : List Float). at l j) (line-above f p i (omega (arith, h .shape .count)))))
-      (λ j u. w .made a f h e j u ∙ sym (ap (λ (l : List Float). at l j) (line-here f p r (h .shape .count)))))
-
-  made-more : (j : ℕ) → j < suc c → flat k (set s (r * (k + 1) + c) x) r j ≡ at (rowTo k a f r (suc c)) j
-  unfolding rowTo
-  made-more j u =
-      ⊎-elim
-      (λ (q : j ≡ c). rw q (getD-set-same s (r * (k + 1) + c) x nan fits ∙ same-entry ∙ sym (getD-at p _ [] nan c (length-rowTo k a f r c))))
-      (λ (q : j < c).
-      getD-set-other s (r * (k + 1) + c) (r * (k + 1) + j) x nan (ne-of-lt (omega arith)) ∙ w .made a f h e j q
-      ∙ sym (List·getD-append p _ nan j (omega (arith, length-rowTo k a f r c))))
-      (eq-or-lt-of-le (le-of-suc-le-suc u))
-
-pub row-more : {k r c : ℕ} {s₀ s : List Float} {x : Float} → Row k r c s₀ s → c ≤ k → r * (k + 1) + c < length s
-    → x ≡ entry k (flat k s) (flat k s r c) r c → Row k r (c + 1) s₀ (set s (r * (k + 1) + c) x)
-row-more {k} {r} {c} {s₀} {s} {x} w b fits is =
-    rw (add-one c)
-    (record {
-      size = length-set s _ x ∙ w .size;
-      below = λ q u. getD-set-other s (r * (k + 1) + c) q x nan (ne-of-lt (omega arith)) ∙ w .below q u;
-      after = λ q u. getD-set-other s (r * (k + 1) + c) q x nan (ne-of-gt (omega arith)) ∙ w .after q (omega arith);
-      made = λ a f h e. made-more w b fits is a f h e;
-    })
-
-pub row-end : {k r c : ℕ} {s₀ s : List Float} → Row k r c s₀ s → c ≡ k + 1 → (a : Matrix) (f : List (List Float)) → Holds k r f s₀
-    → ((j : ℕ) → j ≤ k → flat k s₀ r j ≡ a r j) → Holds k (r + 1) (f ++ (row k a f r ∷ [])) s
-unfolding row
-row-end {k} {r} {c} {s₀} {s} w z a f h e =
-    holds-snoc (rowTo k a f r (k + 1)) (holds-kept h (w .below)) (length-rowTo k a f r (k + 1))
-    (λ j g. rw z at (w .made a f h e j (omega arith)))
+pub row-more : {k r c : ℕ} {s₀ s : List Float} {x : Float} (q : ℕ) → Factored k r c s₀ s → c ≤ k → q ≡ r * (k + 1) + c → q < length s
+    → x ≡ entry k (flat k s) (flat k s r c) r c → Factored k r (c + 1) s₀ (set s q x)
+row-more {k} {r} {c} {s₀} {s} {x} q w b e fits is =
+    let up : (i j : ℕ) → i < r → j ≤ k → flat k s i j ≡ flat k (set s q x) i j = λ i j u g. sym (getD-set-other s q (i * (k + 1) + j) x nan (ne-of-lt (omega (arith, above k r i j u g)))) in
+    let left : (j : ℕ) → j < c → flat k s r j ≡ flat k (set s q x) r j = λ j u. sym (getD-set-other s q (r * (k + 1) + j) x nan (ne-of-lt (omega arith))) in
+    record {
+      size = length-set s q x ∙ w .size;
+      below = λ p u. getD-set-other s q p x nan (ne-of-lt (omega arith)) ∙ w .below p u;
+      after = λ p u. getD-set-other s q p x nan (ne-of-gt (omega arith)) ∙ w .after p (omega arith);
+      made = λ j u.
+          ⊎-elim
+          (λ (z : j ≡ c).
+          rw z (ap (at (set s q x)) (sym e) ∙ getD-set-same s q x nan fits ∙ is
+          ∙ entry-ext k r c (flat k s) (flat k (set s q x)) (flat k s r c) (flat k s₀ r c) b (λ g. w .after (r * (k + 1) + c) (omega arith)) up left))
+          (λ (z : j < c).
+          sym (left j z) ∙ w .made j z
+          ∙ entry-ext k r j (flat k s) (flat k (set s q x)) (flat k s₀ r j) (flat k s₀ r j) (omega arith) (λ g. refl) up (λ i h. left i (omega arith)))
+          (eq-or-lt-of-le (omega arith));
+    }
 
 -- ---- the rows, one after the other: the bridge between places of the run and places of rows
 
@@ -263,40 +239,16 @@ kept-after n s s₀ e h =
     ext-getD nan (drop n s) (drop n s₀) (length-drop n s ∙ rw e (sym (length-drop n s₀)))
     (λ i l. getD-drop n s i nan ∙ h (n + i) (omega arith) ∙ sym (getD-drop n s₀ i nan))
 
--- ---- s₀ with its first r rows factored, all pivots good
-pub record Done (k m r : ℕ) (s₀ s : List Float) : Type 0 where
-  pub after : (q : ℕ) → r * (k + 1) ≤ q → at s q ≡ at s₀ q
-  pub made : (a : Matrix) → Holds k m (matrix k a m) s₀ → Holds k r (rows k a r) s × (sound k a r ≡ true)
+-- the n places from b on, as a list
+pub part-stands : (b n : ℕ) (s : List Float) → Stands b (take n (drop b s)) s
+part-stands b n s j h = let u : j < n = omega (arith, length-take n (drop b s), min-le-left n (length (drop b s))) in
+    sym (getD-take n (drop b s) j nan u ∙ getD-drop b s j nan)
 
-pub done-none : {k m : ℕ} {s : List Float} → Done k m 0 s s
-unfolding rows sound
-done-none {k} {m} {s} = record { after = λ q h. refl; made = λ a h. (holds-none k s, refl) }
-
-module _ {k m r : ℕ} {s₀ s s′ : List Float} (d : Done k m r s₀ s) (b : r < m) (kept : (q : ℕ) → (r + 1) * (k + 1) ≤ q → at s′ q ≡ at s q)
-    (one : (a : Matrix) (f : List (List Float)) → Holds k r f s → ((c : ℕ) → c ≤ k → flat k s r c ≡ a r c) → Holds k (r + 1) (f ++ (row k a f r ∷ [])) s′) where
-  next : (a : Matrix) → Holds k m (matrix k a m) s₀ → Holds k (r + 1) (rows k a r ++ (row k a (rows k a r) r ∷ [])) s′
-  next a h =
-      one a (rows k a r) (d .made a h .0)
-      (λ c g. d .after (r * (k + 1) + c) (omega arith) ∙ h .same r c b g ∙ look-matrix k a m r c b g)
-
-  pivot : (a : Matrix) → Holds k m (matrix k a m) s₀ → flat k s′ r k ≡ at (row k a (rows k a r) r) k
-  pivot a h =
-      next a h .same r k (omega arith) (omega arith)
-      ∙ ap (λ (l : List Float). at l k) (line-here (rows k a r) (row k a (rows k a r) r) r (shape-rows k a r .count))
-
-  pub kept-from : (q : ℕ) → (r + 1) * (k + 1) ≤ q → at s′ q ≡ at s₀ q
-  kept-from q h = kept q h ∙ d .after q (omega (arith, one-row k r))
-
-  pub done-more : good (flat k s′ r k) ≡ true → Done k m (r + 1) s₀ s′
-  unfolding rows sound
-  done-more g = record {
-    after = kept-from;
-    made = λ a h. rw (add-one r) (rw (add-one r) at (next a h), rw (d .made a h .1, ← pivot a h) g);
-  }
-
-  pub done-bad : good (flat k s′ r k) ≡ false → (a : Matrix) → Holds k m (matrix k a m) s₀ → sound k a m ≡ false
-  unfolding sound
-  done-bad g a h = unsound k a (suc r) m (rw (d .made a h .1, ← pivot a h) g) b
+pub stands-part : (b n : ℕ) (x s : List Float) → length x ≡ n → b + n ≤ length s → Stands b x s → take n (drop b s) ≡ x
+stands-part b n x s e room h =
+    let l : length (take n (drop b s)) ≡ n = length-take-le n (drop b s) (omega (arith, length-drop b s)) in
+    ext-getD nan (take n (drop b s)) x (l ∙ sym e)
+    (λ i u. getD-take n (drop b s) i nan (omega arith) ∙ getD-drop b s i nan ∙ h i (omega arith))
 
 -- a run that was filled with a matrix place by place, from the first on
 pub filled : (k m : ℕ) (a : Matrix) (s : List Float) → m * (k + 1) ≤ length s → ((q : ℕ) → q < m * (k + 1) → at s q ≡ a (q / (k + 1)) (q % (k + 1)))

@@ -1,13 +1,13 @@
--- The L D L' factor of a banded symmetric matrix of bandwidth k, a row at a time.
+-- Document 01, "Differences and bands": factor does the Rust's operations in its order, skipping places before row 0. The L D L' factor of a banded symmetric matrix of bandwidth k, a row at a time.
 -- A row has k + 1 places. In row r place c stands for column r + c - k: place k is the diagonal, and the first k - r places of an early row stand for no column.
 use mathlib.Core.Bool.{Bool, true, false, cond, _&&_}
 use mathlib.Core.List.{List, [], _∷_, _++_}
 use Prim.Native.Nat.{ℕ, zero, suc, _+_, _-_}
 use lib.Dec.{ltb}
 use lib.ListN.{getD}
-use lib.Ieee.{Float, binary64, mul, sub, div, lt, le, ofBits}
+use lib.Ieee.{Float, lt}
 use Rattle.float64.specs.Helpers.{isFinite}
-use Rattle.float64.specs.Ops.{c0}
+use Rattle.float64.specs.Ops.{_⊖_, _⊗_, _⊘_, c0}
 use Rattle.vectors.specs.Vec.{at, list}
 
 -- a matrix: its number at each row and place
@@ -24,12 +24,12 @@ look f i j = at (line f i) j
 -- v, less f 0, f 1, .. , f (n - 1), in that order
 unfoldable pub less : Float → (ℕ → Float) → ℕ → Float
 less v f zero = v
-less v f (suc n) = sub binary64 (less v f n) (f n)
+less v f (suc n) = less v f n ⊖ f n
 
 -- Place c of row r of the factor, where v is the matrix there and l the factor's rows above and places to the left.
 -- From v is taken, for each column to the left, multiplier · multiplier of that column in the row that column c belongs to · the column's pivot. A multiplier is then divided by its column's pivot.
 unfoldable pub taken : ℕ → Matrix → ℕ → ℕ → ℕ → Float
-taken k l r c t = mul binary64 (mul binary64 (l r t) (l (r + c - k) (t + k - c))) (l (r + t - k) k)
+taken k l r c t = l r t ⊗ l (r + c - k) (t + k - c) ⊗ l (r + t - k) k
 
 unfoldable pub rest : ℕ → Matrix → Float → ℕ → ℕ → Float
 unfolding less taken
@@ -37,7 +37,7 @@ rest k l v r c = less v (λ n. taken k l r c (k - r + n)) (c - (k - r))
 
 unfoldable pub entry : ℕ → Matrix → Float → ℕ → ℕ → Float
 unfolding rest
-entry k l v r c = cond (ltb (r + c) k) (ofBits binary64 0) (cond (ltb c k) (div binary64 (rest k l v r c) (l (r + c - k) k)) (rest k l v r c))
+entry k l v r c = cond (ltb (r + c) k) c0 (cond (ltb c k) (rest k l v r c ⊘ l (r + c - k) k) (rest k l v r c))
 
 -- the first n places of row r, left to right; f holds the rows above
 unfoldable pub rowTo : ℕ → Matrix → List (List Float) → ℕ → ℕ → List Float

@@ -1,12 +1,15 @@
--- A run of numbers that begins with rows of k + 1, read by row and place.
+-- Document 01, "Differences and bands": flat rows of k + 1 numbers, the Rust's rows one after the other. A run begins with m of them; the right side of a system comes after.
 use mathlib.Core.Path.{_≡_}
+use mathlib.Core.Bool.{Bool}
 use mathlib.Core.List.{List}
 use Prim.Native.Nat.{ℕ, _+_, _*_, _<_, _≤_}
 use lib.ListN.{length}
 use lib.Ieee.{Float}
 use Rattle.vectors.specs.Vec.{at}
-use Rattle.banded.specs.Rows.{Matrix, line, look}
+use Rattle.banded.specs.Rows.{Matrix, line, look, entry, good}
+use Rattle.banded.specs.Solve.{forwardAt}
 
+-- place j of row i
 abbrev pub flat : ℕ → List Float → Matrix
 flat k s i j = at s (i * (k + 1) + j)
 
@@ -20,12 +23,23 @@ pub record Holds (k m : ℕ) (f : List (List Float)) (s : List Float) : Type 0 w
   pub shape : Shape k m f
   pub same : (i j : ℕ) → i < m → j ≤ k → flat k s i j ≡ look f i j
 
--- s is s₀ but for the n places from b on
-pub record Kept (b n : ℕ) (s₀ s : List Float) : Type 0 where
-  pub size : length s ≡ length s₀
-  pub below : (q : ℕ) → q < b → at s q ≡ at s₀ q
-  pub above : (q : ℕ) → b + n ≤ q → at s q ≡ at s₀ q
-
 -- from place b on stands x
 abbrev pub Stands : ℕ → List Float → List Float → Type 0
 Stands b x s = (j : ℕ) → j < length x → at s (b + j) ≡ at x j
+
+-- s is s₀ but for the first c places of row r, which are now the factor's
+pub record Factored (k r c : ℕ) (s₀ s : List Float) : Type 0 where
+  pub size : length s ≡ length s₀
+  pub below : (q : ℕ) → q < r * (k + 1) → at s q ≡ at s₀ q
+  pub after : (q : ℕ) → r * (k + 1) + c ≤ q → at s q ≡ at s₀ q
+  pub made : (j : ℕ) → j < c → flat k s r j ≡ entry k (flat k s) (flat k s₀ r j) r j
+
+-- s is s₀ but for row r, which is now the factor's, and place r of the right side, which is carried forward; ok says whether the row's pivot is good
+pub record Eliminated (k m r : ℕ) (s₀ s : List Float) (ok : Bool) : Type 0 where
+  pub size : length s ≡ length s₀
+  pub below : (q : ℕ) → q < r * (k + 1) → at s q ≡ at s₀ q
+  pub between : (q : ℕ) → (r + 1) * (k + 1) ≤ q → q < m * (k + 1) + r → at s q ≡ at s₀ q
+  pub above : (q : ℕ) → m * (k + 1) + r < q → at s q ≡ at s₀ q
+  pub made : (c : ℕ) → c ≤ k → flat k s r c ≡ entry k (flat k s) (flat k s₀ r c) r c
+  pub carried : at s (m * (k + 1) + r) ≡ forwardAt k (flat k s) (λ j. at s (m * (k + 1) + j)) (at s₀ (m * (k + 1) + r)) r
+  pub pivot : ok ≡ good (flat k s r k)

@@ -1,9 +1,10 @@
 // Differences of a series, in place, and their transpose.
 ghost use mathlib.Core.Path.{_≡_};
-ghost use Prim.Native.Nat.{_≤_, _<_, _-_};
+ghost use Prim.Native.Nat.{_≤_, _<_, _-_, _+_};
 ghost use lib.ListN.{length, take};
-ghost use Rattle.vectors.specs.Vec.{at, Written};
-ghost use Rattle.differences.specs.Diff.{rise, diffK, before, here, fall, diffKT, stencil as stencil_of, gramRow};
+ghost use mathlib.Core.List.{_++_};
+ghost use Rattle.vectors.specs.Vec.{at, put, Written};
+ghost use Rattle.differences.specs.Diff.{rise, diffK, trail, before, here, fall, diffKT, stencil as stencil_of, gramRow};
 
 // The row of D. The last place is not used for order 1.
 pub fn stencil(k: usize) -> [f64; 3]
@@ -28,7 +29,7 @@ pub fn gram_offsets(k: usize) -> [f64; 3]
 }
 
 // The first differences of v, in all places of it but the last, which stays.
-pub fn diff_1(v: &mut [f64])
+fn diff_1(v: &mut [f64])
     requires { ⌜ 1 ≤ length (now v) ⌝ }
     ensures { λ _. ⌜ Written 0 (length (now (v .entry)) - 1) (rise (now (v .entry))) (now (v .entry)) (now (v .exit)) ⌝ }
 {
@@ -40,10 +41,10 @@ pub fn diff_1(v: &mut [f64])
     }
 }
 
-// k successive differences of v, in its first n - k places. The others hold what is left of the way there.
+// k successive differences of v, in its first n - k places. Each series on the way there leaves its last place behind them.
 pub fn diff_k(v: &mut [f64], k: usize)
     requires { ⌜ k < length (now v) ⌝ }
-    ensures { λ _. ⌜ take (length (now (v .entry)) - k) (now (v .exit)) ≡ diffK k (now (v .entry)) ⌝ }
+    ensures { λ _. ⌜ now (v .exit) ≡ diffK k (now (v .entry)) ++ trail k (now (v .entry)) ⌝ }
 {
     let n = v.len();
     let mut j = 0;
@@ -69,7 +70,7 @@ fn here(v: &[f64], m: usize, j: usize) -> f64
 }
 
 // The transposed difference of all places of v but the last, in all places of v.
-pub fn diff_1_transpose(v: &mut [f64])
+fn diff_1_transpose(v: &mut [f64])
     requires { ⌜ 1 ≤ length (now v) ⌝ }
     ensures { λ _. ⌜ Written 0 (length (now (v .entry))) (fall (length (now (v .entry)) - 1) (at (now (v .entry)))) (now (v .entry)) (now (v .exit)) ⌝ }
 {
@@ -95,4 +96,74 @@ pub fn diff_k_transpose(v: &mut [f64], k: usize)
         diff_1_transpose(&mut v[0..e]);
         j += 1;
     }
+}
+
+// Place i of D y, for order 1 and 2.
+pub fn diff_at(y: &[f64], k: usize, i: usize) -> f64
+    requires { ⌜ (1 ≤ k) × ((k ≤ 2) × (i + k < length (now y))) ⌝ }
+    ensures { λ r. ⌜ r ≡ at (diffK k (now (y .entry))) i ⌝ }
+{
+    if k == 1 {
+        return y[i + 1] - y[i];
+    }
+    (y[i + 2] - y[i + 1]) - (y[i + 1] - y[i])
+}
+
+// The first places of d become D y.
+pub fn diff_into(d: &mut [f64], y: &[f64], k: usize)
+    requires { ⌜ (1 ≤ k) × ((k ≤ 2) × ((k < length (now y)) × (length (now y) - k ≤ length (now d)))) ⌝ }
+    ensures { λ _. ⌜ now (d .exit) ≡ put (now (d .entry)) 0 (diffK k (now (y .entry))) ⌝ }
+{
+    let m = y.len() - k;
+    let mut i = 0;
+    while i < m {
+        let x = diff_at(y, k, i);
+        d[i] = x;
+        i += 1;
+    }
+}
+
+// w[j-1] - w[j] at place j of D' w for order 1, with 0 beyond either end.
+fn fall_at(v: &[f64], j: usize) -> f64
+    requires { ⌜ j ≤ length (now v) ⌝ }
+    ensures { λ r. ⌜ r ≡ fall (length (now (v .entry))) (at (now (v .entry))) j ⌝ }
+{
+    let a = before(v, j);
+    let b = here(v, v.len(), j);
+    a - b
+}
+
+// The same at the place before, and at this place, of a series with one place more.
+fn fall_before(v: &[f64], j: usize) -> f64
+    requires { ⌜ j ≤ length (now v) + 1 ⌝ }
+    ensures { λ r. ⌜ r ≡ before (fall (length (now (v .entry))) (at (now (v .entry)))) j ⌝ }
+{
+    if 0 < j { fall_at(v, j - 1) } else { 0.0 }
+}
+
+fn fall_here(v: &[f64], j: usize) -> f64
+    ensures { λ r. ⌜ r ≡ here (length (now (v .entry)) + 1) (fall (length (now (v .entry))) (at (now (v .entry)))) j ⌝ }
+{
+    if j <= v.len() { fall_at(v, j) } else { 0.0 }
+}
+
+// Place j of D' z, for order 1 and 2.
+pub fn diff_t_at(z: &[f64], k: usize, j: usize) -> f64
+    requires { ⌜ (1 ≤ k) × ((k ≤ 2) × (j < length (now z) + k)) ⌝ }
+    ensures { λ r. ⌜ r ≡ at (diffKT k (now (z .entry))) j ⌝ }
+{
+    if k <= j {
+        if j < z.len() {
+            if k == 1 {
+                return z[j - 1] - z[j];
+            }
+            return (z[j - 2] - z[j - 1]) - (z[j - 1] - z[j]);
+        }
+    }
+    if k == 1 {
+        return fall_at(z, j);
+    }
+    let a = fall_before(z, j);
+    let b = fall_here(z, j);
+    a - b
 }

@@ -1,5 +1,5 @@
 -- Document 01, "Questions before and during a fit" and "Polish, knots, closed paths": the whole fit, from what is asked and lent to its outcome.
-use mathlib.Core.Bool.{Bool, true, false, cond, _&&_}
+use mathlib.Core.Bool.{Bool, true, cond, _&&_}
 use mathlib.Core.List.{List}
 use mathlib.Core.Option.{Option, none, some}
 use Prim.Native.Nat.{ℕ, _-_}
@@ -103,27 +103,34 @@ keptOf a e =
 unfoldable pub firstGap : Asked → Float
 firstGap a = gapOf (certify (a .order) (a .y) (a .lam) (origin (places a) .point .z))
 
--- L1 with 0 < lam < lam_max: the search, then the polish
-unfoldable pub fitEnd : Asked → Ended State → Fit
-fitEnd a e =
-    let c = keptOf a e in
-    record {
-      trend = c .trend;
-      cycle = minus (a .y) (c .trend);
-      knots = knots (a .order) (a .y) (c .jumps);
-      lam-max = lamMaxOf a;
-      gap = gapOf c;
-      first-gap = firstGap a;
-      best-gap = e .best;
-      objective = c .primal;
-      n-iter = e .steps;
-      improvements = e .gains;
-      converged = le (gapOf c) (a .tol ⊗ c .primal);
-    }
+-- L1 with 0 < lam < lam_max: the search, then the polish; c is the certificate that is kept
+abbrev pub fitWith : Asked → Certificate → Ended State → Fit
+fitWith a c e = record {
+  trend = c .trend;
+  cycle = minus (a .y) (c .trend);
+  knots = knots (a .order) (a .y) (c .jumps);
+  lam-max = lamMaxOf a;
+  gap = gapOf c;
+  first-gap = firstGap a;
+  best-gap = e .best;
+  objective = c .primal;
+  n-iter = e .steps;
+  improvements = e .gains;
+  converged = le (gapOf c) (a .tol ⊗ c .primal);
+}
 
--- lam 0 is tested before lam_max
+unfoldable pub fitEnd : Asked → Ended State → Fit
+fitEnd a e = fitWith a (keptOf a e) e
+
+-- lam 0 or -0, tested before lam_max; lam ≥ lam_max
+abbrev pub lamZero : Asked → Bool
+lamZero a = eq (a .lam) c0
+
+abbrev pub lamHigh : Asked → Bool
+lamHigh a = le (lamMaxOf a) (a .lam)
+
 unfoldable pub fitL1 : Asked → Fit
-fitL1 a = cond (eq (a .lam) c0) (fitZero a) (cond (le (lamMaxOf a) (a .lam)) (fitFlat a) (fitEnd a (searchOf a)))
+fitL1 a = cond (lamZero a) (fitZero a) (cond (lamHigh a) (fitFlat a) (fitEnd a (searchOf a)))
 
 unfoldable pub fitBy : Asked → Outcome
 fitBy a = cond (eqb (a .penalty) 2) (fitL2 a) (fitted (fitL1 a))

@@ -1,3 +1,5 @@
 -- The whole fit, from what is asked and lent to its outcome.
 pub mod Questions
 pub mod Fit
+pub mod Known
+pub mod Demand3

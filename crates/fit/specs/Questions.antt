@@ -1,8 +1,8 @@
 -- Document 01, "Questions before and during a fit": questions 1 to 9.
-use mathlib.Core.Bool.{Bool, true, false, cond, not, _&&_, _||_}
+use mathlib.Core.Bool.{Bool, true, cond, not, _&&_, _||_}
 use mathlib.Core.List.{List}
 use Prim.Native.Nat.{ℕ, zero, suc, _+_, _*_}
-use lib.Dec.{ltb, leb, eqb}
+use lib.Dec.{ltb, eqb}
 use lib.ListN.{length}
 use lib.Ieee.{Float, lt}
 use Rattle.float64.specs.Helpers.{isFinite}
@@ -34,17 +34,44 @@ unfoldable pub finiteTo : List Float → ℕ → Bool
 finiteTo y zero = true
 finiteTo y (suc n) = finiteTo y n && isFinite (at y n)
 
+-- for each question, whether its answer is no
+abbrev pub no-1 : Asked → Bool
+no-1 a = not (oneOrTwo (a .order) && oneOrTwo (a .penalty))
+
+abbrev pub no-2 : Asked → Bool
+no-2 a = ltb (length (a .y)) (a .order + 1)
+
+abbrev pub no-3 : Asked → Bool
+no-3 a = ltb 65536 (length (a .y))
+
+abbrev pub no-4 : Asked → Bool
+no-4 a = not (finiteTo (a .y) (length (a .y)))
+
+abbrev pub no-5 : Asked → Bool
+no-5 a = not (isFinite (a .lam)) || lt (a .lam) c0
+
+abbrev pub no-6 : Asked → Bool
+no-6 a = not (isFinite (a .tol) && lt c0 (a .tol))
+
+abbrev pub no-7 : Asked → Bool
+no-7 a = eqb (a .limit) 0
+
+abbrev pub no-8 : Asked → Lent → Bool
+no-8 a l = let n = length (a .y) in ltb (l .trend) n || ltb (l .cycle) n || ltb (l .knots) n
+
+abbrev pub no-9 : Asked → Lent → Bool
+no-9 a l = let n = length (a .y) in ltb (l .work) (40 * n) || ltb (l .marks) (2 * n)
+
 -- the first question of 1 to 9 answered no; 0 where none is
 unfoldable pub question : Asked → Lent → ℕ
 question a l =
-    let n = length (a .y) in
-    cond (not (oneOrTwo (a .order) && oneOrTwo (a .penalty))) 1
-    (cond (ltb n (a .order + 1)) 2
-    (cond (ltb 65536 n) 3
-    (cond (not (finiteTo (a .y) n)) 4
-    (cond (not (isFinite (a .lam)) || lt (a .lam) c0) 5
-    (cond (not (isFinite (a .tol) && lt c0 (a .tol))) 6
-    (cond (eqb (a .limit) 0) 7
-    (cond (ltb (l .trend) n || ltb (l .cycle) n || ltb (l .knots) n) 8
-    (cond (ltb (l .work) (40 * n) || ltb (l .marks) (2 * n)) 9
+    cond (no-1 a) 1
+    (cond (no-2 a) 2
+    (cond (no-3 a) 3
+    (cond (no-4 a) 4
+    (cond (no-5 a) 5
+    (cond (no-6 a) 6
+    (cond (no-7 a) 7
+    (cond (no-8 a l) 8
+    (cond (no-9 a l) 9
     0))))))))

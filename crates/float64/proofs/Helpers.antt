@@ -1,14 +1,18 @@
--- Facts of the small helpers: which value a test `x != x` finds, what lies between the infinities, and a pattern with its sign cleared. Assumes nothing.
-use mathlib.Core.Path.{_≡_, refl, sym, ap, _∙_, subst}
-use Prim.Native.Nat.{ℕ, zero, suc, _+_, _*_, _/_, _%_, _^_, _<_}
+-- Facts of the small helpers: which value a test `x != x` finds, what lies between the infinities, and the sign cleared by 0 - x. Assumes nothing.
+use mathlib.Core.Path.{_≡_, refl, sym, ap, ap₂, _∙_, subst}
+use Prim.Native.Nat.{ℕ, zero, suc, _+_, _-_, _*_, _^_, _<_}
+use native.Mathlib.Nat.{zero-mul, one-mul, mul-one, mul-pos, zero-lt-suc, pow-succ'}
 use native.Mathlib.Omega.{arith}
-use mathlib.Core.Bool.{Bool, true, false, not, cond}
-use lib.Dec.{T, ltb, eqb, leb}
-use lib.Ieee.{Float, nan, inf, fin, binary64, lt, ne, neg, isNan, odd, ofFields, ofBits, toBits, nanBits}
+use mathlib.Core.Bool.{Bool, true, false, not, true≢false}
+use lib.IntN.{ℤ, pos, negsuc}
+use lib.Dec.{T, ltb, lt→ltb, eqb→eq}
+use lib.Pow.{pow-pos}
+use lib.Ieee.{Float, nan, inf, fin, binary64, up, down, round, sum, add, sub, neg, lt, ne, fits, isNan, ofBits, nanBits}
 use lib.Ieee.Compare.{differs-from-itself}
-use lib.Ieee.Bits.{nanBits-is, nanBits-above}
+use lib.Ieee.Fits.{up-pos, down-pos, neg-fits}
+use lib.Ieee.Bits.{is-true}
 use Rattle.float64.specs.Helpers.{absOf, isFinite}
-use Rattle.float64.proofs.Patterns.{no-sign}
+use Rattle.float64.proofs.Doubles.{round-double}
 
 -- ---- NaN, by `x != x`
 
@@ -47,33 +51,54 @@ pub top-no-nan : T (not (nanBits binary64 0x7ff0_0000_0000_0000))
 unfolding nanBits
 top-no-nan = tt
 
--- ---- the sign cleared
+-- ---- the sign cleared, by 0 - x and a comparison
 
-odd-abs : (d : ℕ) (s : Bool) (q k l : ℕ) → absOf (odd d s q k l) ≡ odd d false q k l
-unfolding absOf odd
-odd-abs d s zero k l = refl
-odd-abs d s (suc q) k l = refl
+-- 0 + b / c, rounded once
+sum-zero : (t : Bool) (a b c : ℕ) → a ≡ 0 → 0 < b → sum binary64 false a t b c ≡ round binary64 t b c
+unfolding sum
+sum-zero false a b c e p = let s : a + b ≡ b = omega arith in rw s
+sum-zero true a b c e p =
+    let s : b - a ≡ b = omega arith in
+    rw (is-true (ltb a b) (lt→ltb a b (omega arith)), s)
 
-fields-abs : (s : Bool) (x t : ℕ) → absOf (ofFields binary64 s x t) ≡ ofFields binary64 false x t
-unfolding ofFields absOf
-fields-abs s zero t = odd-abs 53 s t 0 1074
-fields-abs s (suc x) t = go (eqb (suc x) 2047) (eqb t 0)
-  where
-    go : (a b : Bool) → absOf (cond a (cond b (inf s) nan) (odd 53 s (2 ^ 52 + t) x 1074)) ≡ cond a (cond b (inf false) nan) (odd 53 false (2 ^ 52 + t) x 1074)
-    go true true = refl
-    go true false = refl
-    go false b = odd-abs 53 s (2 ^ 52 + t) x 1074
+-- 0 - x turns the sign of a double that is not 0
+minus-of : (s : Bool) (m : ℕ) (e : ℤ) → T (fits binary64 (fin s (suc m) e)) → sub binary64 (ofBits binary64 0) (fin s (suc m) e) ≡ fin (not s) (suc m) e
+unfolding sub add neg ofBits
+minus-of s m e f =
+    let n : 0 * 1 * down e ≡ 0 = zero-mul (down e) in
+    let a : suc m * up e * 1 ≡ suc m * up e = mul-one (suc m * up e) in
+    let c : 1 * down e ≡ down e = one-mul (down e) in
+    sum-zero (not s) (0 * 1 * down e) (suc m * up e * 1) (1 * down e) n (rw a (mul-pos (zero-lt-suc m) (up-pos e)))
+    ∙ ap₂ (round binary64 (not s)) a c
+    ∙ round-double (not s) m e (neg-fits binary64 (fin s (suc m) e) f)
 
-pub bits-abs : (b : ℕ) → ofBits binary64 (b % 2 ^ 63) ≡ absOf (ofBits binary64 b)
-unfolding ofBits
-bits-abs b =
-    let d : b % 2 ^ 63 % 2 ^ 52 ≡ b % 2 ^ 52 = omega arith in
-    let h : b % 2 ^ 63 < 2 ^ 63 = omega arith in
-    no-sign (b % 2 ^ 63) h ∙ ap (ofFields binary64 false (b % 2 ^ 63 / 2 ^ 52)) d ∙ sym (fields-abs (leb (2 ^ 63) b) (b % 2 ^ 63 / 2 ^ 52) (b % 2 ^ 52))
+-- 0 - 0 is +0 for either 0
+minus-zero : (s : Bool) (e : ℤ) → T (fits binary64 (fin s zero e)) → sub binary64 (ofBits binary64 0) (fin s zero e) ≡ fin false zero e
+unfolding sub add neg sum round ofBits fits
+minus-zero true (pos zero) f = refl
+minus-zero false (pos zero) f = refl
+minus-zero s (pos (suc a)) f = absurd (omega (arith, pow-succ' 2 a, pow-pos a, eqb→eq (2 ^ suc a * 1) 1 f))
+minus-zero s (negsuc a) f = absurd (omega (arith, pow-succ' 2 a, pow-pos a, eqb→eq (1 * 2 ^ suc a) 1 f))
 
-pub abs-no-nan : (x : Float) → x ≡ ofBits binary64 (toBits binary64 x) → isNan x ≡ false → T (not (nanBits binary64 (toBits binary64 x % 2 ^ 63)))
-abs-no-nan x p e =
-    let b = toBits binary64 x in
-    let d : b % 2 ^ 63 % 2 ^ 63 ≡ b % 2 ^ 63 = omega arith in
-    let same : nanBits binary64 (b % 2 ^ 63) ≡ false = nanBits-above binary64 (b % 2 ^ 63) ∙ ap (ltb (2047 * 2 ^ 52)) d ∙ sym (nanBits-above binary64 b) ∙ nanBits-is binary64 b ∙ ap isNan (sym p) ∙ e in
-    rw same tt
+-- where 0 - x is below x, x is its own size
+pub abs-kept : (x : Float) → T (fits binary64 x) → lt (sub binary64 (ofBits binary64 0) x) x ≡ true → x ≡ absOf x
+unfolding absOf sub add neg ofBits lt
+abs-kept nan f h = refl
+abs-kept (inf true) f h = absurd (true≢false (sym h))
+abs-kept (inf false) f h = refl
+abs-kept (fin true zero e) f h = absurd (true≢false (sym h ∙ ap (λ (n : Float). lt n (fin true zero e)) (minus-zero true e f)))
+abs-kept (fin true (suc m) e) f h = absurd (true≢false (sym h ∙ ap (λ (n : Float). lt n (fin true (suc m) e)) (minus-of true m e f)))
+abs-kept (fin false m e) f h = refl
+
+-- and elsewhere 0 - x is
+pub abs-turned : (x : Float) → T (fits binary64 x) → lt (sub binary64 (ofBits binary64 0) x) x ≡ false → sub binary64 (ofBits binary64 0) x ≡ absOf x
+unfolding absOf sub add neg ofBits lt
+abs-turned nan f h = refl
+abs-turned (inf true) f h = refl
+abs-turned (inf false) f h = absurd (true≢false h)
+abs-turned (fin s zero e) f h = minus-zero s e f
+abs-turned (fin true (suc m) e) f h = minus-of true m e f
+abs-turned (fin false (suc m) e) f h =
+    let n = suc m * up e * down e in
+    let size : 0 < n + n = omega (arith, mul-pos (mul-pos (zero-lt-suc m) (up-pos e)) (down-pos e)) in
+    absurd (true≢false (sym (ap (λ (n : Float). lt n (fin false (suc m) e)) (minus-of false m e f) ∙ is-true (ltb 0 (n + n)) (lt→ltb 0 (n + n) size)) ∙ h))

@@ -10,7 +10,8 @@ use lib.Ieee.{Float, nan, inf, fin, binary64, up, odd, ofFields, ofBits}
 use lib.Ieee.Exact.{HasValue, odd-sign}
 use lib.Ieee.Fits.{down-pos}
 use lib.Ieee.Bits.{is-true}
-use Rattle.float64.specs.Sqrt.{nearestRoot, roundedRoot, sqrtOf, isqrt, Bits}
+use Rattle.float64.specs.Sqrt.{nearestRoot, sqrtOf, isqrt}
+use Rattle.float64.specs.Parts.{roundedRoot, Bits}
 use Rattle.float64.proofs.Root.{isqrt-root, nearestRoot-at}
 use Rattle.float64.proofs.Rounded.{root-in, rounded-ge, rounded-lt}
 use Rattle.float64.proofs.Patterns.{no-sign, small-is, large-is, units-is, sqrtOf-odd}

@@ -1,67 +1,31 @@
--- `sqrtOf` gives a double, and every other double is further from the root (`sqrtOf-fits`, `sqrtOf-nearest`). Assumes nothing.
+-- The double that `nearestRoot` names, and how far the others are from the root of n. Assumes nothing.
 use mathlib.Core.Path.{_≡_, refl, sym, ap, _∙_, subst}
 use mathlib.Core.Logic.{_⊎_, inl, inr}
-use Prim.Native.Nat.{ℕ, zero, suc, _+_, _-_, _*_, _/_, _%_, _^_, _≤_, _<_, zero-le, compare, Ordering, Ordering·lt, Ordering·eq, Ordering·gt}
-use native.Mathlib.Nat.{le-trans, le-of-lt, le-of-eq, le-of-suc-le-suc, lt-irrefl, lt-of-lt-of-le, lt-of-le-of-lt, lt-of-not-le, not-le-of-lt, zero-lt-suc, mul-le-mul, mul-le-mul-right, mul-le-mul-left, mul-pos, mul-assoc, mul-right-comm, mul-mul-mul-comm, mul-one, mul-lt-mul-of-pos-right, lt-of-mul-lt-mul-right, eq-of-mul-eq-mul-right, mul-div-cancel, div-one, pow-succ', zero-mul, le-div-iff-mul-le, div-lt-iff-lt-mul}
+use Prim.Native.Nat.{ℕ, suc, _+_, _-_, _*_, _/_, _^_, _≤_, _<_, zero-le, compare, Ordering, Ordering·lt, Ordering·eq, Ordering·gt}
+use native.Mathlib.Nat.{le-trans, le-of-lt, le-of-eq, le-of-suc-le-suc, lt-of-lt-of-le, lt-of-le-of-lt, lt-of-not-le, not-le-of-lt, zero-lt-suc, mul-le-mul, mul-le-mul-right, mul-le-mul-left, mul-pos, mul-assoc, mul-right-comm, mul-mul-mul-comm, mul-lt-mul-of-pos-right, lt-of-mul-lt-mul-right, eq-of-mul-eq-mul-right, mul-div-cancel, pow-succ', le-div-iff-mul-le, div-lt-iff-lt-mul}
 use native.Mathlib.Decide.{decLe}
 use native.Mathlib.Omega.{arith}
-use mathlib.Core.Bool.{Bool, true, false, _&&_}
-use lib.IntN.{ℤ, pos, negsuc}
-use lib.Dec.{T, leb, ltb, eqb, leb→le, ltb→lt, lt→ltb, lit≤, lit<}
-use lib.Pow.{pow-add, pow-pos, pow-mono, pow-lt}
+use mathlib.Core.Bool.{false}
+use lib.IntN.{ℤ}
+use lib.Dec.{T, ltb, lt→ltb, lit≤, lit<}
+use lib.Pow.{pow-add, pow-pos, pow-mono}
 use lib.Ieee.{Float, nan, inf, fin, binary64, up, down, size, nearest, units, fits}
 use lib.Ieee.Digits.{size-lt, size-reaches, size-le, back}
 use lib.Ieee.Exact.{HasValue, units-val}
-use lib.Ieee.Fits.{and-l, and-r, up-pos, down-pos, nearest-le, odd-fits}
+use lib.Ieee.Fits.{up-pos, down-pos, nearest-le, odd-fits}
 use lib.Ieee.Bits.{is-true}
-use lib.Ieee.Positive.{positive}
-use Rattle.float64.specs.Sqrt.{isqrt, nearestRoot, sqrtOf, inUnits, inSquares, Nearer}
+use Rattle.float64.specs.Sqrt.{isqrt, nearestRoot}
+use Rattle.float64.specs.Nearest.{inUnits}
 use Rattle.float64.proofs.Root.{Cmp, cmp, Root, sq-back, isqrt-root}
+use Rattle.float64.proofs.Doubles.{Grid, Says, placed}
 
--- ---- the doubles, in units
+-- r is nearer to the root of n than any other z: the half way between the two, (r + z) / 2, lies beyond the root. Both sides are
+-- squared, and multiplied by 4.
+pub record Nearer (n r z : ℕ) : Type 0 where
+  pub from-below : z < r → (r + z) * (r + z) < 4 * n
+  pub from-above : r < z → 4 * n < (r + z) * (r + z)
 
--- at most 53 digits, and zeros after them
-abbrev pub Grid : ℕ → Type 0
-Grid z = (m : ℕ) × (j : ℕ) × (m < 2 ^ 53) × (z ≡ m * 2 ^ j)
-
-pow-le-back : (a l : ℕ) → 2 ^ a ≤ 2 ^ l → a ≤ l
-pow-le-back a l h = le-of-suc-le-suc (lt-of-not-le (λ (g : suc l ≤ a). lt-irrefl (2 ^ l) (lt-of-lt-of-le (pow-lt g) h)))
-
-placed : (l m : ℕ) (e : ℤ) → down e ≤ 2 ^ l → (j : ℕ) × (m * up e * 2 ^ l / down e ≡ m * 2 ^ j)
-placed l m (pos a) h = (a + l, div-one (m * 2 ^ a * 2 ^ l) ∙ mul-assoc m (2 ^ a) (2 ^ l) ∙ ap (λ (x : ℕ). m * x) (sym (pow-add 2 a l)))
-placed l m (negsuc a) h =
-    let le : suc a ≤ l = pow-le-back (suc a) l h in (
-      l - suc a,
-      ap (λ (x : ℕ). x * 2 ^ l / 2 ^ suc a) (mul-one m)
-          ∙ ap (λ (x : ℕ). m * x / 2 ^ suc a) (ap (λ (x : ℕ). 2 ^ x) (sym (back l (suc a) le)) ∙ pow-add 2 (l - suc a) (suc a))
-          ∙ ap (λ (x : ℕ). x / 2 ^ suc a) (sym (mul-assoc m (2 ^ (l - suc a)) (2 ^ suc a)))
-          ∙ mul-div-cancel (m * 2 ^ (l - suc a)) (pow-pos (suc a)),
-    )
-
--- what `fits` says of a number that is not 0
-abbrev Says : ℕ → ℤ → Type 0
-Says m e = (m < 2 ^ 53) × (down e ≤ 2 ^ 1074) × (m * up e < 2 ^ 1024 * down e)
-
-says : (s : Bool) (m : ℕ) (e : ℤ) → T (fits binary64 (fin s (suc m) e)) → Says (suc m) e
-unfolding fits
-says s m e t =
-    let o = eqb (suc m % 2) 1 in
-    let a = ltb (suc m) (2 ^ 53) in
-    let b = leb (down e) (2 ^ 1074) in
-    let c = ltb (suc m * up e) (2 ^ 1024 * down e) in (
-      ltb→lt (suc m) (2 ^ 53) (and-r o a (and-l (o && a) b (and-l (o && a && b) c t))),
-      leb→le (down e) (2 ^ 1074) (and-r (o && a) b (and-l (o && a && b) c t)),
-      ltb→lt (suc m * up e) (2 ^ 1024 * down e) (and-r (o && a && b) c t),
-    )
-
-zero-units : (e : ℤ) → 0 * up e * 2 ^ 1074 / down e ≡ 0
-zero-units e = ap (λ (x : ℕ). x * 2 ^ 1074 / down e) (zero-mul (up e)) ∙ ap (λ (x : ℕ). x / down e) (zero-mul (2 ^ 1074) ∙ sym (zero-mul (down e))) ∙ mul-div-cancel 0 (down-pos e)
-
-pub double-grid : (z : Float) → T (fits binary64 z) → Grid (inUnits z)
-double-grid nan t = (0, 0, lit< tt, refl)
-double-grid (inf s) t = (0, 0, lit< tt, refl)
-double-grid (fin s zero e) t = (0, 0, lit< tt, zero-units e)
-double-grid (fin s (suc m) e) t = let h = says s m e t in let p = placed 1074 (suc m) e (h .1) in (suc m, p .0, h .0, p .1)
+-- ---- the spacing of the doubles
 
 -- from 2 ^ 52 * 2 ^ k on they are multiples of 2 ^ k
 spaced : (z k : ℕ) → Grid z → 2 ^ 52 * 2 ^ k ≤ z → (c : ℕ) × (z ≡ c * 2 ^ k)
@@ -145,14 +109,14 @@ module _ (n q k : ℕ) (lo : q * 2 ^ k * (q * 2 ^ k) ≤ n) (hi : n < suc q * 2 
 -- ---- the root of n, for the n that doubles give
 
 -- `nearestRoot`, from its k and its q on
-kept : ℕ → ℕ
+pub kept : ℕ → ℕ
 kept n = (size n + 1) / 2 - 53
 
-lead : ℕ → ℕ
+pub lead : ℕ → ℕ
 unfolding kept
 lead n = isqrt (n / (2 ^ kept n * 2 ^ kept n))
 
-digits : ℕ → ℕ
+pub digits : ℕ → ℕ
 unfolding kept lead
 digits n = nearest (lead n) (compare (4 * n) ((2 * lead n + 1) * 2 ^ kept n * ((2 * lead n + 1) * 2 ^ kept n)))
 
@@ -204,62 +168,43 @@ module _ (n : ℕ) (a : 2 ^ 104 ≤ n) (b : n < 2 ^ 3172) where
   in-range : digits n * 2 ^ kept n < 2 ^ 2098
   in-range = lt-of-le-of-lt (mul-le-mul digits-le (pow-mono {j = 1533} kept-le)) (lit< tt)
 
+  pub root-value : HasValue (nearestRoot n) false (digits n * 2 ^ kept n) (2 ^ 1074)
+  root-value = subst (λ (x : Float). HasValue x false (digits n * 2 ^ kept n) (2 ^ 1074)) (sym (nearestRoot-is n)) (units-val binary64 false (digits n) (kept n) in-range)
+
   root-units : inUnits (nearestRoot n) ≡ digits n * 2 ^ kept n
-  root-units = value-units (nearestRoot n) (digits n * 2 ^ kept n) (subst (λ (x : Float). HasValue x false (digits n * 2 ^ kept n) (2 ^ 1074)) (sym (nearestRoot-is n)) (units-val binary64 false (digits n) (kept n) in-range))
+  root-units = value-units (nearestRoot n) (digits n * 2 ^ kept n) root-value
     where
       value-units : (x : Float) (v : ℕ) → HasValue x false v (2 ^ 1074) → inUnits x ≡ v
       value-units nan v h = absurd h
       value-units (inf s) v h = absurd h
       value-units (fin s m e) v h = ap (λ (y : ℕ). y / down e) (h .1) ∙ mul-div-cancel v (down-pos e)
 
-  root-nearer : (z : ℕ) → Grid n → Grid z → Nearer n (inUnits (nearestRoot n)) z
+  pub root-nearer : (z : ℕ) → Grid n → Grid z → Nearer n (inUnits (nearestRoot n)) z
   unfolding digits
   root-nearer z g w =
       subst (λ (r : ℕ). Nearer n r z) (sym root-units)
       (nearer n (lead n) (kept n) above-lead below-next lead-ge (compare (4 * n) ((2 * lead n + 1) * 2 ^ kept n * ((2 * lead n + 1) * 2 ^ kept n))) z g w (cmp (4 * n) ((2 * lead n + 1) * 2 ^ kept n * ((2 * lead n + 1) * 2 ^ kept n))))
 
+units-fit : (q k : ℕ) → q ≤ 2 ^ 53 → q * 2 ^ k < 2 ^ 2098 → T (fits binary64 (units binary64 false q k))
+unfolding units
+units-fit q k a h = rw (is-true (ltb (q * 2 ^ k) (2 ^ 2098)) (lt→ltb (q * 2 ^ k) (2 ^ 2098) h)) (odd-fits binary64 54 false q k (omega arith) a h)
+
+pub root-fits : (n : ℕ) → 2 ^ 104 ≤ n → n < 2 ^ 3172 → T (fits binary64 (nearestRoot n))
+root-fits n a b = subst (λ (y : Float). T (fits binary64 y)) (sym (nearestRoot-is n)) (units-fit (digits n) (kept n) (digits-le n a b) (in-range n a b))
+
 -- ---- a double above zero
 
 module _ (m : ℕ) (e : ℤ) (h : Says (suc m) e) where
-  squares-ge : 2 ^ 104 ≤ suc m * up e * 2 ^ 2148 / down e
+  pub squares-ge : 2 ^ 104 ≤ suc m * up e * 2 ^ 2148 / down e
   squares-ge =
       le-trans (lit≤ {m = 2 ^ 104} {n = 2 ^ 1074} tt)
       (le-div-iff-mul-le (down-pos e) .1
       (le-trans (mul-le-mul-left (2 ^ 1074) (h .1)) (mul-le-mul-right (2 ^ 2148) (mul-pos (zero-lt-suc m) (up-pos e)))))
 
-  squares-lt : suc m * up e * 2 ^ 2148 / down e < 2 ^ 3172
+  pub squares-lt : suc m * up e * 2 ^ 2148 / down e < 2 ^ 3172
   squares-lt =
       div-lt-iff-lt-mul (down-pos e) .1
       (lt-of-lt-of-le (mul-lt-mul-of-pos-right (h .2) (pow-pos 2148)) (le-of-eq (mul-right-comm (2 ^ 1024) (down e) (2 ^ 2148))))
 
-  squares-grid : Grid (suc m * up e * 2 ^ 2148 / down e)
+  pub squares-grid : Grid (suc m * up e * 2 ^ 2148 / down e)
   squares-grid = let p = placed 2148 (suc m) e (le-trans (h .1) (pow-mono (lit≤ {m = 1074} {n = 2148} tt))) in (suc m, p .0, h .0, p .1)
-
--- Of all doubles the root of x is the nearest to the exact root, and no other is as near.
-pub sqrtOf-nearest : (x z : Float) → T (fits binary64 x) → T (positive x) → T (fits binary64 z) → Nearer (inSquares x) (inUnits (sqrtOf x)) (inUnits z)
-unfolding sqrtOf
-sqrtOf-nearest nan z f p g = absurd p
-sqrtOf-nearest (inf s) z f p g = absurd p
-sqrtOf-nearest (fin true m e) z f p g = absurd p
-sqrtOf-nearest (fin false zero e) z f p g = absurd p
-sqrtOf-nearest (fin false (suc m) e) z f p g =
-    let h = says false m e f in
-    root-nearer (suc m * up e * 2 ^ 2148 / down e) (squares-ge m e h) (squares-lt m e h) (inUnits z) (squares-grid m e h) (double-grid z g)
-
--- The root of a double above zero is a double.
-units-fit : (q k : ℕ) → q ≤ 2 ^ 53 → q * 2 ^ k < 2 ^ 2098 → T (fits binary64 (units binary64 false q k))
-unfolding units
-units-fit q k a h = rw (is-true (ltb (q * 2 ^ k) (2 ^ 2098)) (lt→ltb (q * 2 ^ k) (2 ^ 2098) h)) (odd-fits binary64 54 false q k (omega arith) a h)
-
-pub sqrtOf-fits : (x : Float) → T (fits binary64 x) → T (positive x) → T (fits binary64 (sqrtOf x))
-unfolding sqrtOf
-sqrtOf-fits nan f p = absurd p
-sqrtOf-fits (inf s) f p = absurd p
-sqrtOf-fits (fin true m e) f p = absurd p
-sqrtOf-fits (fin false zero e) f p = absurd p
-sqrtOf-fits (fin false (suc m) e) f p =
-    let h = says false m e f in
-    let n = suc m * up e * 2 ^ 2148 / down e in
-    let a = squares-ge m e h in
-    let b = squares-lt m e h in
-    subst (λ (y : Float). T (fits binary64 y)) (sym (nearestRoot-is n)) (units-fit (digits n) (kept n) (digits-le n a b) (in-range n a b))

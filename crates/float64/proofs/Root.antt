@@ -9,7 +9,8 @@ use lib.Arith.{lt-of-le-ne}
 use lib.Pow.{pow-add, pow-pos, pow-mono}
 use lib.Ieee.{binary64, size, nearest, units}
 use lib.Ieee.Digits.{size-lt, size-le}
-use Rattle.float64.specs.Sqrt.{step, isqrtOf, isqrt, nearestRoot, roundedRoot}
+use Rattle.float64.specs.Sqrt.{step, isqrtOf, isqrt, nearestRoot}
+use Rattle.float64.specs.Parts.{roundedRoot}
 
 -- ---- what `compare` says
 

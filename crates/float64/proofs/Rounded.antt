@@ -6,7 +6,8 @@ use native.Mathlib.Numerals.{add-one}
 use native.Mathlib.Omega.{arith}
 use lib.Ieee.{nearest}
 use lib.Ieee.Nearest.{nearest-ge}
-use Rattle.float64.specs.Sqrt.{isqrt, roundedRoot}
+use Rattle.float64.specs.Sqrt.{isqrt}
+use Rattle.float64.specs.Parts.{roundedRoot}
 use Rattle.float64.proofs.Root.{Cmp, cmp, cmp-is, Root, sq-back, isqrt-root, isqrt-is}
 
 -- ---- with n = q * q + rest

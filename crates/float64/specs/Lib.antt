@@ -1,4 +1,5 @@
 pub mod Ops
-pub mod Sqrt
-pub mod Known
 pub mod Helpers
+pub mod Sqrt
+pub mod Parts
+pub mod Nearest

@@ -5,7 +5,6 @@ infixl 65 _⊕_
 infixl 65 _⊖_
 infixl 70 _⊗_
 infixl 70 _⊘_
-
 abbrev pub _⊕_ : Float → Float → Float
 a ⊕ b = add binary64 a b
 

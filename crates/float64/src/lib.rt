@@ -1,9 +1,13 @@
-// Square root of an f64, worked out on its bit pattern.
+// Helpers on doubles, each equal to its definition for every double: abs, max, min, clamp, is_finite, and the square root, which is
+// worked out on the bit pattern.
+pub mod exports; // exports.rt: the helpers under names for C
+
 ghost use mathlib.Core.Path.{_≡_};
 ghost use Prim.Native.Nat.{_+_, _*_, _^_, _<_, _≤_};
 ghost use lib.Ieee.{binary64, ofBits};
 ghost use Rattle.float64.specs.Helpers.{absOf, isFinite, maxOf, minOf, clampOf};
-ghost use Rattle.float64.specs.Sqrt.{sqrtOf, nearestRoot, roundedRoot, Bits};
+ghost use Rattle.float64.specs.Sqrt.{sqrtOf, nearestRoot, isqrt};
+ghost use Rattle.float64.specs.Parts.{roundedRoot, Bits};
 
 // How many places the digits t of a subnormal go up until they are 53.
 fn places(t: u64) -> u64
@@ -20,30 +24,46 @@ fn places(t: u64) -> u64
     s
 }
 
-// The whole number nearest to the root of w * 2 ^ 52, by its 53 digits, the highest first. `root` has the digits
-// found so far and `rest` what their square leaves of the part of w * 2 ^ 52 above `left`.
+// The whole part of the root of h, by its 14 digits, the highest first.
+fn short_root(h: u64) -> u64
+    requires { ⌜ h < 2 ^ 28 ⌝ }
+    ensures { λ r. ⌜ r ≡ isqrt h ⌝ }
+{
+    let mut root: u64 = 0;
+    let mut j: u64 = 14;
+    while j > 0 {
+        j -= 1;
+        let t = root + (1 << j);
+        if t * t <= h {
+            root = t;
+        }
+    }
+    root
+}
+
+// The whole part of the root of h: a step of Newton's method from the 14 leading digits is at most 1 too high.
+fn whole_root(h: u64) -> u64
+    requires { ⌜ 2 ^ 52 ≤ h ⌝ }
+    requires { ⌜ h < 2 ^ 54 ⌝ }
+    ensures { λ r. ⌜ r ≡ isqrt h ⌝ }
+{
+    let x = short_root(h / 0x400_0000) * 0x2000;
+    let y = (x + h / x) / 2;
+    if h < y * y { y - 1 } else { y }
+}
+
+// The whole number nearest to the root of w * 2 ^ 52, which is root * root + v - q * q.
 fn rooted(w: u64) -> u64
+    requires { ⌜ 2 ^ 52 ≤ w ⌝ }
     requires { ⌜ w + 2 ≤ 2 ^ 54 ⌝ }
     ensures { λ r. ⌜ r ≡ roundedRoot (w * 2 ^ 52) ⌝ }
 {
-    let mut left: u64 = w;
-    let mut rest: u64 = 0;
-    let mut root: u64 = 0;
-    let mut i: u64 = 0;
-    while i < 53 {
-        let next = rest * 4 + left / 0x10_0000_0000_0000;
-        left = left % 0x10_0000_0000_0000 * 4;
-        let odd = root * 4 + 1;
-        if odd <= next {
-            rest = next - odd;
-            root = root * 2 + 1;
-        } else {
-            rest = next;
-            root = root * 2;
-        }
-        i += 1;
-    }
-    if root < rest { root + 1 } else { root }
+    let s = whole_root(w);
+    let t = (w - s * s) * 0x400_0000;
+    let q = t / (s * 2);
+    let v = t % (s * 2) * 0x400_0000;
+    let root = s * 0x400_0000 + q;
+    if root + q * q < v { root + 1 } else { root }
 }
 
 // The bits of the double nearest to the root of m * 2 ^ e.
@@ -109,10 +129,8 @@ pub fn is_finite(x: f64) -> bool
 pub fn abs(x: f64) -> f64
     ensures { λ r. ⌜ r ≡ absOf x ⌝ }
 {
-    if x != x {
-        return x;
-    }
-    f64::from_bits(f64::to_bits(x) % 0x8000_0000_0000_0000)
+    let n = 0.0 - x;
+    if n < x { x } else { n }
 }
 
 pub fn max(a: f64, b: f64) -> f64

@@ -1,1 +1,208 @@
-// Code follows its definitions.
+// The interior point search for the dual point of an L1 fit.
+ghost use mathlib.Core.Path.{_≡_};
+ghost use mathlib.Core.Bool.{true, false};
+ghost use mathlib.Core.List.{List};
+ghost use Prim.Native.Nat.{_≤_, _<_, _+_, _-_, _*_, _^_};
+ghost use lib.ListN.{length, take};
+ghost use lib.Ieee.{Float};
+ghost use Rattle.vectors.specs.Vec.{Kept, Written};
+ghost use Rattle.differences.specs.Diff.{diffK};
+ghost use Rattle.certificate.specs.Run.{Certified};
+ghost use Rattle.step_bound.specs.Search.{start as start_of};
+ghost use Rattle.newton.specs.Newton.{Dual};
+ghost use Rattle.newton_step.specs.Stepped.{Stepped};
+ghost use Rattle.interior_point.specs.InteriorPoint.{nextT, problem, origin};
+ghost use Rattle.interior_point.specs.Account.{pointOf, Standing, goes, Settled, Turned, Found};
+use certificate::Pair;
+use newton_step::Step;
+
+// Where the search stands: its gaps and P, its counts, and whether a pivot was lost.
+pub struct Run {
+    pub t: f64,
+    pub step: f64,
+    pub gap: f64,
+    pub primal: f64,
+    pub first: f64,
+    pub best: f64,
+    pub n_iter: u64,
+    pub improvements: u64,
+    pub stalled: u32,
+    pub lost: bool,
+}
+
+fn fill(s: &mut [f64], a: usize, e: usize, v: f64)
+    requires { ⌜ (a ≤ e) × (e ≤ length (now s)) ⌝ }
+    ensures { λ _. ⌜ Written a e (λ j. v) (now (s .entry)) (now (s .exit)) ⌝ }
+{
+    let mut i = a;
+    while i < e {
+        s[i] = v;
+        i += 1;
+    }
+}
+
+// The certificate at the z that stands after the n places of the trend, which it writes.
+fn certify_at(work: &mut [f64], y: &[f64], dy: &[f64], lam: f64, k: usize) -> Pair
+    requires { ⌜ (1 ≤ k) × ((k ≤ 2) × ((k < length (now y)) × ((13 * length (now y) ≤ length (now work)) × (take (length (now y) - k) (now dy) ≡ diffK k (now y))))) ⌝ }
+    ensures { λ r. ⌜ Certified k (now (y .entry)) lam (now (work .entry)) (now (work .exit)) (r .primal) (r .dual) ⌝ }
+{
+    let n = y.len();
+    let e = n + (n - k);
+    certificate::certify_l1(&mut work[0..e], y, dy, lam, k)
+}
+
+// z = 0, mu1 = mu2 = 1, t = 1e-10, step infinite; the best gap is the first.
+fn start(work: &mut [f64], y: &[f64], dy: &[f64], lam: f64, k: usize) -> Run
+    requires { ⌜ (1 ≤ k) × ((k ≤ 2) × ((k < length (now y)) × ((13 * length (now y) ≤ length (now work)) × (take (length (now y) - k) (now dy) ≡ diffK k (now y))))) ⌝ }
+    ensures { λ r. ⌜ ((g : List Float) → pointOf (length (now (y .entry))) (length (now (y .entry)) - k) (now (work .exit)) r ≡ start_of (problem k g (now (y .entry)) lam) (origin (length (now (y .entry)) - k)))
+        × (Standing k (now (y .entry)) lam (length (now (y .entry))) (length (now (y .entry)) - k) (now (work .exit)) r
+        × ((r .first ≡ r .gap) × ((r .lost ≡ false) × Kept 0 (13 * length (now (y .entry))) (now (work .entry)) (now (work .exit))))) ⌝ }
+{
+    let n = y.len();
+    let a = n + (n - k);
+    let e = a + (n - k) + (n - k);
+    fill(work, n, a, 0.0);
+    fill(work, a, e, 1.0);
+    let p = certify_at(work, y, dy, lam, k);
+    let gap = p.primal - p.dual;
+    Run {
+        t: 1e-10,
+        step: f64::from_bits(0x7ff0_0000_0000_0000),
+        gap: gap,
+        primal: p.primal,
+        first: gap,
+        best: gap,
+        n_iter: 0,
+        improvements: 0,
+        stalled: 0,
+        lost: false,
+    }
+}
+
+// Whether the next iteration is made.
+fn going(r: Run, tol: f64, max_iter: u64) -> bool
+    ensures { λ x. ⌜ x ≡ goes r tol «max_iter» ⌝ }
+{
+    if r.lost {
+        return false;
+    }
+    if r.gap <= tol * r.primal {
+        return false;
+    }
+    if max_iter <= r.n_iter {
+        return false;
+    }
+    r.stalled != 10
+}
+
+fn next_t(t: f64, step: f64, gap: f64, m: usize) -> f64
+    requires { ⌜ m ≤ 65536 ⌝ }
+    ensures { λ r. ⌜ ((p : Dual) → r ≡ nextT m gap (record { point = p; t = t; step = step })) ⌝ }
+{
+    if 0.2 <= step {
+        return float64::max(2.0 * (m as f64) * 2.0 / gap, 1.2 * t);
+    }
+    t
+}
+
+// The Newton step on the point that stands after the n places of the trend.
+fn step_at(work: &mut [f64], dy: &[f64], lam: f64, u: f64, g: [f64; 3], k: usize, n: usize) -> Step
+    requires { ⌜ (1 ≤ k) × ((k ≤ 2) × ((k < n) × ((13 * n ≤ length (now work)) × (n - k ≤ length (now dy))))) ⌝ }
+    ensures { λ r. ⌜ Stepped k g (take (n - k) (now (dy .entry))) lam u n (n - k) (now (work .entry)) (now (work .exit)) r ⌝ }
+{
+    let m = n - k;
+    let e = n + (6 * m + (m * (k + 1) + 3 * m));
+    newton_step::newton_step(&mut work[n..e], &dy[0..m], lam, u, g, k, m)
+}
+
+// The account after a step that ended with the pair p.
+fn settled(r: Run, t: f64, step: f64, p: Pair) -> Run
+    requires { ⌜ (r .«n_iter» + 1 < 2 ^ 64) × ((r .improvements ≤ r .«n_iter») × (r .stalled ≤ 10)) ⌝ }
+    ensures { λ x. ⌜ Settled r t step (p .primal) (p .dual) x ⌝ }
+{
+    let gap = p.primal - p.dual;
+    if gap < 0.99 * r.best {
+        return Run {
+            t: t,
+            step: step,
+            gap: gap,
+            primal: p.primal,
+            first: r.first,
+            best: gap,
+            n_iter: r.n_iter + 1,
+            improvements: r.improvements + 1,
+            stalled: 0,
+            lost: false,
+        };
+    }
+    Run {
+        t: t,
+        step: step,
+        gap: gap,
+        primal: p.primal,
+        first: r.first,
+        best: r.best,
+        n_iter: r.n_iter + 1,
+        improvements: r.improvements,
+        stalled: r.stalled + 1,
+        lost: false,
+    }
+}
+
+// The account after a lost pivot: the iteration counts, and nothing else changes.
+fn pivot_lost(r: Run) -> Run
+    requires { ⌜ r .«n_iter» + 1 < 2 ^ 64 ⌝ }
+    ensures { λ x. ⌜ (x ≡ record { t = r .t; step = r .step; gap = r .gap; primal = r .primal; first = r .first; best = r .best; «n_iter» = r .«n_iter» + 1; improvements = r .improvements; stalled = r .stalled; lost = true }) ⌝ }
+{
+    let n_iter = r.n_iter + 1;
+    Run {
+        t: r.t,
+        step: r.step,
+        gap: r.gap,
+        primal: r.primal,
+        first: r.first,
+        best: r.best,
+        n_iter: n_iter,
+        improvements: r.improvements,
+        stalled: r.stalled,
+        lost: true,
+    }
+}
+
+// One iteration.
+fn iterate(work: &mut [f64], y: &[f64], dy: &[f64], lam: f64, k: usize, g: [f64; 3], r: Run) -> Run
+    requires { ⌜ (1 ≤ k) × ((k ≤ 2) × ((k < length (now y)) × ((length (now y) ≤ 65536) × ((13 * length (now y) ≤ length (now work)) × ((take (length (now y) - k) (now dy) ≡ diffK k (now y))
+        × ((r .«n_iter» + 1 < 2 ^ 64) × ((r .improvements ≤ r .«n_iter») × ((r .stalled ≤ 10)
+        × Standing k (now y) lam (length (now y)) (length (now y) - k) (now work) r)))))))) ⌝ }
+    ensures { λ x. ⌜ Turned k g (now (y .entry)) lam (length (now (y .entry))) (length (now (y .entry)) - k) (now (work .entry)) (now (work .exit)) r x ⌝ }
+{
+    let n = y.len();
+    let t = next_t(r.t, r.step, r.gap, n - k);
+    let w = step_at(work, dy, lam, 1.0 / t, g, k, n);
+    let Step::Moved(step) = w else {
+        return pivot_lost(r);
+    };
+    let p = certify_at(work, y, dy, lam, k);
+    settled(r, t, step, p)
+}
+
+// The interior point search. work: the trend's n places; z, mu1, mu2; the trial's; the rows of the Newton system; dz, dmu1, dmu2.
+pub fn ipm_l1(
+    work: &mut [f64],
+    y: &[f64],
+    dy: &[f64],
+    lam: f64,
+    tol: f64,
+    max_iter: u64,
+    k: usize,
+) -> Run
+    requires { ⌜ (1 ≤ k) × ((k ≤ 2) × ((k < length (now y)) × ((length (now y) ≤ 65536) × ((13 * length (now y) ≤ length (now work)) × (take (length (now y) - k) (now dy) ≡ diffK k (now y)))))) ⌝ }
+    ensures { λ r. ⌜ Found k (now (y .entry)) lam tol «max_iter» (now (work .entry)) (now (work .exit)) r ⌝ }
+{
+    let g = differences::gram_offsets(k);
+    let mut r = start(work, y, dy, lam, k);
+    while going(r, tol, max_iter) {
+        r = iterate(work, y, dy, lam, k, g, r);
+    }
+    r
+}

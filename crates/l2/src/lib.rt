@@ -1,1 +1,63 @@
-// Definitions only.
+// L2: the trend that solves (I + lam D'D) x = y, its objective and its gap.
+mod sums;
+
+ghost use mathlib.Core.Path.{_≡_};
+ghost use Prim.Native.Nat.{_≤_, _<_, _-_, _+_, _*_};
+ghost use lib.ListN.{length};
+ghost use Rattle.vectors.specs.Vec.{part};
+ghost use Rattle.l2.specs.L2.{dualL2};
+ghost use Rattle.l2.specs.Solved.{SolvedL2, Ended};
+
+// The rows of the system and then y in the first places of s, solved: the trend stands after the rows. Whether every pivot was good.
+pub fn solve_l2(s: &mut [f64], y: &[f64], lam: f64, k: usize) -> bool
+    requires { ⌜ (k ≤ 2) × ((1 ≤ length (now y)) × ((length (now y) ≤ 65536) × (length (now y) * (k + 1) + length (now y) ≤ length (now s)))) ⌝ }
+    ensures { λ r. ⌜ SolvedL2 k (now (y .entry)) lam (now (s .entry)) (now (s .exit)) r ⌝ }
+{
+    let n = y.len();
+    let c = differences::stencil(k);
+    matrices::ridge::fill_ridge(s, c, lam, k, n);
+    let b = n * (k + 1);
+    let e = b + n;
+    vectors::copy(&mut s[b..e], y);
+    substitution::factor_solve(s, k, n)
+}
+
+pub struct Ends {
+    pub gap: f64,
+    pub objective: f64,
+}
+
+// G at v = lam D x.
+fn dual_l2(v: &[f64], y: &[f64], lam: f64, k: usize) -> f64
+    requires { ⌜ (1 ≤ k) × ((k ≤ 2) × ((length (now v) + k ≡ length (now y)) × (length (now v) ≤ 65536))) ⌝ }
+    ensures { λ r. ⌜ r ≡ dualL2 k (now (y .entry)) lam (now (v .entry)) ⌝ }
+{
+    let a = sums::fall_squares(v, k);
+    let b = sums::dot_diff(v, y, k);
+    let c = vectors::norm2_sq(v);
+    -0.5 * a + b - c / (2.0 * lam)
+}
+
+// The objective and the gap of the trend in the first n places of s. The places after it are for lam D x.
+pub fn objectives(s: &mut [f64], y: &[f64], lam: f64, k: usize) -> Ends
+    requires { ⌜ (1 ≤ k) × ((k ≤ 2) × ((k < length (now y)) × ((length (now y) ≤ 65536) × (length (now y) + length (now y) ≤ length (now s))))) ⌝ }
+    ensures { λ r. ⌜ Ended k (now (y .entry)) lam (now (s .entry)) (now (s .exit)) r ⌝ }
+{
+    let n = y.len();
+    let a = sums::residual_squares(&s[0..n], y);
+    let b = sums::diff_squares(&s[0..n], k);
+    let objective = 0.5 * a + 0.5 * lam * b;
+    if !(0.0 < lam) {
+        return Ends {
+            gap: 0.0,
+            objective,
+        };
+    }
+    sums::scale_diff(s, lam, k, n);
+    let e = n + (n - k);
+    let d = dual_l2(&s[n..e], y, lam, k);
+    Ends {
+        gap: objective - d,
+        objective,
+    }
+}

@@ -1,10 +1,11 @@
--- The matrix D D', its product with a vector, and the dual point z* that solves (D D') z = D y.
+-- Document 01, "Differences and bands": D D' has g[d] at distance d up to k, 0 beyond; `matvec`; z* solves (D D') z = D y; lam_max is the NaN-ignoring maximum of |z*| from 0.
 use mathlib.Core.Bool.{Bool, cond}
 use mathlib.Core.List.{List}
 use Prim.Native.Nat.{ℕ, zero, suc, _+_, _-_, min}
 use lib.Dec.{ltb}
 use lib.ListN.{length}
-use lib.Ieee.{Float, binary64, add, mul, ofBits}
+use lib.Ieee.{Float}
+use Rattle.float64.specs.Ops.{_⊕_, _⊗_, c0}
 use Rattle.vectors.specs.Sums.{maxAbs}
 use Rattle.vectors.specs.Vec.{at, list}
 use Rattle.differences.specs.Diff.{diffK}
@@ -13,12 +14,12 @@ use Rattle.banded.specs.Solve.{solve}
 
 -- D D' of bandwidth k: g at the distance from the diagonal; +0 before column 0
 unfoldable pub gram : ℕ → List Float → Matrix
-gram k g r c = cond (ltb (r + c) k) (ofBits binary64 0) (at g (k - c))
+gram k g r c = cond (ltb (r + c) k) c0 (at g (k - c))
 
 -- v, and f 0, f 1, .. , f (n - 1) added in that order
 unfoldable pub more : Float → (ℕ → Float) → ℕ → Float
 more v f zero = v
-more v f (suc n) = add binary64 (more v f n) (f n)
+more v f (suc n) = more v f n ⊕ f n
 
 -- |i - j|
 abbrev pub apart : ℕ → ℕ → ℕ
@@ -29,13 +30,13 @@ unfoldable pub product : ℕ → List Float → List Float → ℕ → Float
 unfolding more
 product k g v i =
     let lo = i - k in
-    more (ofBits binary64 0) (λ t. mul binary64 (at g (apart i (lo + t))) (at v (lo + t))) (min (i + k + 1) (length v) - lo)
+    more c0 (λ t. at g (apart i (lo + t)) ⊗ at v (lo + t)) (min (i + k + 1) (length v) - lo)
 
 unfoldable pub matvec : ℕ → List Float → List Float → List Float
 unfolding product list
 matvec k g v = list (length v) (product k g v)
 
--- z*, for a series y of m + k
+-- z*, for a series y of m + k places
 unfoldable pub zstar : ℕ → List Float → ℕ → List Float → List Float
 unfolding gram rows solve diffK
 zstar k g m y = solve k (rows k (gram k g) m) (diffK k y)

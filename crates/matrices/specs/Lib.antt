@@ -1,3 +1,3 @@
--- The definitions that the contracts of star cite.
+-- The definitions that the contracts of matrices cite.
 pub mod Gram
 pub mod Ridge

@@ -1,6 +1,8 @@
+// The rows of I + lam D'D.
 ghost use mathlib.Core.Path.{_≡_};
 ghost use Prim.Native.Nat.{_≤_, _<_, _-_, _+_, _*_, _^_};
 ghost use lib.ListN.{length, take, drop};
+ghost use Rattle.vectors.specs.Vec.{Written};
 ghost use Rattle.banded.specs.Rows.{matrix, concat};
 ghost use Rattle.matrices.specs.Ridge.{start, ridge};
 
@@ -11,7 +13,7 @@ fn start(k: usize, p: usize) -> f64
     if p < k { 0.0 } else { 1.0 }
 }
 
-// Place p of row i of I + lam D'D, for a series of n.
+// Place p of row i, for a series of n.
 fn ridge_at(c: [f64; 3], lam: f64, k: usize, n: usize, i: usize, p: usize) -> f64
     requires { ⌜ (k ≤ 2) × ((p ≤ k) × ((i < n) × (i + p < 2 ^ 62))) ⌝ }
     ensures { λ x. ⌜ x ≡ ridge k c lam n i p ⌝ }
@@ -31,17 +33,28 @@ fn ridge_at(c: [f64; 3], lam: f64, k: usize, n: usize, i: usize, p: usize) -> f6
     v
 }
 
-// The n rows of it in the first places of s.
+// Row i, in its place.
+fn ridge_row(s: &mut [f64], c: [f64; 3], lam: f64, k: usize, n: usize, i: usize)
+    requires { ⌜ (k ≤ 2) × ((i < n) × (n * (k + 1) ≤ length (now s))) ⌝ }
+    ensures { λ _. ⌜ Written (i * (k + 1)) (i * (k + 1) + (k + 1)) (λ q. ridge k c lam n i (q - i * (k + 1))) (now (s .entry)) (now (s .exit)) ⌝ }
+{
+    let b = i * (k + 1);
+    let mut p = 0;
+    while p <= k {
+        let x = ridge_at(c, lam, k, n, i, p);
+        s[b + p] = x;
+        p += 1;
+    }
+}
+
+// All n rows, in the first places of s.
 pub fn fill_ridge(s: &mut [f64], c: [f64; 3], lam: f64, k: usize, n: usize)
     requires { ⌜ (k ≤ 2) × (n * (k + 1) ≤ length (now s)) ⌝ }
     ensures { λ _. ⌜ (take (n * (k + 1)) (now (s .exit)) ≡ concat (matrix k (ridge k c lam n) n)) × (drop (n * (k + 1)) (now (s .exit)) ≡ drop (n * (k + 1)) (now (s .entry))) ⌝ }
 {
-    let w = k + 1;
-    let e = n * w;
-    let mut p = 0;
-    while p < e {
-        let x = ridge_at(c, lam, k, n, p / w, p % w);
-        s[p] = x;
-        p += 1;
+    let mut i = 0;
+    while i < n {
+        ridge_row(s, c, lam, k, n, i);
+        i += 1;
     }
 }

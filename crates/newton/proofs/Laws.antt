@@ -1,22 +1,17 @@
 -- A run read in parts: what the loops of newton have done.
 use mathlib.Core.Path.{_≡_, refl, sym, ap, _∙_}
 use mathlib.Core.List.{List}
-use mathlib.Core.Bool.{Bool, true, false, _&&_}
-use Prim.Native.Nat.{ℕ, zero, suc, _+_, _-_, _*_, _≤_, _<_}
+use mathlib.Core.Bool.{true, false}
+use Prim.Native.Nat.{ℕ, _+_, _-_, _*_, _≤_, _<_}
 use native.Mathlib.Omega.{arith}
 use native.Mathlib.Numerals.{add-one}
-use native.Mathlib.Nat.{zero-add}
-use lib.ListN.{length, getD, set, take, drop, length-drop}
-use lib.Seq.{ext-getD, getD-take, getD-drop, length-take-le}
-use lib.Ieee.{Float, nan, binary64, add, mul, lt}
-use Rattle.float64.specs.Helpers.{absOf}
-use Rattle.vectors.specs.Sums.{sumTo}
-use Rattle.vectors.specs.Vec.{at, list, Written}
-use Rattle.vectors.proofs.Laws.{length-list, at-list, list-ext, up}
+use lib.ListN.{length, set}
+use lib.Ieee.{Float, nan, inf, fin, binary64, add, mul, lt, isNan, ofBits}
+use Rattle.vectors.specs.Vec.{at, list, Written, partOf, part, Kept}
+use Rattle.vectors.proofs.Laws.{list-ext, up}
 use Rattle.vectors.proofs.Parts.{length-part, at-part}
 use Rattle.matrices.specs.Gram.{product}
-use Rattle.newton.specs.Newton.{Dual, squareAt, squareOf, squares, capped, capTo, insideTo, stepped, along}
-use Rattle.vectors.specs.Vec.{partOf, part, Kept}
+use Rattle.newton.specs.Newton.{squareAt, squareOf, capped, capTo, stepped, along}
 use Rattle.newton.specs.Places.{point}
 
 pub square-place : (k : ℕ) (g dy : List Float) (lam u : Float) (m : ℕ) (s : List Float) (i : ℕ) (q : Float) → i < m → q ≡ product k g (part 0 m s) i
@@ -28,12 +23,26 @@ pub cap-more : (b m : ℕ) (s : List Float) (i : ℕ) (x y : Float) → i < m �
     → y ≡ capped x (at s (m + i)) (at s (b + m + i)) → capped y (at s (m + m + i)) (at s (b + m + m + i)) ≡ capTo (point 0 m s) (point b m s) (i + 1)
 unfolding capTo
 cap-more b m s i x y h e f =
-    rw (add-one i, f, e, at-part (0 + m) m s i (m + i) h (omega arith), at-part (0 + m + m) m s i (m + m + i) h (omega arith),
-      at-part (b + m) m s i (b + m + i) h refl, at-part (b + m + m) m s i (b + m + m + i) h refl)
+    rw (
+      add-one i,
+      f,
+      e,
+      at-part (0 + m) m s i (m + i) h (omega arith),
+      at-part (0 + m + m) m s i (m + m + i) h (omega arith),
+      at-part (b + m) m s i (b + m + i) h refl,
+      at-part (b + m + m) m s i (b + m + m + i) h refl,
+    )
 
-pub inside-more : (lam : Float) (v : List Float) (i : ℕ) (a b : Bool) → a ≡ insideTo lam v i → b ≡ a && lt (absOf (at v i)) lam → b ≡ insideTo lam v (i + 1)
-unfolding insideTo
-inside-more lam v i a b e f = f ∙ rw (add-one i, e)
+-- what is below a number is a number
+pub less-number : (q step : Float) → lt q step ≡ true → isNan q ≡ false
+unfolding lt isNan
+less-number nan step e = sym e
+less-number (inf s) step e = refl
+less-number (fin s m d) step e = refl
+
+pub one-number : isNan (ofBits binary64 0x3ff0_0000_0000_0000) ≡ false
+unfolding isNan ofBits
+one-number = refl
 
 pub stepped-part : (a b e m : ℕ) (step : Float) (s₀ s : List Float)
     → ((j : ℕ) → j < m → at s (e + j) ≡ add binary64 (at s₀ (a + j)) (mul binary64 step (at s₀ (b + j)))) → part e m s ≡ stepped step (part a m s₀) (part b m s₀)
@@ -58,13 +67,13 @@ pub move-done : (m b : ℕ) (step : Float) (s₀ s : List Float) → Written (3 
     → (point (3 * m) m s ≡ along (point 0 m s₀) (point b m s₀) step) × Kept (3 * m) (3 * m) s₀ s
 unfolding along
 move-done m b step s₀ s w = (
-      (λ i. record {
-        z = stepped-part 0 b (3 * m) m step s₀ s (λ j l. place (3 * m + j) (0 + j) (b + j) (omega arith) (omega arith) (omega arith) (omega arith)) i;
-        mu1 = stepped-part (0 + m) (b + m) (3 * m + m) m step s₀ s (λ j l. place (3 * m + m + j) (0 + m + j) (b + m + j) (omega arith) (omega arith) (omega arith) (omega arith)) i;
-        mu2 = stepped-part (0 + m + m) (b + m + m) (3 * m + m + m) m step s₀ s (λ j l. place (3 * m + m + m + j) (0 + m + m + j) (b + m + m + j) (omega arith) (omega arith) (omega arith) (omega arith)) i;
-      }),
-      record { size = w .size; below = w .below; above = w .above }
-    )
+  (λ i. record {
+    z = stepped-part 0 b (3 * m) m step s₀ s (λ j l. place (3 * m + j) (0 + j) (b + j) (omega arith) (omega arith) (omega arith) (omega arith)) i;
+    mu1 = stepped-part (0 + m) (b + m) (3 * m + m) m step s₀ s (λ j l. place (3 * m + m + j) (0 + m + j) (b + m + j) (omega arith) (omega arith) (omega arith) (omega arith)) i;
+    mu2 = stepped-part (0 + m + m) (b + m + m) (3 * m + m + m) m step s₀ s (λ j l. place (3 * m + m + m + j) (0 + m + m + j) (b + m + m + j) (omega arith) (omega arith) (omega arith) (omega arith)) i;
+  }),
+  record { size = w .size; below = w .below; above = w .above },
+)
   where
     place : (q x y : ℕ) → 3 * m ≤ q → q < 3 * m + 3 * m → q - 3 * m ≡ x → b + (q - 3 * m) ≡ y
         → at s q ≡ add binary64 (at s₀ x) (mul binary64 step (at s₀ y))

@@ -1,24 +1,20 @@
 -- What stays where a run is written elsewhere, and the ways through the line search.
-use mathlib.Core.Path.{_≡_, refl, sym, ap, _∙_, subst}
+use mathlib.Core.Path.{_≡_, refl, sym, ap, _∙_}
 use mathlib.Core.List.{List}
-use mathlib.Core.Bool.{Bool, true, false, cond, _&&_}
-use Prim.Native.Nat.{ℕ, zero, suc, _+_, _-_, _*_, _/_, _%_, _≤_, _<_}
+use mathlib.Core.Bool.{Bool, true, false, _&&_}
+use Prim.Native.Nat.{ℕ, zero, suc, _+_, _-_, _*_, _≤_, _<_}
 use native.Mathlib.Omega.{arith}
 use native.Mathlib.Numerals.{add-one}
 use borrow.Author.Tests.{lt-ltb, le-ltb}
-use Rattle.matrices.specs.Gram.{gram, product}
-use Rattle.banded.specs.Rows.{Matrix, matrix, concat}
-use Rattle.banded.proofs.Laws.{filled}
-use lib.ListN.{length, getD, set, take, drop, length-drop}
-use lib.Seq.{ext-getD, getD-take, getD-drop, length-take-le, take-all}
-use lib.Ieee.{Float, nan, binary64, add, mul, lt, ofBits}
-use Rattle.vectors.specs.Vec.{at, list, Written}
-use Rattle.vectors.proofs.Laws.{length-list, at-list, list-ext, up}
-use Rattle.newton.specs.Newton.{Dual, Trial, dmu1At, dmu2At, direction, inside, along, norm, lower, accepted, trials, barrier, rightAt, system, right}
-use Rattle.vectors.specs.Vec.{part, Kept}
+use Rattle.matrices.specs.Gram.{gram}
+use lib.ListN.{length, take, drop}
+use lib.Ieee.{Float, nan, binary64, add, mul, ofBits}
+use Rattle.vectors.specs.Vec.{at, list, part, Kept}
+use Rattle.vectors.proofs.Laws.{list-ext, kept-then}
+use Rattle.newton.specs.Newton.{Dual, dmu1At, dmu2At, direction, along, norm, lower, accepted, trials, barrier, system}
 use Rattle.newton.specs.Places.{point, searchedFrom, Searched}
-use Rattle.vectors.proofs.Laws.{kept-then}
-use Rattle.vectors.proofs.Parts.{length-part, at-part, range-part, part-below, part-above, partOf-range}
+use Rattle.vectors.specs.Sums.{inside}
+use Rattle.vectors.proofs.Parts.{length-part, at-part, part-below, part-above, partOf-range}
 
 pub point-below : {a n : ℕ} {s₀ s : List Float} (e m : ℕ) → Kept a n s₀ s → e + m + m + m ≤ a → point e m s ≡ point e m s₀
 point-below e m w h =
@@ -150,11 +146,7 @@ directed b m lam u s₀ s s′ o e v f w = λ i. record {
   mu2 = (f ∙ λ j. direction lam u (point-below 0 m v (omega arith) j) (part-below nan b m v (omega arith) j) .mu2) i;
 }
 
--- ---- the system
-
-pub system-first : (k : ℕ) (g : List Float) (lam : Float) (p : Dual) (r c : ℕ) → r + c < k → ofBits binary64 0 ≡ system k g lam p r c
-unfolding system gram
-system-first k g lam p r c h = rw (lt-ltb (r + c) k h, lt-ltb c k (omega arith))
+-- ---- a row of the system
 
 pub system-band : (k : ℕ) (g : List Float) (lam : Float) (p : Dual) (r c : ℕ) → k ≤ r + c → c < k → at g (k - c) ≡ system k g lam p r c
 unfolding system gram
@@ -166,19 +158,3 @@ unfolding system gram
 system-diagonal k g lam m s r c w h l o e =
     let q : k - c ≡ 0 = omega arith in
     rw (le-ltb (r + c) k (omega arith), le-ltb c k l, q, e, at-part 0 m s r r o (omega arith), at-part (0 + m) m s r (m + r) o (omega arith), at-part (0 + m + m) m s r (m + m + r) o (omega arith))
-
--- the places of m rows, in order
-pub in-rows : (k m : ℕ) (a : Matrix) → list (m * (k + 1)) (λ q. a (q / (k + 1)) (q % (k + 1))) ≡ concat (matrix k a m)
-in-rows k m a =
-    let f : ℕ → Float = λ q. a (q / (k + 1)) (q % (k + 1)) in
-    let n = length-list (m * (k + 1)) f in
-    sym (take-all (m * (k + 1)) (list (m * (k + 1)) f) (omega (arith, n)))
-    ∙ filled k m a (list (m * (k + 1)) f) (omega (arith, n)) (λ q h. at-list (m * (k + 1)) f q h)
-
-pub right-done : (k : ℕ) (g dy : List Float) (lam u : Float) (m : ℕ) (s : List Float)
-    → list m (λ i. rightAt lam u (product k g (part 0 m s) i) (at dy i) (at s i)) ≡ right k g dy lam u (point 0 m s)
-unfolding right
-right-done k g dy lam u m s =
-    list-ext m (λ i. rightAt lam u (product k g (part 0 m s) i) (at dy i) (at s i)) (λ i. rightAt lam u (product k g (part 0 m s) i) (at dy i) (at (part 0 m s) i))
-    (λ j l. rw (at-part 0 m s j j l (omega arith)))
-    ∙ ap (λ (n : ℕ). list n (λ i. rightAt lam u (product k g (part 0 m s) i) (at dy i) (at (part 0 m s) i))) (sym (length-part 0 m s))

@@ -1,15 +1,15 @@
 -- Document 01, "Interior point": one Newton step. k is the order, g the Gram row, dy is D y, i a place from 0 to m - 1.
-use mathlib.Core.Bool.{Bool, true, false, cond, _&&_}
+use mathlib.Core.Bool.{Bool, cond, _&&_}
 use mathlib.Core.List.{List}
 use Prim.Native.Nat.{ℕ, zero, suc}
 use lib.Dec.{ltb}
 use lib.ListN.{length}
 use lib.Ieee.{Float, neg, lt, le}
-use Rattle.float64.specs.Helpers.{absOf, minOf}
+use Rattle.float64.specs.Helpers.{minOf}
 use Rattle.float64.specs.Sqrt.{sqrtOf}
-use Rattle.vectors.specs.Sums.{sumTo}
+use Rattle.vectors.specs.Sums.{sumTo, inside}
 use Rattle.vectors.specs.Vec.{at, list}
-use Rattle.banded.specs.Rows.{Matrix, rows, sound}
+use Rattle.banded.specs.Rows.{Matrix, rows}
 use Rattle.banded.specs.Solve.{solve}
 use Rattle.matrices.specs.Gram.{gram, product}
 use Rattle.float64.specs.Ops.{_⊕_, _⊖_, _⊗_, _⊘_, c0, c1, half, c0·99, c0·01}
@@ -93,14 +93,6 @@ stepped step v d = list (length v) (λ i. at v i ⊕ step ⊗ at d i)
 
 unfoldable pub along : Dual → Dual → Float → Dual
 along p d step = record { z = stepped step (p .z) (d .z); mu1 = stepped step (p .mu1) (d .mu1); mu2 = stepped step (p .mu2) (d .mu2) }
-
--- whether |v i| < lam for the first n places
-unfoldable pub insideTo : Float → List Float → ℕ → Bool
-insideTo lam v zero = true
-insideTo lam v (suc i) = insideTo lam v i && lt (absOf (at v i)) lam
-
-abbrev pub inside : Float → List Float → Bool
-inside lam v = insideTo lam v (length v)
 
 -- how it ended: the last trial, and the step, halved if that trial was not accepted
 pub record Trial : Type 0 where

@@ -1,12 +1,12 @@
--- A run of numbers read in parts. For the contracts of the functions below the entry.
+-- Document 01, "Interior point": a dual point as it stands in a run of numbers, z, mu1, mu2, m places each, and what a line search leaves there.
 use mathlib.Core.Path.{_≡_}
 use mathlib.Core.List.{List}
 use mathlib.Core.Bool.{Bool}
-use Prim.Native.Nat.{ℕ, _+_, _*_, _≤_, _<_}
-use lib.ListN.{length}
+use Prim.Native.Nat.{ℕ, _+_, _*_}
 use lib.Ieee.{Float}
-use Rattle.vectors.specs.Vec.{at, list, part, Kept}
-use Rattle.newton.specs.Newton.{Dual, Trial, inside, trials}
+use Rattle.vectors.specs.Vec.{part, Kept}
+use Rattle.vectors.specs.Sums.{inside}
+use Rattle.newton.specs.Newton.{Dual, Trial, trials}
 
 -- the point, or the direction, whose three parts of m stand from a on
 abbrev pub point : ℕ → ℕ → List Float → Dual

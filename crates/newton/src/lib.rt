@@ -1,12 +1,11 @@
+// The direction of a Newton step from a dual point, and the line search along it. A point stands in a run as z, mu1, mu2, m places each.
 ghost use mathlib.Core.Path.{_≡_};
-ghost use Prim.Native.Nat.{_≤_, _<_, _+_, _*_, _^_};
+ghost use Prim.Native.Nat.{_≤_, _+_, _*_};
 ghost use lib.ListN.{length};
-ghost use lib.Ieee.{binary64, add, mul, lt};
-ghost use mathlib.Core.Bool.{_&&_};
-ghost use Rattle.float64.specs.Helpers.{absOf};
-ghost use Rattle.banded.specs.Rows.{matrix, concat};
-ghost use Rattle.vectors.specs.Vec.{at, Written};
-ghost use Rattle.newton.specs.Newton.{barrier, rightAt, dmu1At, dmu2At, squareAt, capped, squares, norm, capTo, inside, along, direction, lower, accepted, trials, system, right};
+ghost use lib.Ieee.{isNan};
+ghost use mathlib.Core.Bool.{false};
+ghost use Rattle.vectors.specs.Sums.{inside};
+ghost use Rattle.newton.specs.Newton.{dmu1At, dmu2At, squareAt, capped, squares, norm, capTo, along, direction, lower, accepted};
 ghost use Rattle.vectors.specs.Vec.{part, Kept};
 ghost use Rattle.newton.specs.Places.{point, Searched};
 
@@ -22,8 +21,8 @@ fn residual_of(q: f64, dy: f64, z: f64, mu1: f64, mu2: f64, lam: f64, u: f64) ->
     rd * rd + rc1 * rc1 + rc2 * rc2
 }
 
-// The square of the residual at the point in s: z, mu1, mu2, m places each.
-pub fn residual(s: &[f64], dy: &[f64], lam: f64, u: f64, g: [f64; 3], k: usize, m: usize) -> f64
+// The square of the residual at the point in the first places of s.
+fn residual(s: &[f64], dy: &[f64], lam: f64, u: f64, g: [f64; 3], k: usize, m: usize) -> f64
     requires { ⌜ (k ≤ 2) × ((m + m + m ≤ length (now s)) × (m ≤ length (now dy))) ⌝ }
     ensures { λ r. ⌜ r ≡ squares k g (now (dy .entry)) lam u (point 0 m (now (s .entry))) ⌝ }
 {
@@ -54,16 +53,21 @@ fn dmu2_at(z: f64, mu2: f64, dz: f64, lam: f64, u: f64) -> f64
 
 // The lesser of step and the step at which mu is left at a hundredth, if it falls.
 fn cap_of(step: f64, mu: f64, dmu: f64) -> f64
-    ensures { λ r. ⌜ r ≡ capped step mu dmu ⌝ }
+    requires { ⌜ isNan step ≡ false ⌝ }
+    ensures { λ r. ⌜ (r ≡ capped step mu dmu) × (isNan r ≡ false) ⌝ }
 {
     if dmu < 0.0 {
-        return float64::min(step, 0.99 * (-mu / dmu));
+        let q = 0.99 * (-mu / dmu);
+        if q < step {
+            return q;
+        }
+        return step;
     }
     step
 }
 
 // The greatest step, for the point in s and the direction from b on.
-pub fn cap(s: &[f64], b: usize, m: usize) -> f64
+fn cap(s: &[f64], b: usize, m: usize) -> f64
     requires { ⌜ (m + m + m ≤ b) × (b + m + m + m ≤ length (now s)) ⌝ }
     ensures { λ r. ⌜ r ≡ capTo (point 0 m (now (s .entry))) (point b m (now (s .entry))) m ⌝ }
 {
@@ -77,31 +81,8 @@ pub fn cap(s: &[f64], b: usize, m: usize) -> f64
     step
 }
 
-fn still(all: bool, x: f64, lam: f64) -> bool
-    ensures { λ r. ⌜ r ≡ all && lt (absOf x) lam ⌝ }
-{
-    let a = float64::abs(x);
-    if all {
-        return a < lam;
-    }
-    false
-}
-
-// Whether every |v| is below lam.
-pub fn inside(v: &[f64], lam: f64) -> bool
-    ensures { λ r. ⌜ r ≡ inside lam (now (v .entry)) ⌝ }
-{
-    let mut all = true;
-    let mut i = 0;
-    while i < v.len() {
-        all = still(all, v[i], lam);
-        i += 1;
-    }
-    all
-}
-
 // The point at a step from that in the first 3 m places, in the 3 m after them. From b on stands the direction.
-pub fn move_to(s: &mut [f64], b: usize, step: f64, m: usize)
+fn move_to(s: &mut [f64], b: usize, step: f64, m: usize)
     requires { ⌜ (6 * m ≤ b) × (b + 3 * m ≤ length (now s)) ⌝ }
     ensures { λ _. ⌜ (point (3 * m) m (now (s .exit)) ≡ along (point 0 m (now (s .entry))) (point b m (now (s .entry))) step)
         × Kept (3 * m) (3 * m) (now (s .entry)) (now (s .exit)) ⌝ }
@@ -153,7 +134,17 @@ pub fn directions(s: &mut [f64], b: usize, lam: f64, u: f64, m: usize) -> f64
     cap(s, b, m)
 }
 
-fn low_enough(s: &[f64], dy: &[f64], lam: f64, u: f64, g: [f64; 3], k: usize, m: usize, step: f64, old: f64) -> bool
+fn low_enough(
+    s: &[f64],
+    dy: &[f64],
+    lam: f64,
+    u: f64,
+    g: [f64; 3],
+    k: usize,
+    m: usize,
+    step: f64,
+    old: f64,
+) -> bool
     requires { ⌜ (k ≤ 2) × ((m + m + m ≤ length (now s)) × (m ≤ length (now dy))) ⌝ }
     ensures { λ r. ⌜ r ≡ lower (norm k g (now (dy .entry)) lam u (point 0 m (now (s .entry)))) step old ⌝ }
 {
@@ -161,13 +152,24 @@ fn low_enough(s: &[f64], dy: &[f64], lam: f64, u: f64, g: [f64; 3], k: usize, m:
     float64::sqrt(a) <= (1.0 - 0.01 * step) * old
 }
 
-pub struct Tried {
-    pub inside: bool,
-    pub good: bool,
+struct Tried {
+    inside: bool,
+    good: bool,
 }
 
 // One trial: the point at a step, whether it is inside, and whether it is accepted.
-fn attempt(s: &mut [f64], b: usize, dy: &[f64], lam: f64, u: f64, g: [f64; 3], k: usize, m: usize, step: f64, old: f64) -> Tried
+fn attempt(
+    s: &mut [f64],
+    b: usize,
+    dy: &[f64],
+    lam: f64,
+    u: f64,
+    g: [f64; 3],
+    k: usize,
+    m: usize,
+    step: f64,
+    old: f64,
+) -> Tried
     requires { ⌜ (k ≤ 2) × ((6 * m ≤ b) × ((b + 3 * m ≤ length (now s)) × (m ≤ length (now dy)))) ⌝ }
     ensures { λ r. ⌜ (point (3 * m) m (now (s .exit)) ≡ along (point 0 m (now (s .entry))) (point b m (now (s .entry))) step)
         × (Kept (3 * m) (3 * m) (now (s .entry)) (now (s .exit))
@@ -178,12 +180,18 @@ fn attempt(s: &mut [f64], b: usize, dy: &[f64], lam: f64, u: f64, g: [f64; 3], k
     let d = c + m;
     let e = c + c;
     move_to(s, b, step, m);
-    let within = inside(&s[c..d], lam);
+    let within = vectors::inside(&s[c..d], lam);
     if within {
         let low = low_enough(&s[c..e], dy, lam, u, g, k, m, step, old);
-        return Tried { inside: true, good: low };
+        return Tried {
+            inside: true,
+            good: low,
+        };
     }
-    Tried { inside: false, good: false }
+    Tried {
+        inside: false,
+        good: false,
+    }
 }
 
 pub struct Trial {
@@ -192,7 +200,18 @@ pub struct Trial {
 }
 
 // Up to 20 trials; the last stands after the point.
-pub fn line_search(s: &mut [f64], b: usize, dy: &[f64], lam: f64, u: f64, g: [f64; 3], k: usize, m: usize, cap: f64, old: f64) -> Trial
+pub fn line_search(
+    s: &mut [f64],
+    b: usize,
+    dy: &[f64],
+    lam: f64,
+    u: f64,
+    g: [f64; 3],
+    k: usize,
+    m: usize,
+    cap: f64,
+    old: f64,
+) -> Trial
     requires { ⌜ (k ≤ 2) × ((6 * m ≤ b) × ((b + 3 * m ≤ length (now s)) × (m ≤ length (now dy)))) ⌝ }
     ensures { λ r. ⌜ Searched k g (now (dy .entry)) lam u m b cap old (now (s .entry)) (now (s .exit)) (r .step) (r .inside) ⌝ }
 {
@@ -202,73 +221,17 @@ pub fn line_search(s: &mut [f64], b: usize, dy: &[f64], lam: f64, u: f64, g: [f6
     while i < 20 {
         let a = attempt(s, b, dy, lam, u, g, k, m, step, old);
         if a.good {
-            return Trial { step: step, inside: true };
+            return Trial {
+                step: step,
+                inside: true,
+            };
         }
         last = a.inside;
         step = step * 0.5;
         i += 1;
     }
-    Trial { step: step, inside: last }
-}
-
-fn weight(z: f64, mu1: f64, mu2: f64, lam: f64) -> f64
-    ensures { λ r. ⌜ r ≡ barrier lam z mu1 mu2 ⌝ }
-{
-    let f1 = z - lam;
-    let f2 = -z - lam;
-    -mu1 / f1 - mu2 / f2
-}
-
-// Place c of row r of the system of the point in the first places of s.
-fn system_at(s: &[f64], lam: f64, g: [f64; 3], k: usize, m: usize, r: usize, c: usize) -> f64
-    requires { ⌜ (k ≤ 2) × ((c ≤ k) × ((r < m) × ((m + m + m ≤ length (now s)) × (r + c < 2 ^ 62)))) ⌝ }
-    ensures { λ x. ⌜ x ≡ system k g lam (point 0 m (now (s .entry))) r c ⌝ }
-{
-    if r + c < k {
-        return 0.0;
-    }
-    if c < k {
-        return g[k - c];
-    }
-    let w = weight(s[r], s[m + r], s[m + m + r], lam);
-    g[0] + w
-}
-
-// The m rows of the system, from place a on.
-pub fn fill_system(s: &mut [f64], a: usize, lam: f64, g: [f64; 3], k: usize, m: usize)
-    requires { ⌜ (k ≤ 2) × ((m + m + m ≤ a) × (a + m * (k + 1) ≤ length (now s))) ⌝ }
-    ensures { λ _. ⌜ (part a (m * (k + 1)) (now (s .exit)) ≡ concat (matrix k (system k g lam (point 0 m (now (s .entry)))) m))
-        × Kept a (m * (k + 1)) (now (s .entry)) (now (s .exit)) ⌝ }
-{
-    let w = k + 1;
-    let n = m * w;
-    let mut p = 0;
-    while p < n {
-        let x = system_at(s, lam, g, k, m, p / w, p % w);
-        s[a + p] = x;
-        p += 1;
-    }
-}
-
-fn right_of(q: f64, dy: f64, z: f64, lam: f64, u: f64) -> f64
-    ensures { λ r. ⌜ r ≡ rightAt lam u q dy z ⌝ }
-{
-    let f1 = z - lam;
-    let f2 = -z - lam;
-    -q + dy + u / f1 - u / f2
-}
-
-// The right side, from place a on.
-pub fn fill_right(s: &mut [f64], a: usize, dy: &[f64], lam: f64, u: f64, g: [f64; 3], k: usize, m: usize)
-    requires { ⌜ (k ≤ 2) × ((m + m + m ≤ a) × ((a + m ≤ length (now s)) × (m ≤ length (now dy)))) ⌝ }
-    ensures { λ _. ⌜ (part a m (now (s .exit)) ≡ right k g (now (dy .entry)) lam u (point 0 m (now (s .entry))))
-        × Kept a m (now (s .entry)) (now (s .exit)) ⌝ }
-{
-    let mut i = 0;
-    while i < m {
-        let q = matrices::product(&s[0..m], g, k, i);
-        let x = right_of(q, dy[i], s[i], lam, u);
-        s[a + i] = x;
-        i += 1;
+    Trial {
+        step: step,
+        inside: last,
     }
 }

@@ -1,2 +1,3 @@
 -- The definitions that the contracts of polish cite.
 pub mod Polish
+pub mod Marks

@@ -1,4 +1,4 @@
--- Document 01, "Polish, knots, closed paths": the polish. k is the order, g the Gram row, dy is D y, p the point at which the search ended.
+-- Document 01, "Polish, knots, closed paths": the polish. k is the order, g the Gram row, dy is D y, p the point at which the search ended, m its places.
 use mathlib.Core.Bool.{Bool, true, false, cond}
 use mathlib.Core.List.{List, [], _∷_, _++_}
 use mathlib.Core.Option.{Option, none, some}
@@ -34,10 +34,12 @@ heldAt lam free = c0
 heldAt lam at-lam = lam
 heldAt lam at-minus-lam = neg lam
 
+-- ---- below, h tells how each place is held
+
 -- the free places below n, rising
-unfoldable pub freeTo : Float → Dual → ℕ → List ℕ
-freeTo lam p zero = []
-freeTo lam p (suc n) = freeTo lam p n ++ cond (isFree (holdAt lam p n)) (n ∷ []) []
+unfoldable pub freeTo : (ℕ → Hold) → ℕ → List ℕ
+freeTo h zero = []
+freeTo h (suc n) = freeTo h n ++ cond (isFree (h n)) (n ∷ []) []
 
 -- The compressed system, over the free places f: D D' between any two of them whose distance is at most k; +0 before its column 0.
 abbrev pub between : ℕ → List Float → ℕ → Float
@@ -48,26 +50,33 @@ compressed k g f r c = cond (ltb (r + c) k) c0 (between k g (getD f r 0 - getD f
 
 -- v less g at |i - j| times where j is held, for each of the n places j from lo on that is held, upwards
 abbrev pub lessHeld : Float → List Float → ℕ → ℕ → Hold → Float → Float
-lessHeld lam g i j h v = cond (isFree h) v (v ⊖ at g (apart i j) ⊗ heldAt lam h)
+lessHeld lam g i j t v = cond (isFree t) v (v ⊖ at g (apart i j) ⊗ heldAt lam t)
 
-unfoldable pub lessTo : Float → List Float → Dual → ℕ → ℕ → Float → ℕ → Float
-lessTo lam g p i lo v zero = v
-lessTo lam g p i lo v (suc n) = lessHeld lam g i (lo + n) (holdAt lam p (lo + n)) (lessTo lam g p i lo v n)
+unfoldable pub lessTo : Float → List Float → (ℕ → Hold) → ℕ → ℕ → Float → ℕ → Float
+lessTo lam g h i lo v zero = v
+lessTo lam g h i lo v (suc n) = lessHeld lam g i (lo + n) (h (lo + n)) (lessTo lam g h i lo v n)
 
 -- its right side at the free place i of m: D y less what the held places within the band account for
-unfoldable pub rightOf : ℕ → List Float → List Float → Float → Dual → ℕ → Float
-rightOf k g dy lam p i = let lo = i - k in lessTo lam g p i lo (at dy i) (min (i + k + 1) (length (p .z)) - lo)
+unfoldable pub rightOf : ℕ → List Float → List Float → Float → (ℕ → Hold) → ℕ → ℕ → Float
+rightOf k g dy lam h m i = let lo = i - k in lessTo lam g h i lo (at dy i) (min (i + k + 1) m - lo)
 
--- The candidate: the held places where they are held, the free ones from the solution, in which the place after those below i is i's.
+-- its solution, by the operations of the factor and the solve
+abbrev pub rightSide : ℕ → List Float → List Float → Float → (ℕ → Hold) → ℕ → List ℕ → List Float
+rightSide k g dy lam h m f = list (length f) (λ r. rightOf k g dy lam h m (getD f r 0))
+
+unfoldable pub solved : ℕ → List Float → List Float → Float → (ℕ → Hold) → ℕ → List Float
+solved k g dy lam h m = let f = freeTo h m in solve k (rows k (compressed k g f) (length f)) (rightSide k g dy lam h m f)
+
+-- The candidate: the held places where they are held, the free ones from the solution x, in which i's place comes after those of the free places below i.
+unfoldable pub candidateAt : Float → (ℕ → Hold) → List Float → ℕ → Float
+candidateAt lam h x i = cond (isFree (h i)) (at x (length (freeTo h i))) (heldAt lam (h i))
+
 -- With no place free there is nothing to solve. A bad pivot gives none.
-unfoldable pub candidateAt : Float → Dual → List Float → ℕ → Float
-candidateAt lam p x i = cond (isFree (holdAt lam p i)) (at x (length (freeTo lam p i))) (heldAt lam (holdAt lam p i))
+unfoldable pub candidate : ℕ → List Float → List Float → Float → (ℕ → Hold) → ℕ → Option (List Float)
+candidate k g dy lam h m =
+    let f = freeTo h m in
+    cond (sound k (compressed k g f) (length f)) (some (list m (candidateAt lam h (solved k g dy lam h m)))) none
 
 unfoldable pub polish : ℕ → List Float → List Float → Float → Dual → Option (List Float)
-polish k g dy lam p =
-    let m = length (p .z) in
-    let f = freeTo lam p m in
-    let q = length f in
-    let a = compressed k g f in
-    let b = list q (λ r. rightOf k g dy lam p (getD f r 0)) in
-    cond (sound k a q) (some (list m (candidateAt lam p (solve k (rows k a q) b)))) none
+unfolding solved candidate
+polish k g dy lam p = candidate k g dy lam (holdAt lam p) (length (p .z))

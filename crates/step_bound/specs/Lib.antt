@@ -1,1 +1,3 @@
+-- The search over any problem, and what is promised of it.
 pub mod Search
+pub mod Demand3

@@ -2,8 +2,12 @@
 use Prim.Native.Nat.{ℕ, zero, suc}
 use mathlib.Core.Bool.{Bool, true, false, cond}
 use lib.Dec.{eqb}
-use lib.Ieee.{Float, lt, le}
-use Rattle.float64.specs.Ops.{_⊖_, _⊗_, c0·99}
+use lib.Ieee.{Float, binary64, ofBits, lt, le}
+use Rattle.float64.specs.Ops.{_⊖_, _⊗_}
+
+-- 0.99
+abbrev pub mark : Float
+mark = ofBits binary64 0x3fef_ae14_7ae1_47ae
 
 -- what an iteration does to the state: a bad pivot loses it
 pub data Turn (S : Type 0) : Type 0 where
@@ -54,9 +58,13 @@ ended p r = record { state = p .state; steps = p .steps; best = p .best; gains =
 abbrev pub enough : {S : Type 0} → Problem S → Float → Point S → Bool
 enough L tol p = le (gap L (p .state)) (tol ⊗ L .primal (p .state))
 
+-- the stall count is 10
+abbrev pub stuck : {S : Type 0} → Point S → Bool
+stuck p = eqb (p .stall) 10
+
 -- the gap at t is below 0.99 of the best, the product rounded
 abbrev pub better : {S : Type 0} → Problem S → Point S → S → Bool
-better L p t = lt (gap L t) (c0·99 ⊗ p .best)
+better L p t = lt (gap L t) (mark ⊗ p .best)
 
 -- an improvement's gap becomes the best and ends the stall; else the stall count rises
 abbrev pub advance : {S : Type 0} → Problem S → Point S → S → Bool → Point S
@@ -72,9 +80,9 @@ abbrev pub turned : {S : Type 0} → Problem S → Point S → Turn S → Next S
 turned L p lost = stop (record { state = p .state; steps = suc (p .steps); best = p .best; gains = p .gains; reason = pivot })
 turned L p (moved t) = go (advance L p t (better L p t))
 
--- before each iteration: is the gap small enough, and else, is the stall count 10
+-- before each iteration, while the limit allows one: is the gap small enough, and else, is the stall count 10
 unfoldable pub iterate : {S : Type 0} → Problem S → Float → Point S → Next S
-iterate L tol p = cond (enough L tol p) (stop (ended p small)) (cond (eqb (p .stall) 10) (stop (ended p stalled)) (turned L p (L .move (p .state))))
+iterate L tol p = cond (enough L tol p) (stop (ended p small)) (cond (stuck p) (stop (ended p stalled)) (turned L p (L .move (p .state))))
 
 -- r is how many iterations the limit still allows
 unfoldable pub run : {S : Type 0} → Problem S → Float → ℕ → Point S → Ended S

@@ -1,5 +1,5 @@
 -- Laws of vectors given by their places, and of loops that write them. Assumes nothing.
-use mathlib.Core.Path.{_≡_, refl, sym, ap, _∙_}
+use mathlib.Core.Path.{_≡_, refl, sym, ap, ap₂, _∙_}
 use mathlib.Core.Logic.{⊎-elim}
 use mathlib.Core.Bool.{Bool, true, false, cond}
 use mathlib.Core.List.{List, [], _∷_, _++_}
@@ -7,10 +7,10 @@ use Prim.Native.Nat.{ℕ, zero, suc, _+_, _-_, _≤_, _<_}
 use native.Mathlib.Nat.{le-of-suc-le-suc, eq-or-lt-of-le, ne-of-lt, ne-of-gt}
 use native.Mathlib.Numerals.{add-one}
 use native.Mathlib.Omega.{arith}
-use lib.ListN.{length, getD, set, take, drop, length-append, length-set, List·getD-append}
-use lib.Seq.{getD-at, getD-set-same, getD-set-other, getD-take, length-take-le, ext-getD}
+use lib.ListN.{length, getD, set, take, drop, length-append, length-drop, length-set, take-append-drop, List·getD-append}
+use lib.Seq.{getD-at, getD-set-same, getD-set-other, getD-take, getD-drop, length-take-le, ext-getD}
 use lib.Ieee.{Float, nan}
-use Rattle.vectors.specs.Vec.{at, list, WrittenOf, Written, KeptOf, Kept}
+use Rattle.vectors.specs.Vec.{at, list, put, WrittenOf, Written, KeptOf, Kept}
 
 pub length-list : {A : Type 0} (n : ℕ) (f : ℕ → A) → length (list n f) ≡ n
 unfolding list
@@ -109,3 +109,15 @@ store-more lo i f s₀ s x w h e =
 pub cond-cong : {A : Type 0} (b : Bool) (x y t : A) → (b ≡ true → x ≡ y) → cond b x t ≡ cond b y t
 cond-cong true x y t h = h refl
 cond-cong false x y t h = refl
+
+-- a loop that wrote t from place 0 on
+pub written-put : {A : Type 0} {z : A} {n : ℕ} {f : ℕ → A} {v₀ v : List A} (t : List A) → WrittenOf z 0 n f v₀ v
+    → length t ≡ n → n ≤ length v₀ → ((i : ℕ) → i < n → f i ≡ getD t i z) → v ≡ put v₀ 0 t
+written-put {A} {z} {n} {f} {v₀} {v} t w e h q =
+    let size = w .size in
+    let a : take n v ≡ t = front w (omega arith) ∙ list-ext n f (λ i. getD t i z) q ∙ sym (rw e at (list-is z t)) in
+    let b : drop n v ≡ drop n v₀ =
+    ext-getD z (drop n v) (drop n v₀) (omega (arith, length-drop n v, length-drop n v₀))
+    (λ i l. getD-drop n v i z ∙ w .above (n + i) (omega arith) ∙ sym (getD-drop n v₀ i z)) in
+    let r : n ≡ 0 + length t = omega arith in
+    sym (take-append-drop n v) ∙ ap₂ (λ (x y : List A). x ++ y) a b ∙ ap (λ (p : ℕ). t ++ drop p v₀) r

@@ -1,11 +1,16 @@
--- Laws of the sums: one more term. Assumes nothing.
+-- Laws of the sums and of the bound: one more term. Assumes nothing.
 use mathlib.Core.Path.{_≡_, refl, sym, ap, _∙_}
 use Prim.Native.Nat.{ℕ, zero, suc, _+_, _<_}
+use mathlib.Core.Logic.{⊎-elim}
+use native.Mathlib.Nat.{le-of-suc-le-suc, eq-or-lt-of-le}
 use native.Mathlib.Omega.{arith}
 use native.Mathlib.Numerals.{add-one}
-use lib.Ieee.{Float, binary64, add}
-use Rattle.float64.specs.Helpers.{maxOf}
-use Rattle.vectors.specs.Sums.{sumTo, maxTo}
+use mathlib.Core.Bool.{Bool, true, false, _&&_}
+use mathlib.Core.List.{List}
+use lib.Ieee.{Float, binary64, add, lt}
+use Rattle.float64.specs.Helpers.{absOf, maxOf}
+use Rattle.vectors.specs.Vec.{at}
+use Rattle.vectors.specs.Sums.{sumTo, maxTo, insideTo}
 
 pub sum-more : (f : ℕ → Float) (n : ℕ) (a x : Float) → a ≡ sumTo f n → x ≡ f n → add binary64 a x ≡ sumTo f (n + 1)
 unfolding sumTo
@@ -19,3 +24,19 @@ sum-ext f g (suc n) h = rw (sum-ext f g n (λ j l. h j (omega arith)), h n (omeg
 pub max-more : (f : ℕ → Float) (n : ℕ) (a x : Float) → a ≡ maxTo f n → x ≡ f n → maxOf a x ≡ maxTo f (n + 1)
 unfolding maxTo
 max-more f n a x e h = rw (add-one n, e, h)
+
+pub inside-more : (lam : Float) (v : List Float) (n : ℕ) (a b : Bool) → a ≡ insideTo lam v n → b ≡ a && lt (absOf (at v n)) lam → b ≡ insideTo lam v (n + 1)
+unfolding insideTo
+inside-more lam v n a b e h = rw (add-one n, h, e)
+
+-- inside says it of every place
+both : (a b : Bool) → a && b ≡ true → (a ≡ true) × (b ≡ true)
+both true b e = (refl, e)
+both false b e = (e, cc)
+
+pub inside-at : (lam : Float) (v : List Float) (n i : ℕ) → insideTo lam v n ≡ true → i < n → lt (absOf (at v i)) lam ≡ true
+unfolding insideTo
+inside-at lam v zero i e h = absurd (omega arith)
+inside-at lam v (suc n) i e h =
+    let p = both (insideTo lam v n) (lt (absOf (at v n)) lam) e in
+    ⊎-elim (λ (q : i ≡ n). rw q (p .1)) (λ (l : i < n). inside-at lam v n i (p .0) l) (eq-or-lt-of-le (le-of-suc-le-suc h))

@@ -1,8 +1,9 @@
--- Document 01, "Float helpers": sums run from index 0 and start at +0. Then the sums and the greatest size that the fit takes of a vector.
+-- Document 01, "Float helpers": sums run from index 0 and start at +0. Then the sums and the greatest size that the fit takes of a vector, and whether it lies within a bound.
 use mathlib.Core.List.{List}
 use Prim.Native.Nat.{ℕ, zero, suc}
 use lib.ListN.{length}
-use lib.Ieee.{Float, binary64, add, mul, ofBits}
+use mathlib.Core.Bool.{Bool, true, _&&_}
+use lib.Ieee.{Float, binary64, add, mul, lt, ofBits}
 use Rattle.float64.specs.Helpers.{absOf, maxOf}
 use Rattle.vectors.specs.Vec.{at}
 
@@ -31,3 +32,11 @@ sumAbs v = sumTo (λ i. absOf (at v i)) (length v)
 -- max |v|, from 0 and ignoring NaN
 unfoldable pub maxAbs : List Float → Float
 maxAbs v = maxTo (λ i. absOf (at v i)) (length v)
+
+-- whether |v i| is below lam for every i below n, and for every place
+unfoldable pub insideTo : Float → List Float → ℕ → Bool
+insideTo lam v zero = true
+insideTo lam v (suc n) = insideTo lam v n && lt (absOf (at v n)) lam
+
+abbrev pub inside : Float → List Float → Bool
+inside lam v = insideTo lam v (length v)

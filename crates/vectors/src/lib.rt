@@ -1,9 +1,12 @@
-// Sums and the greatest size of a vector, and a copy of one.
+// Sums and the greatest size of a vector, whether it lies within a bound, and a copy of one.
 ghost use mathlib.Core.Path.{_≡_};
+ghost use mathlib.Core.Bool.{_&&_};
 ghost use Prim.Native.Nat.{_≤_};
 ghost use lib.ListN.{length};
+ghost use lib.Ieee.{lt};
+ghost use Rattle.float64.specs.Helpers.{absOf};
 ghost use Rattle.vectors.specs.Vec.{put};
-ghost use Rattle.vectors.specs.Sums.{norm2Sq, dot, sumAbs, maxAbs};
+ghost use Rattle.vectors.specs.Sums.{norm2Sq, dot, sumAbs, maxAbs, inside};
 
 pub fn norm2_sq(v: &[f64]) -> f64
     ensures { λ r. ⌜ r ≡ norm2Sq (now (v .entry)) ⌝ }
@@ -57,6 +60,29 @@ pub fn max_abs(v: &[f64]) -> f64
         i += 1;
     }
     top
+}
+
+fn still(all: bool, x: f64, lam: f64) -> bool
+    ensures { λ r. ⌜ r ≡ all && lt (absOf x) lam ⌝ }
+{
+    let a = float64::abs(x);
+    if all {
+        return a < lam;
+    }
+    false
+}
+
+// Whether every |v| is below lam.
+pub fn inside(v: &[f64], lam: f64) -> bool
+    ensures { λ r. ⌜ r ≡ inside lam (now (v .entry)) ⌝ }
+{
+    let mut all = true;
+    let mut i = 0;
+    while i < v.len() {
+        all = still(all, v[i], lam);
+        i += 1;
+    }
+    all
 }
 
 // The first places of t become those of x.

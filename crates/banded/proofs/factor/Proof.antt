@@ -1,53 +1,55 @@
+use mathlib.Core.Bool.{false}
 use borrow.Author.Needs.{needs}
 use borrow.Author.Tests.{not-true, not-false}
+use mathlib.Core.List.{List}
+use lib.Seq.{length-take-le}
+use lib.Ieee.{Float}
 use mathlib.Core.Path.{_≡_, refl, sym, ap, _∙_}
 use Prim.Native.Nat.{ℕ, suc, _≤_, _<_, _-_, _+_, _*_}
 use native.Mathlib.Omega.{arith}
-use lib.ListN.{length, length-set}
+use lib.ListN.{length, take, drop, length-set, length-drop}
 use Rattle.banded.specs.Rows.{Matrix, matrix, rows}
-use Rattle.banded.proofs.Laws.{rows-fit, Done, done-none, done-more, done-bad, kept-from, kept-after, holds-of, of-holds, shape-matrix}
+use Rattle.banded.specs.Solve.{forward}
+use Rattle.banded.specs.Run.{Holds, Stands}
+use Rattle.banded.proofs.Laws.{kept-after, holds-of, of-holds, shape-matrix, part-stands, stands-part}
+use Rattle.banded.proofs.Elimination.{Reached, Ahead, reached-none, ahead-none, ahead-more, factor-more, factor-bad, length-forward}
 use Rattle.banded.proofs.factor.Statement.{statement}
 use Rattle.banded.proofs.factor.Tie as tie
 use Rattle.banded.proofs.factor.Reads as reads
 use Rattle.banded.proofs.factor.Lts as lts
-use Rattle.banded.proofs.factor_row.Reads as factor-row-reads
-use Rattle.banded.proofs.pivot_good.Reads as pivot-good-reads
+use Rattle.banded.proofs.eliminate.Reads as eliminate-reads
 
 abbrev Inv-loop : tie.InvT-loop
-Inv-loop s₀ k m r₀ s r = (r ≤ m) × (length s ≡ length s₀) × Done k m r s₀ s
+Inv-loop s₀ k m r₀ s r = (r ≤ m) × (length s ≡ length s₀) × Ahead k m r s₀ s
+    × ((a : Matrix) (v : List Float) → Holds k m (matrix k a m) s₀ → Stands (m * (k + 1)) v s₀ → length v ≡ m → Reached k m r a v s)
 
 abbrev μ-loop : tie.MeasureT-loop
 μ-loop s₀ k m r₀ s r = m - r
 
 loop-holds : tie.Need-loop-holds Inv-loop μ-loop
-loop-holds c = (search needs, refl, done-none)
+loop-holds c = let a = c .before .args in
+    (search needs, refl, ahead-none, λ x v h st l. reached-none (a .k) (a .m) x v _)
 
-factor-row-requires : tie.Need-factor-row-requires Inv-loop μ-loop
-factor-row-requires c κs = let a = c .before .before .before .before .args in
-    rows-fit (a .k) (c .before .before .loop .r) (a .m) _ (omega arith) (omega arith)
-
-pivot-good-requires : tie.Need-pivot-good-requires Inv-loop μ-loop
-pivot-good-requires c κs = let at-loop = c .before .before .before .before .before .before in
-    let a = at-loop .before .before .args in
-    let kept = c .before .before .before .factor-row .kept .0 in
-    rows-fit (a .k) (at-loop .loop .r) (a .m) _ (omega arith) (omega arith)
+eliminate-requires : tie.Need-eliminate-requires Inv-loop μ-loop
+eliminate-requires c κs = search needs
 
 same-length : tie.Need-same-length Inv-loop μ-loop
 same-length c = search needs
 
 returns : tie.Need-returns Inv-loop μ-loop
-returns c = let at-loop = c .before .before .before .before .before .before .before .before in
-    let a = at-loop .before .before .args in
-    let call = c .before .before .before .before .before in
-    let r = at-loop .loop .r in
-    let d = at-loop .loop .inv .2 in
-    let l = call .factor-row .ensures in
-    let bad = sym (c .before .pivot-good .ensures) ∙ not-true _ (c .if1 .taken) in
-    let kept = call .factor-row .kept .0 in (
-      kept-after (a .m * (a .k + 1)) _ _ (kept ∙ at-loop .loop .inv .1)
-          (λ (q : ℕ) (h : a .m * (a .k + 1) ≤ q). kept-from d (omega arith) (l .0) (l .1) q (omega (arith, rows-fit (a .k) r (a .m) (a .m * (a .k + 1)) (omega arith) (omega arith)))),
-      λ b e.
-          let no = done-bad d (omega arith) (l .0) (l .1) bad b (holds-of (a .k) (a .m) (matrix (a .k) b (a .m)) (a .s .now) (omega arith) (shape-matrix (a .k) b (a .m)) e) in
+returns c = let a = c .before .before .before .before .before .before .before .before .args in
+    let at-loop = c .before .before .before .before .before .before in
+    let inv = at-loop .loop .inv in
+    let e = c .before .before .before .eliminate .ensures in
+    let n = a .m * (a .k + 1) in
+    let s = a .s .now in
+    let bad : c .before .before .before .eliminate .result ≡ false = not-true _ (c .if1 .taken) in (
+      kept-after (n + a .m) _ _ (e .size ∙ inv .1) (λ (q : ℕ) (h : n + a .m ≤ q). e .above q (omega arith) ∙ inv .2 .later q (omega arith)),
+      λ x h.
+          let v = take (a .m) (drop n s) in
+          let l : length v ≡ a .m = length-take-le (a .m) (drop n s) (omega (arith, length-drop n s)) in
+          let m = holds-of (a .k) (a .m) (matrix (a .k) x (a .m)) s (omega arith) (shape-matrix (a .k) x (a .m)) h in
+          let no = factor-bad (inv .2) e (omega arith) x v m (part-stands n (a .m) s) l (inv .3 x v m (part-stands n (a .m) s) l) bad in
           (sym no, λ t. let z : _≡_ {A = ℕ} 0 1 = cc in absurd (omega arith)),
     )
 
@@ -58,27 +60,29 @@ loop-less : tie.Need-loop-less Inv-loop μ-loop
 loop-less c = search needs
 
 loop-again : tie.Need-loop-again Inv-loop μ-loop
-loop-again c = let at-loop = c .before .before .before .before .before .before .before .before in
-    let call = c .before .before .before .before .before in
-    let l = call .factor-row .ensures in
-    let kept = call .factor-row .kept .0 in (
-      search needs,
-      kept ∙ at-loop .loop .inv .1,
-      done-more (at-loop .loop .inv .2) (omega arith) (l .0) (l .1) (sym (c .before .pivot-good .ensures) ∙ not-false _ (c .if1 .left)),
-    )
+loop-again c = let at-loop = c .before .before .before .before .before .before in
+    let inv = at-loop .loop .inv in
+    let e = c .before .before .before .eliminate .ensures in
+    (search needs, e .size ∙ inv .1, ahead-more (inv .2) e, λ x v h st l. factor-more (inv .2) e (omega arith) x v h st l (inv .3 x v h st l) (not-false _ (c .if1 .left)))
 
 same-length-2 : tie.Need-same-length-2 Inv-loop μ-loop
 same-length-2 c = search needs
 
 returns-2 : tie.Need-returns-2 Inv-loop μ-loop
-returns-2 c = let at-loop = c .before in
-    let a = at-loop .before .before .args in
-    let e : at-loop .loop .r ≡ a .m = omega arith in
-    let d = rw e at (at-loop .loop .inv .2) in (
-      kept-after _ _ _ (at-loop .loop .inv .1) (d .after),
-      λ b h.
-          let done = d .made b (holds-of (a .k) (a .m) (matrix (a .k) b (a .m)) (a .s .now) (omega arith) (shape-matrix (a .k) b (a .m)) h) in
-          (sym (done .1), λ t. of-holds (a .k) (a .m) (rows (a .k) b (a .m)) _ (omega arith) (done .0)),
+returns-2 c = let a = c .before .before .before .args in
+    let at-loop = c .before in
+    let inv = at-loop .loop .inv in
+    let n = a .m * (a .k + 1) in
+    let s = a .s .now in
+    let z : at-loop .loop .r ≡ a .m = omega arith in (
+      kept-after (n + a .m) _ _ (inv .1) (λ (q : ℕ) (h : n + a .m ≤ q). inv .2 .later q (omega arith)),
+      λ x h.
+          let v = take (a .m) (drop n s) in
+          let l : length v ≡ a .m = length-take-le (a .m) (drop n s) (omega (arith, length-drop n s)) in
+          let m = holds-of (a .k) (a .m) (matrix (a .k) x (a .m)) s (omega arith) (shape-matrix (a .k) x (a .m)) h in
+          let d = rw z at (inv .3 x v m (part-stands n (a .m) s) l) in
+          let f = rows (a .k) x (a .m) in
+          (sym (d .firm), λ t. (of-holds (a .k) (a .m) f _ (omega arith) (d .made), stands-part n (a .m) (forward (a .k) f v (a .m)) _ (length-forward (a .k) f v (a .m)) (omega arith) (d .side))),
     )
 
 pub factor-spec : {M : Type 1} → statement M
@@ -88,8 +92,7 @@ factor-spec =
     Inv-loop
     μ-loop
     loop-holds
-    factor-row-requires
-    pivot-good-requires
+    eliminate-requires
     same-length
     returns
     add-r

@@ -3,7 +3,8 @@ use mathlib.Core.Path.{_≡_, refl, sym, ap, _∙_}
 use Prim.Native.Nat.{ℕ, suc, _≤_, _<_, _-_, _+_, _*_}
 use native.Mathlib.Omega.{arith}
 use lib.ListN.{length, length-set}
-use Rattle.banded.proofs.Laws.{within, one-row, Row, row-none, row-more, row-end}
+use Rattle.banded.specs.Run.{Factored}
+use Rattle.banded.proofs.Laws.{within, row-none, row-more}
 use Rattle.banded.proofs.factor_row.Statement.{statement}
 use Rattle.banded.proofs.factor_row.Tie as tie
 use Rattle.banded.proofs.factor_row.Reads as reads
@@ -11,7 +12,7 @@ use Rattle.banded.proofs.factor_row.Lts as lts
 use Rattle.banded.proofs.factor_entry.Reads as factor-entry-reads
 
 abbrev Inv-loop : tie.InvT-loop
-Inv-loop s₀ k r w c₀ s c = (c ≤ k + 1) × (length s ≡ length s₀) × Row k r c s₀ s
+Inv-loop s₀ k r w c₀ s c = (c ≤ k + 1) × (length s ≡ length s₀) × Factored k r c s₀ s
 
 abbrev μ-loop : tie.MeasureT-loop
 μ-loop s₀ k r w c₀ s c = k + 1 - c
@@ -48,7 +49,7 @@ loop-again c = let a = c .before .before .before .before .before .args in
     let j = c .before .before .before .loop .c in (
       search needs,
       simp length-set (search needs),
-      row-more (c .before .before .before .loop .inv .2) (omega arith)
+      row-more _ (c .before .before .before .loop .inv .2) (omega arith) refl
           (within (a .k) (a .r) (a .r) j _ (omega arith) (omega arith) (omega arith)) (c .factor-entry .ensures),
     )
 
@@ -56,10 +57,8 @@ same-length : tie.Need-same-length Inv-loop μ-loop
 same-length c = search needs
 
 returns : tie.Need-returns Inv-loop μ-loop
-returns c = let a = c .before .before .before .args in
-    let w = c .before .loop .inv .2 in
-    let e : c .before .loop .c ≡ a .k + 1 = omega arith in
-    ((λ q h. w .after q (omega (arith, one-row (a .k) (a .r)))), row-end w e)
+returns c = let e : c .before .loop .c ≡ c .before .before .before .args .k + 1 = omega arith in
+    rw e at (c .before .loop .inv .2)
 
 pub factor-row-spec : {M : Type 1} → statement M
 factor-row-spec =

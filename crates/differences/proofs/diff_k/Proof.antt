@@ -1,42 +1,42 @@
-use mathlib.Core.Path.{sym, ap, _∙_}
-use mathlib.Core.List.{List, _++_}
-use Prim.Native.Nat.{ℕ, suc}
-use native.Mathlib.Nat.{sub-zero}
-use native.Mathlib.Numerals.{add-one}
-use lib.Seq.{take-append-le}
-use lib.Ieee.{Float}
-use borrow.Rule.Slice.PartMut.{midOf, postOf, same-len-mid, mid-len}
 use borrow.Author.Needs.{needs}
-use mathlib.Core.Path.{_≡_, refl}
-use Prim.Native.Nat.{_≤_, _-_, _+_}
+use borrow.Rule.Slice.PartMut.{midOf, same-len-mid}
+use mathlib.Core.Path.{_≡_, refl, sym, ap, _∙_}
+use mathlib.Core.List.{List, [], _∷_, _++_, append-nil, append-assoc}
+use Prim.Native.Nat.{ℕ, suc, _≤_, _-_, _+_}
+use native.Mathlib.Numerals.{add-one}
 use native.Mathlib.Omega.{arith}
-use lib.ListN.{length, take}
-use lib.Seq.{take-length}
-use Rattle.vectors.specs.Vec.{Written}
+use lib.ListN.{length, take, drop, drop-of-length-le}
+use lib.Seq.{take-at, drop-at, split-at}
+use lib.Ieee.{Float, nan}
+use Rattle.vectors.specs.Vec.{at, Written}
 use Rattle.vectors.proofs.Laws.{front}
-use Rattle.differences.specs.Diff.{rise, diff, diffK}
+use Rattle.differences.specs.Diff.{rise, diff, diffK, trail}
+use Rattle.differences.proofs.Laws.{length-diffK}
 use Rattle.differences.proofs.diff_k.Statement.{statement}
 use Rattle.differences.proofs.diff_k.Tie as tie
 use Rattle.differences.proofs.diff_k.Reads as reads
 use Rattle.differences.proofs.diff_k.Lts as lts
 use Rattle.differences.proofs.diff_1.Reads as diff-1-reads
 
--- one pass over the part leaves its differences in front
-pass : (part last rest : List Float) (m : ℕ) → Written 0 (length part - 1) (rise part) part last → m ≡ length part - 1 → take m (last ++ rest) ≡ diff part
+-- one pass over the part leaves its differences and its last place
+pass : (part last : List Float) (m : ℕ) → Written 0 (length part - 1) (rise part) part last → length part ≡ suc m → last ≡ diff part ++ (at part m ∷ [])
 unfolding diff
-pass part last rest m w e =
+pass part last m w e =
     let size = w .size in
-    rw (e, take-append-le (length part - 1) last rest (omega arith)) (front w (omega arith))
+    let d : length part - 1 ≡ m = omega arith in
+    let w′ : Written 0 m (rise part) part last = rw d at w in
+    split-at last m nan (omega arith)
+    ∙ rw (front w′ (omega arith), w′ .above m (omega arith), drop-of-length-le last {i = suc m} (omega arith), d)
 
 abbrev Inv-loop : tie.InvT-loop
-Inv-loop v₀ k n j₀ v j = (j ≤ k) × (length v ≡ length v₀) × (take (n - j) v ≡ diffK j v₀)
+Inv-loop v₀ k n j₀ v j = (j ≤ k) × (length v ≡ length v₀) × (v ≡ diffK j v₀ ++ trail j v₀)
 
 abbrev μ-loop : tie.MeasureT-loop
 μ-loop v₀ k n j₀ v j = k - j
 
 loop-holds : tie.Need-loop-holds Inv-loop μ-loop
-unfolding diffK
-loop-holds c = (search needs, search needs, rw (sub-zero, take-length))
+unfolding diffK trail
+loop-holds c = (search needs, search needs, sym (append-nil (c .before .args .v .now)))
 
 sub-e : tie.Need-sub-e Inv-loop μ-loop
 sub-e c = search needs
@@ -60,20 +60,19 @@ loop-less : tie.Need-loop-less Inv-loop μ-loop
 loop-less c = search needs
 
 loop-again : tie.Need-loop-again Inv-loop μ-loop
-unfolding diffK
+unfolding diffK trail
 loop-again c = let call = c .before .before in
     let at-loop = call .before .before .before in
+    let v₀ = at-loop .before .before .args .v .now in
     let v = at-loop .loop .v in
     let j = at-loop .loop .j in
-    let n = length (at-loop .before .before .args .v .now) in
-    let part = midOf 0 (n - j - 0) v in
-    let size : length part ≡ n - j - 0 = mid-len 0 (n - j) v (omega arith) in
-    let e : part ≡ diffK j (at-loop .before .before .args .v .now) = rw sub-zero (at-loop .loop .inv .2) in (
-      search needs,
-      same-len-mid 0 (n - j - 0) v (call .diff-1 .last .0) (call .diff-1 .kept .0) ∙ at-loop .loop .inv .1,
-      rw (add-one, ← e)
-          (pass part (call .diff-1 .last .0) (postOf 0 (n - j - 0) v) (n - suc j) (call .diff-1 .ensures) (omega arith)),
-    )
+    let n = length v₀ in
+    let last = call .diff-1 .last .0 in
+    let size : length (diffK j v₀) ≡ n - j - 0 = length-diffK j v₀ ∙ omega arith in
+    let d : midOf 0 (n - j - 0) v ≡ diffK j v₀ = ap (take (n - j - 0)) (at-loop .loop .inv .2) ∙ take-at (diffK j v₀) (trail j v₀) (n - j - 0) size in
+    let t : drop (n - j - 0) v ≡ trail j v₀ = ap (drop (n - j - 0)) (at-loop .loop .inv .2) ∙ drop-at (diffK j v₀) (trail j v₀) (n - j - 0) size in
+    let p : last ≡ diff (diffK j v₀) ++ (at (diffK j v₀) (n - suc j) ∷ []) = pass (diffK j v₀) last (n - suc j) (rw d at (call .diff-1 .ensures)) (omega arith) in
+    (search needs, same-len-mid 0 (n - j - 0) v last (call .diff-1 .kept .0) ∙ at-loop .loop .inv .1, rw (add-one j, p, t) (append-assoc (diff (diffK j v₀)) (at (diffK j v₀) (n - suc j) ∷ []) (trail j v₀)))
 
 same-length : tie.Need-same-length Inv-loop μ-loop
 same-length c = search needs

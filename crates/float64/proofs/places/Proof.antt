@@ -4,7 +4,7 @@ use Prim.Native.Nat.{ℕ, _≤_, _<_, _+_, _*_, _-_, _^_}
 use native.Mathlib.Nat.{pow-suc}
 use native.Mathlib.Numerals.{add-one}
 use native.Mathlib.Omega.{arith}
-use Rattle.float64.proofs.Turn.{zeros-lt}
+use Rattle.float64.proofs.Newton.{zeros-lt}
 use Rattle.float64.proofs.places.Statement.{statement}
 use Rattle.float64.proofs.places.Tie as tie
 

@@ -5,7 +5,8 @@ use native.Mathlib.Nat.{mod-eq-of-lt}
 use native.Mathlib.Omega.{arith}
 use borrow.Author.Needs.{needs}
 use lib.Ieee.{Float}
-use Rattle.float64.specs.Sqrt.{Bits, nearestRoot}
+use Rattle.float64.specs.Sqrt.{nearestRoot}
+use Rattle.float64.specs.Parts.{Bits}
 use Rattle.float64.proofs.Joined.{small-root, large-root}
 use Rattle.float64.proofs.positive_bits.Statement.{statement}
 use Rattle.float64.proofs.positive_bits.Tie as tie

@@ -3,7 +3,8 @@ use mathlib.Core.Path.{_≡_, sym, subst}
 use Prim.Native.Nat.{ℕ, _+_, _-_, _*_, _/_, _^_}
 use native.Mathlib.Omega.{arith}
 use borrow.Author.Needs.{needs}
-use Rattle.float64.specs.Sqrt.{Bits, nearestRoot}
+use Rattle.float64.specs.Sqrt.{nearestRoot}
+use Rattle.float64.specs.Parts.{Bits}
 use Rattle.float64.proofs.Joined.{joined, even, odd-one}
 use Rattle.float64.proofs.Rounded.{rounded-lt}
 use Rattle.float64.proofs.root_bits.Statement.{statement}

@@ -44,12 +44,12 @@ returns-4 : tie.Need-returns-4
 returns-4 c =
     let s = c .before .before .before .before in
     let x = s .args .x in
-    zero-by-zero ∙ sym (ap sqrtOf (back s) ∙ negative-root (toBits binary64 x) (c .if4 .taken) (toBits-lt binary64 x (subst T (sym (s .good .0 .1)) tt)))
+    zero-by-zero ∙ sym (ap sqrtOf (back s) ∙ negative-root (toBits binary64 x) (omega arith) (toBits-lt binary64 x (subst T (sym (s .good .0 .1)) tt)))
 
 returns-5 : tie.Need-returns-5
 returns-5 c =
     let s = c .before .before .before .before .before in
-    fixed (s .args .x) (toBits binary64 (s .args .x)) (back s) refl (top-root (toBits binary64 (s .args .x)) (c .if5 .taken) (omega arith))
+    fixed (s .args .x) (toBits binary64 (s .args .x)) (back s) refl (top-root (toBits binary64 (s .args .x)) (omega arith) (omega arith))
 
 positive-bits-requires : tie.Need-positive-bits-requires
 positive-bits-requires c κs = search needs

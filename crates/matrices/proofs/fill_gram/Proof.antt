@@ -1,70 +1,51 @@
-use borrow.Author.Needs.{needs}
 use mathlib.Core.Path.{_≡_, refl, sym, ap, _∙_}
-use Prim.Native.Nat.{ℕ, _≤_, _<_, _-_, _+_, _*_, _/_, _%_}
+use Prim.Native.Nat.{ℕ, suc, _≤_, _<_, _-_, _+_, _*_}
 use native.Mathlib.Omega.{arith}
-use native.Mathlib.Nat.{mod-lt, div-le-self}
-use lib.ListN.{length, take, drop}
-use Rattle.vectors.specs.Vec.{at, list, Written}
-use Rattle.vectors.proofs.Laws.{none, up, front}
-use Rattle.banded.proofs.Laws.{filled, kept-after}
+use lib.ListN.{length}
+use Rattle.banded.proofs.Laws.{rows-fit}
 use Rattle.matrices.specs.Gram.{gram}
+use Rattle.matrices.proofs.Filling.{Laid, laid-none, laid-more, laid-done}
+use borrow.Author.Needs.{needs}
 use Rattle.matrices.proofs.fill_gram.Statement.{statement}
 use Rattle.matrices.proofs.fill_gram.Tie as tie
 use Rattle.matrices.proofs.fill_gram.Reads as reads
 use Rattle.matrices.proofs.fill_gram.Lts as lts
-use Rattle.matrices.proofs.gram_at.Reads as gram-at-reads
+use Rattle.matrices.proofs.gram_row.Reads as gram-row-reads
 
 abbrev Inv-loop : tie.InvT-loop
-Inv-loop s₀ g k m w n p₀ s p = (p ≤ m * (k + 1)) × Written 0 p (λ j. gram k g (j / (k + 1)) (j % (k + 1))) s₀ s
+Inv-loop s₀ g k m r₀ s r = (r ≤ m) × Laid k r (gram k g) s₀ s
 
 abbrev μ-loop : tie.MeasureT-loop
-μ-loop s₀ g k m w n p₀ s p = m * (k + 1) - p
-
-add-w : tie.Need-add-w Inv-loop μ-loop
-add-w c = search needs
-
-mul-n : tie.Need-mul-n Inv-loop μ-loop
-mul-n c = search needs
+μ-loop s₀ g k m r₀ s r = m - r
 
 loop-holds : tie.Need-loop-holds Inv-loop μ-loop
-loop-holds c = (search needs, none)
+loop-holds c = let a = c .before .args in
+    (search needs, laid-none (a .k) (gram (a .k) (a .g)) (a .s .now))
 
-div-gram-at : tie.Need-div-gram-at Inv-loop μ-loop
-div-gram-at c = search needs
+gram-row-requires : tie.Need-gram-row-requires Inv-loop μ-loop
+gram-row-requires c κs = let a = c .before .before .before .before .args in
+    let l = c .before .before .loop in
+    let size = l .inv .1 .kept .size in
+    (omega arith, rows-fit (a .k) (l .r) (a .m) _ (omega arith) (omega arith))
 
-rem-gram-at : tie.Need-rem-gram-at Inv-loop μ-loop
-rem-gram-at c = search needs
-
-gram-at-requires : tie.Need-gram-at-requires Inv-loop μ-loop
-gram-at-requires c κs = let a = c .before .before .before .args in
-    let p = c .before .loop .p in
-    let w = a .k + 1 in
-    (omega arith, (omega (arith, mod-lt p {m = w} (omega arith)), omega (arith, mod-lt p {m = w} (omega arith), div-le-self p w)))
-
-mul-s : tie.Need-mul-s Inv-loop μ-loop
-mul-s c = search needs
-
-slice-write-s : tie.Need-slice-write-s Inv-loop μ-loop
-slice-write-s c = search needs
-
-add-p : tie.Need-add-p Inv-loop μ-loop
-add-p c = search needs
+add-r : tie.Need-add-r Inv-loop μ-loop
+add-r c = search needs
 
 loop-less : tie.Need-loop-less Inv-loop μ-loop
 loop-less c = search needs
 
 loop-again : tie.Need-loop-again Inv-loop μ-loop
-loop-again c = (search needs, up (c .before .before .loop .inv .1) (omega arith) (omega arith) (c .gram-at .ensures))
+loop-again c = (search needs, laid-more (c .before .before .before .before .before .loop .inv .1) (c .before .before .gram-row .ensures))
 
 same-length : tie.Need-same-length Inv-loop μ-loop
-same-length c = search needs
+same-length c = c .before .loop .inv .1 .kept .size
 
 returns : tie.Need-returns Inv-loop μ-loop
 returns c = let a = c .before .before .before .args in
-    let e : c .before .loop .p ≡ a .m * (a .k + 1) = omega arith in
+    let e : c .before .loop .r ≡ a .m = omega arith in
     let w = rw e at (c .before .loop .inv .1) in
-    let size = w .size in
-    (filled (a .k) (a .m) (gram (a .k) (a .g)) _ (omega arith) (λ q h. w .inside q (omega arith) h), kept-after (a .m * (a .k + 1)) _ _ size (w .above))
+    let size = w .kept .size in
+    laid-done w (omega arith)
 
 pub fill-gram-spec : {M : Type 1} → statement M
 fill-gram-spec =
@@ -72,15 +53,9 @@ fill-gram-spec =
     (tie.spec
     Inv-loop
     μ-loop
-    add-w
-    mul-n
     loop-holds
-    div-gram-at
-    rem-gram-at
-    gram-at-requires
-    mul-s
-    slice-write-s
-    add-p
+    gram-row-requires
+    add-r
     loop-less
     loop-again
     same-length

@@ -1,5 +1,5 @@
 use mathlib.Core.Path.{_≡_, refl, sym, ap, _∙_}
-use Prim.Native.Nat.{ℕ, _+_, _-_, _*_}
+use Prim.Native.Nat.{ℕ, _≤_, _<_, _-_, _+_, _*_}
 use native.Mathlib.Omega.{arith}
 use Rattle.vectors.specs.Sums.{maxAbs}
 use Rattle.matrices.specs.Gram.{lamMax}
@@ -8,11 +8,8 @@ use Rattle.matrices.proofs.prepare.Statement.{statement}
 use Rattle.matrices.proofs.prepare.Tie as tie
 use Rattle.matrices.proofs.prepare.Reads as reads
 use Rattle.matrices.proofs.prepare.Lts as lts
-use Rattle.vectors.proofs.max_abs.Reads as max-abs-reads
 use Rattle.matrices.proofs.star.Reads as star-reads
-
-span : (a n : ℕ) → a + n - a ≡ n
-span a n = omega arith
+use Rattle.vectors.proofs.max_abs.Reads as max-abs-reads
 
 star-requires : tie.Need-star-requires
 star-requires c κs = search needs
@@ -48,7 +45,9 @@ returns : tie.Need-returns
 unfolding lamMax
 returns c = let a = c .before .before .before .before .before .before .before .before .before .args in
     let q = c .before .before .before .before .before .star .ensures in
-    (q .0, λ t. ((rw (span (a .m * (a .k + 1)) (a .m)) at (c .max-abs .ensures)) ∙ ap maxAbs (q .1 t .1), q .1 t))
+    let b = a .m * (a .k + 1) in
+    let sp : b + a .m - b ≡ a .m = omega arith in
+    (q .0, (q .1 .0, λ t. ((rw sp at (c .max-abs .ensures)) ∙ ap maxAbs (q .1 .1 t .1), q .1 .1 t)))
 
 pub prepare-spec : {M : Type 1} → statement M
 prepare-spec =

@@ -1,24 +1,16 @@
 use borrow.Author.Needs.{needs}
 use mathlib.Core.Path.{_≡_, refl, sym, ap, _∙_}
-use mathlib.Core.List.{List}
 use mathlib.Core.Bool.{true, false}
-use Prim.Native.Nat.{ℕ, suc, _≤_, _<_, _-_, _+_, _*_}
+use Prim.Native.Nat.{_-_, _+_, _*_}
 use native.Mathlib.Omega.{arith}
-use native.Mathlib.Nat.{add-zero}
-use lib.ListN.{length}
-use lib.Ieee.{Float, binary64, add, mul}
-use Rattle.newton.specs.Newton.{Dual, inside, lower, norm}
-use Rattle.vectors.specs.Vec.{part, Kept}
+use Rattle.newton.specs.Newton.{Dual, lower, norm}
+use Rattle.vectors.specs.Sums.{inside}
+use Rattle.vectors.specs.Vec.{part}
 use Rattle.newton.specs.Places.{point}
 use Rattle.vectors.proofs.Parts.{range-part}
 use Rattle.newton.proofs.Lines.{point-range, accept-yes, accept-no}
 use Rattle.newton.proofs.attempt.Statement.{statement}
 use Rattle.newton.proofs.attempt.Tie as tie
-use Rattle.newton.proofs.attempt.Reads as reads
-use Rattle.newton.proofs.attempt.Lts as lts
-use Rattle.newton.proofs.inside.Reads as inside-reads
-use Rattle.newton.proofs.low_enough.Reads as low-enough-reads
-use Rattle.newton.proofs.move_to.Reads as move-to-reads
 
 mul-c : tie.Need-mul-c
 mul-c c = search needs
@@ -70,11 +62,18 @@ returns c = let a = c .before .before .before .before .before .before .before .b
     let v = c .before .before .before .before .before .before .before .before .before .move-to .ensures in
     let s = c .before .before .before .before .before .before .before .before .before .move-to .last .0 in
     let q : true ≡ inside (a .lam) (part (3 * a .m) (a .m) s) =
-        sym (c .before .before .before .if1 .taken) ∙ c .before .before .before .before .inside .ensures ∙ ap (inside (a .lam)) (range-part (3 * a .m) (3 * a .m + a .m) (a .m) s refl (omega (arith, v .1 .size))) in
-    (v .0, (v .1, (q,
-      accept-yes (a .k) (a .g) (a .dy .now) (a .lam) (a .u) (a .old) (a .step) (point (3 * a .m) (a .m) s) (c .low-enough .result) q
-      (c .low-enough .ensures
-      ∙ ap (λ (p : Dual). lower (norm (a .k) (a .g) (a .dy .now) (a .lam) (a .u) p) (a .step) (a .old)) (point-range (a .m) (3 * a .m) (3 * a .m + 3 * a .m) s refl refl (omega (arith, v .1 .size)))))))
+    sym (c .before .before .before .if1 .taken) ∙ c .before .before .before .before .inside .ensures ∙ ap (inside (a .lam)) (range-part (3 * a .m) (3 * a .m + a .m) (a .m) s refl (omega (arith, v .1 .size))) in (
+      v .0,
+      (
+        v .1,
+        (
+          q,
+          accept-yes (a .k) (a .g) (a .dy .now) (a .lam) (a .u) (a .old) (a .step) (point (3 * a .m) (a .m) s) (c .low-enough .result) q
+              (c .low-enough .ensures
+              ∙ ap (λ (p : Dual). lower (norm (a .k) (a .g) (a .dy .now) (a .lam) (a .u) p) (a .step) (a .old)) (point-range (a .m) (3 * a .m) (3 * a .m + 3 * a .m) s refl refl (omega (arith, v .1 .size)))),
+        ),
+      ),
+    )
 
 same-length-2 : tie.Need-same-length-2
 same-length-2 c = search needs
@@ -84,7 +83,7 @@ returns-2 c = let a = c .before .before .before .before .before .before .before 
     let v = c .before .before .before .before .before .before .move-to .ensures in
     let s = c .before .before .before .before .before .before .move-to .last .0 in
     let q : false ≡ inside (a .lam) (part (3 * a .m) (a .m) s) =
-        sym (c .if1 .left) ∙ c .before .inside .ensures ∙ ap (inside (a .lam)) (range-part (3 * a .m) (3 * a .m + a .m) (a .m) s refl (omega (arith, v .1 .size))) in
+    sym (c .if1 .left) ∙ c .before .inside .ensures ∙ ap (inside (a .lam)) (range-part (3 * a .m) (3 * a .m + a .m) (a .m) s refl (omega (arith, v .1 .size))) in
     (v .0, (v .1, (q, accept-no (a .k) (a .g) (a .dy .now) (a .lam) (a .u) (a .old) (a .step) (point (3 * a .m) (a .m) s) q)))
 
 pub attempt-spec : {M : Type 1} → statement M

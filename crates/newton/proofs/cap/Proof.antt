@@ -1,30 +1,24 @@
 use borrow.Author.Needs.{needs}
-use mathlib.Core.Path.{_≡_, refl, sym, ap, _∙_}
-use Prim.Native.Nat.{ℕ, suc, _≤_, _<_, _-_, _+_, _*_}
+use mathlib.Core.Path.{_≡_, refl, _∙_}
+use Prim.Native.Nat.{_≤_, _-_}
 use native.Mathlib.Omega.{arith}
-use lib.ListN.{length}
-use lib.Ieee.{binary64, add, mul}
-use Rattle.vectors.specs.Vec.{at, Written}
-use Rattle.vectors.proofs.Laws.{none, up}
-use Rattle.newton.specs.Newton.{capTo, insideTo, along}
-use Rattle.vectors.specs.Vec.{part, Kept}
+use mathlib.Core.Bool.{false}
+use lib.Ieee.{isNan}
+use Rattle.newton.specs.Newton.{capTo}
 use Rattle.newton.specs.Places.{point}
-use Rattle.newton.proofs.Laws.{cap-more, inside-more, stepped-part}
+use Rattle.newton.proofs.Laws.{cap-more, one-number}
 use Rattle.newton.proofs.cap.Statement.{statement}
 use Rattle.newton.proofs.cap.Tie as tie
-use Rattle.newton.proofs.cap.Reads as reads
-use Rattle.newton.proofs.cap.Lts as lts
-use Rattle.newton.proofs.cap_of.Reads as cap-of-reads
 
 abbrev Inv-loop : tie.InvT-loop
-Inv-loop s b m step₀ i₀ step i = (i ≤ m) × (step ≡ capTo (point 0 m s) (point b m s) i)
+Inv-loop s b m step₀ i₀ step i = (i ≤ m) × ((step ≡ capTo (point 0 m s) (point b m s) i) × (isNan step ≡ false))
 
 abbrev μ-loop : tie.MeasureT-loop
 μ-loop s b m step₀ i₀ step i = m - i
 
 loop-holds : tie.Need-loop-holds Inv-loop μ-loop
 unfolding capTo
-loop-holds c = (search needs, refl)
+loop-holds c = (search needs, (refl, one-number))
 
 add-cap-of : tie.Need-add-cap-of Inv-loop μ-loop
 add-cap-of c = search needs
@@ -90,13 +84,13 @@ loop-again : tie.Need-loop-again Inv-loop μ-loop
 loop-again c = let l = c .before .before .before .before .before .before .before .loop in
     let a = c .before .before .before .before .before .before .before .before .before .args in (
       search needs,
-      c .cap-of2 .ensures ∙ cap-more (a .b) (a .m) (a .s .now) (l .i) (l .step) (c .before .before .before .cap-of .result) (omega arith) (l .inv .1) (c .before .before .before .cap-of .ensures)
+      (c .cap-of2 .ensures .0 ∙ cap-more (a .b) (a .m) (a .s .now) (l .i) (l .step) (c .before .before .before .cap-of .result) (omega arith) (l .inv .1 .0) (c .before .before .before .cap-of .ensures .0), c .cap-of2 .ensures .1),
     )
 
 returns : tie.Need-returns Inv-loop μ-loop
 returns c = let l = c .before .loop in
     let e : l .i ≡ c .before .before .before .args .m = omega arith in
-    l .inv .1 ∙ rw e
+    l .inv .1 .0 ∙ rw e
 
 pub cap-spec : {M : Type 1} → statement M
 cap-spec =

@@ -1,22 +1,26 @@
-use mathlib.Core.Path.{_≡_, refl}
+use Rattle.float64.specs.Helpers.{minOf}
 use Rattle.newton.specs.Newton.{capped}
-use borrow.Author.Needs.{needs}
+use Rattle.newton.proofs.Laws.{less-number}
 use Rattle.newton.proofs.cap_of.Statement.{statement}
 use Rattle.newton.proofs.cap_of.Tie as tie
-use Rattle.newton.proofs.cap_of.Reads as reads
-use Rattle.newton.proofs.cap_of.Lts as lts
-use Rattle.float64.proofs.min.Reads as min-reads
-
-min-requires : tie.Need-min-requires
-min-requires c κs = search needs
 
 returns : tie.Need-returns
-unfolding capped
-returns c = simp (c .before .if1 .taken, c .min .ensures)
+unfolding capped minOf
+returns c = let p = c .before .before .pre in
+    let f = c .before .if1 .taken in
+    let g = c .if2 .taken in
+    (rw (f, p, g), less-number _ _ g)
 
 returns-2 : tie.Need-returns-2
+unfolding capped minOf
+returns-2 c = let p = c .before .before .pre in
+    let f = c .before .if1 .taken in
+    let g = c .if2 .left in
+    (rw (f, p, g), p)
+
+returns-3 : tie.Need-returns-3
 unfolding capped
-returns-2 c = simp (c .if1 .left)
+returns-3 c = (rw (c .if1 .left), c .before .pre)
 
 pub cap-of-spec : {M : Type 1} → statement M
-cap-of-spec = tie.close (tie.spec min-requires returns returns-2)
+cap-of-spec = tie.close (tie.spec returns returns-2 returns-3)

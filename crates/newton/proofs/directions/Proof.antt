@@ -1,19 +1,12 @@
-use mathlib.Core.Path.{_≡_, refl, sym, ap, _∙_}
+use mathlib.Core.Path.{_∙_}
 use Prim.Native.Nat.{_+_}
 use native.Mathlib.Omega.{arith}
-use Rattle.newton.specs.Newton.{capTo, direction}
-use Rattle.vectors.specs.Vec.{part, Kept}
-use Rattle.newton.specs.Places.{point}
+use Rattle.newton.specs.Newton.{capTo}
 use Rattle.vectors.proofs.Laws.{kept-then}
 use Rattle.newton.proofs.Lines.{directed, point-below}
 use borrow.Author.Needs.{needs}
 use Rattle.newton.proofs.directions.Statement.{statement}
 use Rattle.newton.proofs.directions.Tie as tie
-use Rattle.newton.proofs.directions.Reads as reads
-use Rattle.newton.proofs.directions.Lts as lts
-use Rattle.newton.proofs.cap.Reads as cap-reads
-use Rattle.newton.proofs.fill_dmu1.Reads as fill-dmu1-reads
-use Rattle.newton.proofs.fill_dmu2.Reads as fill-dmu2-reads
 
 fill-dmu1-requires : tie.Need-fill-dmu1-requires
 fill-dmu1-requires c κs = search needs

@@ -1,21 +1,14 @@
 use borrow.Author.Needs.{needs}
-use mathlib.Core.Path.{_≡_, refl, sym, ap, _∙_}
-use mathlib.Core.List.{List}
+use mathlib.Core.Path.{_≡_, sym, _∙_}
 use mathlib.Core.Bool.{true, false}
-use Prim.Native.Nat.{ℕ, suc, _≤_, _<_, _-_, _+_, _*_}
+use Prim.Native.Nat.{_-_, _*_}
 use native.Mathlib.Omega.{arith}
-use native.Mathlib.Nat.{add-zero}
-use lib.ListN.{length}
-use lib.Ieee.{Float, binary64, add, mul}
-use Rattle.newton.specs.Newton.{inside, accepted}
-use Rattle.vectors.specs.Vec.{part, Kept}
-use Rattle.newton.specs.Places.{point, Searched}
+use Rattle.newton.specs.Newton.{accepted}
+use Rattle.vectors.specs.Sums.{inside}
+use Rattle.newton.specs.Places.{point}
 use Rattle.newton.proofs.Lines.{Searching, begins, goes, stops, exhausted, accepted-inside}
 use Rattle.newton.proofs.line_search.Statement.{statement}
 use Rattle.newton.proofs.line_search.Tie as tie
-use Rattle.newton.proofs.line_search.Reads as reads
-use Rattle.newton.proofs.line_search.Lts as lts
-use Rattle.newton.proofs.attempt.Reads as attempt-reads
 
 abbrev Inv-loop : tie.InvT-loop
 Inv-loop s₀ b dy lam u g k m cap old step₀ last₀ i₀ s step last i = Searching k g dy lam u m b cap old s₀ s step last i

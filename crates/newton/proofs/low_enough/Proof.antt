@@ -1,19 +1,8 @@
 use borrow.Author.Needs.{needs}
-use mathlib.Core.Path.{_≡_, refl, sym, ap, _∙_}
-use mathlib.Core.List.{List}
-use mathlib.Core.Bool.{true, false}
-use Prim.Native.Nat.{ℕ, suc, _≤_, _<_, _-_, _+_, _*_}
-use native.Mathlib.Omega.{arith}
-use native.Mathlib.Nat.{add-zero}
-use lib.ListN.{length}
-use lib.Ieee.{Float, binary64, add, mul}
-use Rattle.newton.specs.Newton.{norm, lower}
+use Prim.Native.Nat.{_-_}
+use Rattle.newton.specs.Newton.{norm}
 use Rattle.newton.proofs.low_enough.Statement.{statement}
 use Rattle.newton.proofs.low_enough.Tie as tie
-use Rattle.newton.proofs.low_enough.Reads as reads
-use Rattle.newton.proofs.low_enough.Lts as lts
-use Rattle.float64.proofs.sqrt.Reads as sqrt-reads
-use Rattle.newton.proofs.residual.Reads as residual-reads
 
 residual-requires : tie.Need-residual-requires
 residual-requires c κs = search needs

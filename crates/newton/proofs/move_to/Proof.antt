@@ -1,20 +1,13 @@
 use borrow.Author.Needs.{needs}
-use mathlib.Core.Path.{_≡_, refl, sym, ap, _∙_}
-use Prim.Native.Nat.{ℕ, suc, _≤_, _<_, _-_, _+_, _*_}
+use mathlib.Core.Path.{_≡_}
+use Prim.Native.Nat.{_≤_, _-_, _+_, _*_}
 use native.Mathlib.Omega.{arith}
-use native.Mathlib.Nat.{add-zero, add-sub-cancel-left}
-use lib.ListN.{length}
-use lib.Ieee.{binary64, add, mul}
+use native.Mathlib.Nat.{add-zero}
 use Rattle.vectors.specs.Vec.{at, Written}
-use Rattle.vectors.proofs.Laws.{none, up}
-use Rattle.newton.specs.Newton.{capTo, insideTo, along}
-use Rattle.vectors.specs.Vec.{part, Kept}
-use Rattle.newton.specs.Places.{point}
+use Rattle.vectors.proofs.Laws.{none}
 use Rattle.newton.proofs.Laws.{moving, move-more, move-done}
 use Rattle.newton.proofs.move_to.Statement.{statement}
 use Rattle.newton.proofs.move_to.Tie as tie
-use Rattle.newton.proofs.move_to.Reads as reads
-use Rattle.newton.proofs.move_to.Lts as lts
 
 abbrev Inv-loop : tie.InvT-loop
 Inv-loop s₀ b step m c i₀ s i = (i ≤ c) × Written c (c + i) (moving c b step s₀) s₀ s

@@ -1,27 +1,18 @@
 use borrow.Author.Needs.{needs}
-use mathlib.Core.Path.{_≡_, refl, sym, ap, _∙_}
-use Prim.Native.Nat.{ℕ, suc, _≤_, _<_, _-_, _+_}
+use mathlib.Core.Path.{_≡_, refl, ap, _∙_}
+use Prim.Native.Nat.{_≤_, _-_}
 use native.Mathlib.Omega.{arith}
-use native.Mathlib.Numerals.{add-one}
 use mathlib.Core.List.{List}
 use lib.Ieee.{Float}
 use Rattle.matrices.specs.Gram.{product}
-use lib.ListN.{length}
 use Rattle.vectors.specs.Sums.{sumTo}
-use Rattle.vectors.specs.Vec.{at}
-use Rattle.vectors.proofs.Laws.{length-list}
 use Rattle.newton.specs.Newton.{squareOf, squares}
-use Rattle.vectors.specs.Vec.{part}
 use Rattle.newton.specs.Places.{point}
 use Rattle.vectors.proofs.Parts.{length-part, range-part}
 use Rattle.vectors.proofs.Sums.{sum-more}
 use Rattle.newton.proofs.Laws.{square-place}
 use Rattle.newton.proofs.residual.Statement.{statement}
 use Rattle.newton.proofs.residual.Tie as tie
-use Rattle.newton.proofs.residual.Reads as reads
-use Rattle.newton.proofs.residual.Lts as lts
-use Rattle.newton.proofs.residual_of.Reads as residual-of-reads
-use Rattle.matrices.proofs.product.Reads as product-reads
 
 abbrev Inv-loop : tie.InvT-loop
 Inv-loop s dy lam u g k m a₀ i₀ a i = (i ≤ m) × (a ≡ sumTo (squareOf k g dy lam u (point 0 m s)) i)
@@ -90,11 +81,12 @@ loop-less c = search needs
 loop-again : tie.Need-loop-again Inv-loop μ-loop
 loop-again c = let l = c .before .before .before .before .before .before .before .before .loop in
     let a = c .before .before .before .before .before .before .before .before .before .before .before .args in
-    let r = a .s .now in
-    (search needs,
+    let r = a .s .now in (
+      search needs,
       sum-more (squareOf (a .k) (a .g) (a .dy .now) (a .lam) (a .u) (point 0 (a .m) r)) (l .i) (l .a) (c .residual-of .result) (l .inv .1)
-      (c .residual-of .ensures ∙ square-place (a .k) (a .g) (a .dy .now) (a .lam) (a .u) (a .m) r (l .i) (c .before .before .before .before .before .product .result) (omega arith)
-        (c .before .before .before .before .before .product .ensures ∙ ap (λ (v : List Float). product (a .k) (a .g) v (l .i)) (range-part 0 (a .m) (a .m) r (omega arith) (omega arith)))))
+          (c .residual-of .ensures ∙ square-place (a .k) (a .g) (a .dy .now) (a .lam) (a .u) (a .m) r (l .i) (c .before .before .before .before .before .product .result) (omega arith)
+          (c .before .before .before .before .before .product .ensures ∙ ap (λ (v : List Float). product (a .k) (a .g) v (l .i)) (range-part 0 (a .m) (a .m) r (omega arith) (omega arith)))),
+    )
 
 returns : tie.Need-returns Inv-loop μ-loop
 unfolding squares

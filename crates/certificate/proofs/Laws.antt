@@ -1,0 +1,134 @@
+-- Laws of the certificate: the places of its vectors, D' by reads that go beyond the ends, and a point inside the bounds. Assumes nothing.
+use mathlib.Core.Path.{_≡_, refl, sym, ap, ap₂, _∙_}
+use mathlib.Core.Bool.{Bool, true, false, cond}
+use mathlib.Core.List.{List}
+use Prim.Native.Nat.{ℕ, zero, suc, _+_, _-_, _*_, _≤_, _<_, min}
+use native.Mathlib.Omega.{arith}
+use borrow.Author.Tests.{lt-ltb, le-ltb, ltb-true}
+use lib.Dec.{ltb}
+use lib.ListN.{length, take, drop, length-take}
+use lib.Seq.{getD-take}
+use lib.Ieee.{Float, nan, inf, fin, lt, neg, below, up, down}
+use Rattle.float64.specs.Ops.{_⊕_, _⊖_, _⊗_, c0, half}
+use Rattle.float64.specs.Helpers.{absOf, clampOf}
+use Rattle.vectors.specs.Vec.{at, list, part, Written}
+use Rattle.vectors.specs.Sums.{sumTo, norm2Sq, dot, sumAbs, inside}
+use Rattle.vectors.proofs.Laws.{length-list, at-list, list-ext, list-is, cond-cong}
+use Rattle.vectors.proofs.Parts.{partOf-ext, range-part, length-part, part-above}
+use Rattle.vectors.proofs.Sums.{sum-ext, inside-at}
+use Rattle.differences.specs.Diff.{before, here, fall, diffK, diffKT}
+use Rattle.differences.proofs.Laws.{at-fall-1, at-fall-2}
+use Rattle.certificate.specs.Certificate.{minus, clamped, certify}
+use Rattle.certificate.specs.Run.{dualOf, Trend, Certified}
+
+-- ---- the places
+
+pub length-minus : (a b : List Float) → length (minus a b) ≡ length a
+unfolding minus
+length-minus a b = length-list (length a) (λ i. at a i ⊖ at b i)
+
+pub at-minus : (a b : List Float) (i : ℕ) → i < length a → at (minus a b) i ≡ at a i ⊖ at b i
+unfolding minus
+at-minus a b i h = at-list (length a) (λ i. at a i ⊖ at b i) i h
+
+pub length-clamped : (lam : Float) (z : List Float) → length (clamped lam z) ≡ length z
+unfolding clamped
+length-clamped lam z = length-list (length z) (λ i. clampOf (at z i) lam)
+
+pub at-clamped : (lam : Float) (z : List Float) (i : ℕ) → i < length z → at (clamped lam z) i ≡ clampOf (at z i) lam
+unfolding clamped
+at-clamped lam z i h = at-list (length z) (λ i. clampOf (at z i) lam) i h
+
+-- only as many places of b are read as a has
+pub dot-take : (a b c : List Float) (m : ℕ) → length a ≡ m → take m b ≡ c → dot a b ≡ dot a c
+unfolding dot
+dot-take a b c m e h =
+    sum-ext (λ i. at a i ⊗ at b i) (λ i. at a i ⊗ at c i) (length a)
+    (λ j l. ap (λ (x : Float). at a j ⊗ x) (sym (getD-take m b j nan (omega arith)) ∙ ap (λ (v : List Float). at v j) h))
+
+-- the dual point stays while the trend before it is written
+pub behind : (n m j : ℕ) (f : ℕ → Float) (s₀ s : List Float) → Written 0 j f s₀ s → j ≤ n → n + m ≤ length s
+    → take (n + m - n) (drop n s) ≡ part n m s₀
+behind n m j f s₀ s w h l = range-part n (n + m) m s refl l ∙ partOf-ext nan n n m s s₀ (λ q _. w .above (n + q) (omega arith))
+
+-- ---- place j - 1 of a series of m places, 0 beyond either end
+
+pub edge-in : (m : ℕ) (w : ℕ → Float) (j : ℕ) → 0 < j → j ≤ m → before (here m w) j ≡ w (j - 1)
+edge-in m w j a b = rw (lt-ltb 0 j a, lt-ltb (j - 1) m (omega arith))
+
+pub edge-past : (m : ℕ) (w : ℕ → Float) (j : ℕ) → m < j → before (here m w) j ≡ c0
+edge-past m w j a = rw (lt-ltb 0 j (omega arith), le-ltb (j - 1) m (omega arith))
+
+pub fall-edges : (m : ℕ) (w : ℕ → Float) (j : ℕ) → j ≤ m → fall m w j ≡ before (here m w) j ⊖ before (here m w) (j + 1)
+fall-edges m w j h =
+    let p : before w j ≡ before (here m w) j =
+    cond-cong (ltb 0 j) (w (j - 1)) (here m w (j - 1)) c0 (λ t. let l = ltb-true 0 j t in sym (rw (lt-ltb (j - 1) m (omega arith)))) in
+    let d : j + 1 - 1 ≡ j = omega arith in
+    let q : here m w j ≡ before (here m w) (j + 1) = rw (lt-ltb 0 (j + 1) (omega arith), d) in
+    ap₂ (λ (x y : Float). x ⊖ y) p q
+
+-- place j of D' by such reads, for order 1 and 2
+pub edges-1 : (v : List Float) (m j : ℕ) → length v ≡ m → j < m + 1 → at (diffKT 1 v) j ≡ before (here m (at v)) j ⊖ before (here m (at v)) (j + 1)
+edges-1 v m j e h = at-fall-1 v j (omega arith) ∙ rw e (fall-edges m (at v) j (omega arith))
+
+pub edges-2 : (v : List Float) (m j : ℕ) → length v ≡ m → j < m + 2
+    → at (diffKT 2 v) j ≡ before (here (m + 1) (fall m (at v))) j ⊖ before (here (m + 1) (fall m (at v))) (j + 1)
+edges-2 v m j e h = at-fall-2 v j (omega arith) ∙ rw e (fall-edges (m + 1) (fall m (at v)) j (omega arith))
+
+-- ---- a point inside the bounds is its own clamped point
+
+no : false ≡ true → ⊥
+no e = let z : _≡_ {A = ℕ} 0 1 = cc in omega arith
+
+under : (s : Bool) (a b : ℕ) → ltb a b ≡ true → (below s a true b ≡ false) × (below false b s a ≡ false)
+under true a b h = (le-ltb b a (omega (arith, ltb-true a b h)), refl)
+under false a b h = (refl, le-ltb b a (omega (arith, ltb-true a b h)))
+
+pub clamp-inside : (z lam : Float) → lt (absOf z) lam ≡ true → clampOf z lam ≡ z
+unfolding lt absOf clampOf neg
+clamp-inside nan lam h = absurd (no h)
+clamp-inside (inf s) nan h = absurd (no h)
+clamp-inside (inf s) (inf t) h = absurd (no h)
+clamp-inside (inf s) (fin t n d) h = absurd (no h)
+clamp-inside (fin s m e) nan h = absurd (no h)
+clamp-inside (fin s m e) (inf true) h = absurd (no h)
+clamp-inside (fin s m e) (inf false) h = refl
+clamp-inside (fin s m e) (fin true n d) h = absurd (no h)
+clamp-inside (fin s m e) (fin false n d) h =
+    let u = under s (m * up e * down d) (n * up d * down e) h in
+    rw (u .0, u .1)
+
+pub clamped-inside : (lam : Float) (z : List Float) → inside lam z ≡ true → clamped lam z ≡ z
+unfolding clamped
+clamped-inside lam z h =
+    list-ext (length z) (λ i. clampOf (at z i) lam) (at z) (λ i l. clamp-inside (at z i) lam (inside-at lam z (length z) i h l)) ∙ sym (list-is nan z)
+
+-- ---- the whole certificate
+
+-- a vector whose first m places are c has m places
+pub room : (b c : List Float) (m : ℕ) → take m b ≡ c → length c ≡ m → m ≤ length b
+room b c m e h = let l : min m (length b) ≡ m = sym (length-take m b) ∙ ap length e ∙ h in omega arith
+
+module _ (k : ℕ) (y s₀ s : List Float) (a : Float) (t : Trend k y s₀ s a) (fits : length y + (length y - k) ≤ length s₀) where
+  -- the dual point after the trend, as it was
+  pub dual-part : take (length y + (length y - k) - length y) (drop (length y) s) ≡ dualOf k y s₀
+  dual-part =
+      let size = t .kept .size in
+      range-part (length y) (length y + (length y - k)) (length y - k) s refl (omega arith) ∙ part-above nan (length y) (length y - k) (t .kept) (omega arith)
+
+  pub squares-part : a ≡ norm2Sq (diffKT k (take (length y + (length y - k) - length y) (drop (length y) s)))
+  squares-part = t .squared ∙ ap (λ (v : List Float). norm2Sq (diffKT k v)) (sym dual-part)
+
+  pub certified : (lam : Float) (dy : List Float) (j g : Float) → j ≡ sumAbs (diffK k (part 0 (length y) s)) → take (length y - k) dy ≡ diffK k y
+      → (z : List Float) → z ≡ dualOf k y s₀ → g ≡ neg half ⊗ norm2Sq (diffKT k (clamped lam z)) ⊕ dot (clamped lam z) dy
+      → Certified k y lam s₀ s (half ⊗ a ⊕ lam ⊗ j) g
+  unfolding certify
+  certified lam dy j g p q z e r =
+      let zc = clamped lam (dualOf k y s₀) in
+      let l : length zc ≡ length y - k = length-clamped lam (dualOf k y s₀) ∙ length-part (length y) (length y - k) s₀ in
+      record {
+        trend = t .trend;
+        primal-is = ap₂ (λ (u v : Float). half ⊗ u ⊕ lam ⊗ v) (t .squared) (p ∙ ap (λ (v : List Float). sumAbs (diffK k v)) (t .trend));
+        dual-is = (rw e at r) ∙ ap (λ (v : Float). neg half ⊗ norm2Sq (diffKT k zc) ⊕ v) (dot-take zc dy (diffK k y) (length y - k) l q);
+        kept = t .kept;
+      }

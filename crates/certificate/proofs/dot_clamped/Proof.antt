@@ -1,0 +1,78 @@
+use mathlib.Core.Path.{_≡_, refl, sym, ap, _∙_}
+use Prim.Native.Nat.{ℕ, _≤_, _-_, _+_}
+use native.Mathlib.Omega.{arith}
+use lib.ListN.{length}
+use lib.Ieee.{Float}
+use Rattle.float64.specs.Ops.{_⊗_}
+use Rattle.vectors.specs.Vec.{at}
+use Rattle.vectors.specs.Sums.{sumTo, dot}
+use Rattle.vectors.proofs.Sums.{sum-more}
+use Rattle.certificate.specs.Certificate.{clamped}
+use Rattle.certificate.proofs.Laws.{length-clamped, at-clamped}
+use borrow.Author.Needs.{needs}
+use Rattle.certificate.proofs.dot_clamped.Statement.{statement}
+use Rattle.certificate.proofs.dot_clamped.Tie as tie
+use Rattle.certificate.proofs.dot_clamped.Reads as reads
+use Rattle.certificate.proofs.dot_clamped.Lts as lts
+use Rattle.float64.proofs.clamp.Reads as clamp-reads
+
+abbrev Inv-loop : tie.InvT-loop
+Inv-loop z dy lam a₀ i₀ a i = (i ≤ length z) × (a ≡ sumTo (λ j. at (clamped lam z) j ⊗ at dy j) i)
+
+abbrev μ-loop : tie.MeasureT-loop
+μ-loop z dy lam a₀ i₀ a i = length z - i
+
+loop-holds : tie.Need-loop-holds Inv-loop μ-loop
+unfolding sumTo
+loop-holds c = (search needs, refl)
+
+mul-clamp : tie.Need-mul-clamp Inv-loop μ-loop
+mul-clamp c = search needs
+
+shared-slice-read-clamp : tie.Need-shared-slice-read-clamp Inv-loop μ-loop
+shared-slice-read-clamp c = search needs
+
+clamp-requires : tie.Need-clamp-requires Inv-loop μ-loop
+clamp-requires c κs = search needs
+
+mul-a : tie.Need-mul-a Inv-loop μ-loop
+mul-a c = search needs
+
+shared-slice-read-a : tie.Need-shared-slice-read-a Inv-loop μ-loop
+shared-slice-read-a c = search needs
+
+add-i : tie.Need-add-i Inv-loop μ-loop
+add-i c = search needs
+
+loop-less : tie.Need-loop-less Inv-loop μ-loop
+loop-less c = search needs
+
+loop-again : tie.Need-loop-again Inv-loop μ-loop
+loop-again c = let l = c .before .before .before .before .loop in
+    let a = c .before .before .before .before .before .before .before .args in
+    let r = c .before .clamp .ensures ∙ sym (at-clamped (a .lam) (a .z .now) (l .i) (omega arith)) in
+    (search needs, sum-more (λ j. at (clamped (a .lam) (a .z .now)) j ⊗ at (a .dy .now) j) (l .i) (l .a) _ (l .inv .1) (ap (λ (x : Float). x ⊗ at (a .dy .now) (l .i)) r))
+
+returns : tie.Need-returns Inv-loop μ-loop
+unfolding dot
+returns c = let l = c .before .loop in
+    let a = c .before .before .before .before .args in
+    let e : l .i ≡ length (a .z .now) = omega arith in
+    l .inv .1 ∙ rw (e, length-clamped (a .lam) (a .z .now))
+
+pub dot-clamped-spec : {M : Type 1} → statement M
+dot-clamped-spec =
+    tie.close
+    (tie.spec
+    Inv-loop
+    μ-loop
+    loop-holds
+    mul-clamp
+    shared-slice-read-clamp
+    clamp-requires
+    mul-a
+    shared-slice-read-a
+    add-i
+    loop-less
+    loop-again
+    returns)

@@ -1,0 +1,70 @@
+use mathlib.Core.Path.{_≡_, refl, sym, ap, _∙_}
+use Prim.Native.Nat.{ℕ, _≤_, _-_, _+_}
+use native.Mathlib.Omega.{arith}
+use lib.ListN.{length}
+use lib.Ieee.{Float}
+use Rattle.float64.specs.Ops.{_⊗_}
+use Rattle.vectors.specs.Vec.{at}
+use Rattle.vectors.specs.Sums.{sumTo, norm2Sq}
+use Rattle.vectors.proofs.Sums.{sum-more}
+use Rattle.differences.specs.Diff.{diffKT}
+use Rattle.differences.proofs.Laws.{length-diffKT}
+use Rattle.certificate.specs.Certificate.{clamped}
+use Rattle.certificate.proofs.Laws.{length-clamped}
+use borrow.Author.Needs.{needs}
+use Rattle.certificate.proofs.sum_clamped.Statement.{statement}
+use Rattle.certificate.proofs.sum_clamped.Tie as tie
+use Rattle.certificate.proofs.sum_clamped.Reads as reads
+use Rattle.certificate.proofs.sum_clamped.Lts as lts
+use Rattle.certificate.proofs.clamped_at.Reads as clamped-at-reads
+
+abbrev Inv-loop : tie.InvT-loop
+Inv-loop z lam k n a₀ j₀ a j = (j ≤ length z + k) × (a ≡ sumTo (λ i. at (diffKT k (clamped lam z)) i ⊗ at (diffKT k (clamped lam z)) i) j)
+
+abbrev μ-loop : tie.MeasureT-loop
+μ-loop z lam k n a₀ j₀ a j = length z + k - j
+
+add-n : tie.Need-add-n Inv-loop μ-loop
+add-n c = search needs
+
+loop-holds : tie.Need-loop-holds Inv-loop μ-loop
+unfolding sumTo
+loop-holds c = (search needs, refl)
+
+clamped-at-requires : tie.Need-clamped-at-requires Inv-loop μ-loop
+clamped-at-requires c κs = search needs
+
+add-j : tie.Need-add-j Inv-loop μ-loop
+add-j c = search needs
+
+loop-less : tie.Need-loop-less Inv-loop μ-loop
+loop-less c = search needs
+
+loop-again : tie.Need-loop-again Inv-loop μ-loop
+loop-again c = let l = c .before .before .loop in
+    let a = c .before .before .before .before .args in
+    let v = diffKT (a .k) (clamped (a .lam) (a .z .now)) in
+    (search needs, sum-more (λ i. at v i ⊗ at v i) (l .j) (l .a) _ (l .inv .1) (ap (λ (x : Float). x ⊗ x) (c .clamped-at .ensures)))
+
+returns : tie.Need-returns Inv-loop μ-loop
+unfolding norm2Sq
+returns c = let l = c .before .loop in
+    let a = c .before .before .before .args in
+    let v = clamped (a .lam) (a .z .now) in
+    let e : l .j ≡ length (a .z .now) + a .k = omega arith in
+    let f : length (diffKT (a .k) v) ≡ length (a .z .now) + a .k = length-diffKT (a .k) v ∙ omega (arith, length-clamped (a .lam) (a .z .now)) in
+    l .inv .1 ∙ rw (e, f)
+
+pub sum-clamped-spec : {M : Type 1} → statement M
+sum-clamped-spec =
+    tie.close
+    (tie.spec
+    Inv-loop
+    μ-loop
+    add-n
+    loop-holds
+    clamped-at-requires
+    add-j
+    loop-less
+    loop-again
+    returns)

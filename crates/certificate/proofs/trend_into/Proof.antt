@@ -1,0 +1,134 @@
+use mathlib.Core.Path.{_≡_, refl, sym, ap, _∙_}
+use mathlib.Core.List.{List}
+use Prim.Native.Nat.{ℕ, _≤_, _-_, _+_}
+use native.Mathlib.Omega.{arith}
+use lib.ListN.{length, take, drop}
+use lib.Ieee.{Float}
+use Rattle.float64.specs.Ops.{_⊖_, _⊗_}
+use Rattle.vectors.specs.Vec.{at, part, Written}
+use Rattle.vectors.specs.Sums.{sumTo, norm2Sq}
+use Rattle.vectors.proofs.Laws.{none, up, front}
+use Rattle.vectors.proofs.Parts.{first-part, length-part}
+use Rattle.vectors.proofs.Sums.{sum-more}
+use Rattle.differences.specs.Diff.{diffKT}
+use Rattle.differences.proofs.Laws.{length-diffKT}
+use Rattle.certificate.specs.Certificate.{minus}
+use Rattle.certificate.specs.Run.{dualOf}
+use Rattle.certificate.proofs.Laws.{behind}
+use borrow.Author.Needs.{needs}
+use Rattle.certificate.proofs.trend_into.Statement.{statement}
+use Rattle.certificate.proofs.trend_into.Tie as tie
+use Rattle.certificate.proofs.trend_into.Reads as reads
+use Rattle.certificate.proofs.trend_into.Lts as lts
+use Rattle.differences.proofs.diff_t_at.Reads as diff-t-at-reads
+
+abbrev Inv-loop : tie.InvT-loop
+Inv-loop s₀ y k n e a₀ j₀ s a j = (j ≤ length y) × Written 0 j (λ i. at y i ⊖ at (diffKT k (dualOf k y s₀)) i) s₀ s
+    × (a ≡ sumTo (λ i. at (diffKT k (dualOf k y s₀)) i ⊗ at (diffKT k (dualOf k y s₀)) i) j)
+
+abbrev μ-loop : tie.MeasureT-loop
+μ-loop s₀ y k n e a₀ j₀ s a j = length y - j
+
+sub-e : tie.Need-sub-e Inv-loop μ-loop
+sub-e c = search needs
+
+add-e : tie.Need-add-e Inv-loop μ-loop
+add-e c = search needs
+
+loop-holds : tie.Need-loop-holds Inv-loop μ-loop
+unfolding sumTo
+loop-holds c = (search needs, none, refl)
+
+mul-diff-t-at : tie.Need-mul-diff-t-at Inv-loop μ-loop
+mul-diff-t-at c = search needs
+
+sub-diff-t-at : tie.Need-sub-diff-t-at Inv-loop μ-loop
+sub-diff-t-at c = search needs
+
+part-diff-t-at-start : tie.Need-part-diff-t-at-start Inv-loop μ-loop
+part-diff-t-at-start c = search needs
+
+part-diff-t-at-end : tie.Need-part-diff-t-at-end Inv-loop μ-loop
+part-diff-t-at-end c = search needs
+
+diff-t-at-requires : tie.Need-diff-t-at-requires Inv-loop μ-loop
+diff-t-at-requires c κs = search needs
+
+mul-s : tie.Need-mul-s Inv-loop μ-loop
+mul-s c = search needs
+
+shared-slice-read-s : tie.Need-shared-slice-read-s Inv-loop μ-loop
+shared-slice-read-s c = search needs
+
+mul-s-2 : tie.Need-mul-s-2 Inv-loop μ-loop
+mul-s-2 c = search needs
+
+slice-write-s : tie.Need-slice-write-s Inv-loop μ-loop
+slice-write-s c = search needs
+
+add-j : tie.Need-add-j Inv-loop μ-loop
+add-j c = search needs
+
+loop-less : tie.Need-loop-less Inv-loop μ-loop
+loop-less c = search needs
+
+loop-again : tie.Need-loop-again Inv-loop μ-loop
+loop-again c = let l = c .before .before .before .before .before .loop in
+    let a = c .before .before .before .before .before .before .before .before .args in
+    let y = a .y .now in
+    let n = length y in
+    let m = n - a .k in
+    let w = l .inv .1 in
+    let size = w .size in
+    let v = diffKT (a .k) (dualOf (a .k) y (a .s .now)) in
+    let b : take (n + m - n) (drop n (l .s)) ≡ part n m (a .s .now) = behind n m (l .j) (λ i. at y i ⊖ at v i) (a .s .now) (l .s) w (omega arith) (omega arith) in
+    let r : c .before .diff-t-at .result ≡ at v (l .j) = c .before .diff-t-at .ensures ∙ ap (λ (q : List Float). at (diffKT (a .k) q) (l .j)) b in (
+      search needs,
+      up w (omega arith) (omega arith) (ap (λ (x : Float). at y (l .j) ⊖ x) r),
+      sum-more (λ i. at v i ⊗ at v i) (l .j) (l .a) _ (l .inv .2) (ap (λ (x : Float). x ⊗ x) r),
+    )
+
+same-length : tie.Need-same-length Inv-loop μ-loop
+same-length c = search needs
+
+returns : tie.Need-returns Inv-loop μ-loop
+unfolding minus norm2Sq
+returns c = let l = c .before .loop in
+    let a = c .before .before .before .before .args in
+    let y = a .y .now in
+    let n = length y in
+    let z = dualOf (a .k) y (a .s .now) in
+    let v = diffKT (a .k) z in
+    let e : l .j ≡ n = omega arith in
+    let w : Written 0 n (λ i. at y i ⊖ at v i) (a .s .now) (l .s) = rw e at (l .inv .1) in
+    let size = w .size in
+    let f : length v ≡ n = length-diffKT (a .k) z ∙ omega (arith, length-part n (n - a .k) (a .s .now)) in
+    record {
+      trend = sym (first-part n (l .s) (omega arith)) ∙ front w (omega arith);
+      squared = l .inv .2 ∙ rw (e, f);
+      kept = record { size = w .size; below = λ j h. absurd (omega arith); above = λ j h. w .above j (omega arith) };
+    }
+
+pub trend-into-spec : {M : Type 1} → statement M
+trend-into-spec =
+    tie.close
+    (tie.spec
+    Inv-loop
+    μ-loop
+    sub-e
+    add-e
+    loop-holds
+    mul-diff-t-at
+    sub-diff-t-at
+    part-diff-t-at-start
+    part-diff-t-at-end
+    diff-t-at-requires
+    mul-s
+    shared-slice-read-s
+    mul-s-2
+    slice-write-s
+    add-j
+    loop-less
+    loop-again
+    same-length
+    returns)

@@ -1,0 +1,36 @@
+-- Demand 3, clause by clause, of the whole fit (`Rattle.fit.proofs.Demand3` proves it).
+-- The search counts the iterations and the improvements (`Rattle.step_bound.specs.Search`): the best gap starts as the first gap, and an iteration is an
+-- improvement when its gap is below 0.99 times the best gap, the product rounded; then its gap becomes the best.
+use Prim.Native.Nat.{ℕ, _+_, _*_, _^_, _≤_, _<_}
+use mathlib.Core.Path.{_≡_}
+use lib.IntN.{pos, _*ℤ_}
+use lib.Signed.{_≤ℤ_}
+use lib.Dec.{T}
+use lib.Ieee.Scale.{finite}
+use Rattle.step_bound.specs.Demand3.{units}
+use Rattle.fit.specs.Questions.{Asked, Lent}
+use Rattle.fit.specs.Fit.{Fit, fitted, fit}
+
+-- the numeric bounds on a fit with the step limit max_iter, J its improvements
+pub record Bounds (max-iter : ℕ) (f : Fit) : Type 0 where
+  -- n_iter is at most max_iter
+  pub limit : f .n-iter ≤ max-iter
+  -- and at most 10·J + 10,
+  pub ten : f .n-iter ≤ 10 * f .improvements + 10
+  -- and J is at most 144,763.
+  pub few : f .improvements ≤ 144763
+  -- If the first and best gaps are finite, best gap × 100^J is at most first gap × 99^J as exact numbers, each gap counted in whole units of 2^-1074.
+  pub shrunk : T (finite (f .first-gap)) → T (finite (f .best-gap)) → (units (f .best-gap) *ℤ pos (100 ^ f .improvements)) ≤ℤ (units (f .first-gap) *ℤ pos (99 ^ f .improvements))
+
+-- all else alike: the same but for the step limit
+abbrev pub withLimit : ℕ → Asked → Asked
+withLimit max-iter a = record { y = a .y; lam = a .lam; tol = a .tol; limit = max-iter; order = a .order; penalty = a .penalty }
+
+-- The whole, for whatever is asked and lent. It is stated of every call that isn't refused: of L2 too, which does no iteration.
+-- An outcome is a refusal's number or the whole answer: every place of trend, cycle and knots, and all numbers. A NaN is one value, so NaN matches NaN.
+pub record Demand3 (a : Asked) (l : Lent) : Type 0 where
+  pub bounds : (f : Fit) → fit a l ≡ fitted f → Bounds (a .limit) f
+  -- If n_iter is below max_iter, then every other max_iter from 1 up that is at least n_iter gives the same whole answer.
+  pub alike : (f : Fit) → fit a l ≡ fitted f → f .n-iter < a .limit → (other : ℕ) → 1 ≤ other → f .n-iter ≤ other → fit (withLimit other a) l ≡ fitted f
+  -- So any two limits above 1,447,640 agree in this way.
+  pub settled : (one other : ℕ) → 1447640 < one → 1447640 < other → fit (withLimit one a) l ≡ fit (withLimit other a) l

@@ -1,0 +1,2 @@
+-- The laws of l2.
+pub mod System

@@ -1,0 +1,82 @@
+use borrow.Author.Needs.{needs}
+use mathlib.Core.Path.{_≡_, refl, sym, ap, _∙_}
+use mathlib.Core.List.{List}
+use Prim.Native.Nat.{ℕ, _≤_, _<_, _-_, _+_}
+use native.Mathlib.Numerals.{add-one}
+use native.Mathlib.Omega.{arith}
+use lib.ListN.{length}
+use lib.Ieee.{Float}
+use Rattle.float64.specs.Ops.{_⊗_, _⊖_}
+use Rattle.vectors.specs.Vec.{at}
+use Rattle.vectors.specs.Sums.{sumTo, norm2Sq, dot}
+use Rattle.differences.specs.Diff.{diffK, diffKT}
+use Rattle.vectors.proofs.Laws.{length-list, at-list}
+use Rattle.vectors.proofs.Sums.{sum-ext}
+use Rattle.certificate.specs.Certificate.{minus}
+use Rattle.l2.proofs.sums.residual_squares.Statement.{statement}
+use Rattle.l2.proofs.sums.residual_squares.Tie as tie
+use Rattle.l2.proofs.sums.residual_squares.Reads as reads
+use Rattle.l2.proofs.sums.residual_squares.Lts as lts
+
+abbrev less : List Float → List Float → ℕ → Float
+less y x i = at y i ⊖ at x i
+
+-- the sum of the squares of y - x, place by place
+squares : (y x : List Float) → sumTo (λ i. less y x i ⊗ less y x i) (length y) ≡ norm2Sq (minus y x)
+unfolding norm2Sq minus
+squares y x =
+    rw (length-list (length y) (less y x))
+    (sum-ext (λ i. less y x i ⊗ less y x i) (λ i. at (minus y x) i ⊗ at (minus y x) i) (length y) (λ i h. rw (at-list (length y) (less y x) i h)))
+
+abbrev Inv-loop : tie.InvT-loop
+Inv-loop x y sum₀ i₀ sum i = (i ≤ length y) × (sum ≡ sumTo (λ j. (at y j ⊖ at x j) ⊗ (at y j ⊖ at x j)) i)
+
+abbrev μ-loop : tie.MeasureT-loop
+μ-loop x y sum₀ i₀ sum i = length y - i
+
+loop-holds : tie.Need-loop-holds Inv-loop μ-loop
+unfolding sumTo
+loop-holds c = (search needs, refl)
+
+mul-d : tie.Need-mul-d Inv-loop μ-loop
+mul-d c = search needs
+
+shared-slice-read-d : tie.Need-shared-slice-read-d Inv-loop μ-loop
+shared-slice-read-d c = search needs
+
+mul-d-2 : tie.Need-mul-d-2 Inv-loop μ-loop
+mul-d-2 c = search needs
+
+shared-slice-read-d-2 : tie.Need-shared-slice-read-d-2 Inv-loop μ-loop
+shared-slice-read-d-2 c = search needs
+
+add-i : tie.Need-add-i Inv-loop μ-loop
+add-i c = search needs
+
+loop-less : tie.Need-loop-less Inv-loop μ-loop
+loop-less c = search needs
+
+loop-again : tie.Need-loop-again Inv-loop μ-loop
+unfolding sumTo
+loop-again c = (search needs, rw add-one (cc))
+
+returns : tie.Need-returns Inv-loop μ-loop
+returns c = let p = c .before .before .args in
+    let e : c .before .loop .i ≡ length (p .y .now) = omega arith in
+    c .before .loop .inv .1 ∙ ap (sumTo (λ i. less (p .y .now) (p .x .now) i ⊗ less (p .y .now) (p .x .now) i)) e ∙ squares (p .y .now) (p .x .now)
+
+pub residual-squares-spec : {M : Type 1} → statement M
+residual-squares-spec =
+    tie.close
+    (tie.spec
+    Inv-loop
+    μ-loop
+    loop-holds
+    mul-d
+    shared-slice-read-d
+    mul-d-2
+    shared-slice-read-d-2
+    add-i
+    loop-less
+    loop-again
+    returns)

@@ -1,0 +1,22 @@
+-- Document 01, "Polish, knots, closed paths": what the L2 arm leaves in a run lent to it, for a series of n = length y. For the contracts below the entry.
+use mathlib.Core.Path.{_≡_}
+use mathlib.Core.Bool.{Bool, true}
+use mathlib.Core.List.{List}
+use Prim.Native.Nat.{ℕ, _+_, _-_, _*_}
+use lib.ListN.{length}
+use lib.Ieee.{Float}
+use Rattle.vectors.specs.Vec.{part, Kept}
+use Rattle.l2.specs.L2.{soundL2, trendL2, objectiveL2, gapL2}
+use Rattle.l2.specs.declared.Ends.{Ends}
+
+-- ok says whether every pivot is good; if so the trend stands after the n·(k+1) places of the rows
+pub record SolvedL2 (k : ℕ) (y : List Float) (lam : Float) (s₀ s : List Float) (ok : Bool) : Type 0 where
+  pub sound : ok ≡ soundL2 k y lam
+  pub trend : ok ≡ true → part (length y * (k + 1)) (length y) s ≡ trendL2 k y lam
+  pub kept : Kept 0 (length y * (k + 1) + length y) s₀ s
+
+-- r has the objective and the gap of the trend in the first n places; only the n places after them may have changed
+pub record Ended (k : ℕ) (y : List Float) (lam : Float) (s₀ s : List Float) (r : Ends) : Type 0 where
+  pub objective : r .objective ≡ objectiveL2 k y lam (part 0 (length y) s₀)
+  pub gap : r .gap ≡ gapL2 k y lam (part 0 (length y) s₀)
+  pub kept : Kept (length y) (length y) s₀ s

@@ -1,0 +1,83 @@
+use borrow.Author.Needs.{needs}
+use borrow.Author.Tests.{not-true, not-false}
+use mathlib.Core.Path.{_≡_, refl}
+use mathlib.Core.Bool.{true, false}
+use Prim.Native.Nat.{_-_, _+_, _*_}
+use native.Mathlib.Omega.{arith}
+use Rattle.newton_step.proofs.Steps.{lost-step, moved-step}
+use Rattle.newton_step.proofs.newton_step.Statement.{statement}
+use Rattle.newton_step.proofs.newton_step.Tie as tie
+
+mul-a : tie.Need-mul-a
+mul-a c = search needs
+
+add-b : tie.Need-add-b
+add-b c = search needs
+
+mul-b : tie.Need-mul-b
+mul-b c = search needs
+
+add-b-2 : tie.Need-add-b-2
+add-b-2 c = search needs
+
+newton-z-requires : tie.Need-newton-z-requires
+newton-z-requires c κs = search needs
+
+same-length : tie.Need-same-length
+same-length c = search needs
+
+returns : tie.Need-returns
+returns c = let a = c .before .before .before .before .before .before .before .before .args in
+    let z = c .before .before .before .before .newton-z in
+    let n : z .result .good ≡ false = not-true _ (c .if1 .taken) in
+    lost-step (a .k) (a .g) (a .dy .now) (a .lam) (a .u) (a .m) (a .m * (a .k + 1)) (a .s .now) (z .last .0) (z .result .good) refl (z .ensures .0) (z .ensures .1 .1) n
+
+directions-requires : tie.Need-directions-requires
+directions-requires c κs = search needs
+
+sqrt-requires : tie.Need-sqrt-requires
+sqrt-requires c κs = search needs
+
+line-search-requires : tie.Need-line-search-requires
+line-search-requires c κs = let z = c .before .before .before .before .before .before .before .before .before .before .newton-z .ensures .1 .1 .size in
+    let d = c .before .before .before .before .directions .ensures .1 .1 .size in
+    (search needs, (search needs, (omega (arith, z, d, c .before .before .before .before .before .before .before .before .before .before .before .before .before .before .pre), search needs)))
+
+take-trial-requires : tie.Need-take-trial-requires
+take-trial-requires c κs = let z = c .before .before .before .before .before .before .before .before .before .before .before .before .before .before .newton-z .ensures .1 .1 .size in
+    let d = c .before .before .before .before .before .before .before .before .directions .ensures .1 .1 .size in
+    let l = c .before .before .before .line-search .ensures .kept .size in
+    omega (arith, z, d, l, c .before .before .before .before .before .before .before .before .before .before .before .before .before .before .before .before .before .before .pre)
+
+same-length-2 : tie.Need-same-length-2
+same-length-2 c = search needs
+
+returns-2 : tie.Need-returns-2
+returns-2 c = let a = c .before .before .before .before .before .before .before .before .before .before .before .before .before .before .before .before .before .before .before .before .before .args in
+    let z = c .before .before .before .before .before .before .before .before .before .before .before .before .before .before .before .before .before .newton-z in
+    let d = c .before .before .before .before .before .before .before .before .before .before .before .directions in
+    let l = c .before .before .before .before .before .before .line-search in
+    let t = c .before .before .take-trial in
+    let y : z .result .good ≡ true = not-false _ (c .before .before .before .before .before .before .before .before .before .before .before .before .before .if1 .left) in
+    let f = z .ensures .1 .0 y in
+    moved-step (a .k) (a .g) (a .dy .now) (a .lam) (a .u) (a .m) (a .m * (a .k + 1)) (a .s .now) (z .last .0) (z .result .good) refl (z .ensures .0) (z .ensures .1 .1)
+    (z .result .acc) (d .result) (c .before .before .before .before .before .before .before .before .sqrt .result) (l .result .step) (l .result .inside) (d .last .0) (l .last .0) (t .last .0) (6 * a .m + a .m * (a .k + 1)) y refl
+    (f .0) (f .1) (d .ensures .0) (d .ensures .1 .0) (d .ensures .1 .1) (c .before .before .before .before .before .before .before .before .sqrt .ensures) (l .ensures) (t .ensures .0) (t .ensures .1)
+
+pub newton-step-spec : {M : Type 1} → statement M
+newton-step-spec =
+    tie.close
+    (tie.spec
+    mul-a
+    add-b
+    mul-b
+    add-b-2
+    newton-z-requires
+    same-length
+    returns
+    directions-requires
+    sqrt-requires
+    line-search-requires
+    take-trial-requires
+    same-length-2
+    returns-2)

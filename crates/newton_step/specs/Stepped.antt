@@ -1,0 +1,23 @@
+-- Document 01, "Interior point": what one Newton step answers, and the point that it leaves.
+use mathlib.Core.Path.{_≡_}
+use mathlib.Core.Bool.{Bool, true, false, cond}
+use mathlib.Core.List.{List}
+use Prim.Native.Nat.{ℕ, _+_, _*_}
+use lib.Ieee.{Float}
+use Rattle.vectors.specs.Vec.{Kept}
+use Rattle.banded.specs.Rows.{sound}
+use Rattle.newton.specs.Newton.{system, searchLine, taken}
+use Rattle.newton.specs.Places.{point}
+use Rattle.newton_step.specs.declared.Step.{Step}
+use Rattle.newton_step.specs.declared.Step.the-variants.{Lost, Moved}
+
+-- a bad pivot loses the step; else it is the line search's
+abbrev pub stepOf : Bool → Float → Step
+stepOf true x = Moved x
+stepOf false x = Lost
+
+-- from place a on s₀ holds a point of 3 m numbers, and s the one that the step leaves; nothing differs before or after the places of the step
+pub record Stepped (k : ℕ) (g dy : List Float) (lam u : Float) (a m : ℕ) (s₀ s : List Float) (r : Step) : Type 0 where
+  pub answer : r ≡ stepOf (sound k (system k g lam (point a m s₀)) m) (searchLine k g dy lam u (point a m s₀) .step)
+  pub moves : point a m s ≡ cond (sound k (system k g lam (point a m s₀)) m) (taken lam (point a m s₀) (searchLine k g dy lam u (point a m s₀))) (point a m s₀)
+  pub kept : Kept a (6 * m + (m * (k + 1) + 3 * m)) s₀ s

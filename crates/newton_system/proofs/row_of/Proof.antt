@@ -1,0 +1,13 @@
+use mathlib.Core.Path.{refl}
+use Rattle.newton.specs.Newton.{barrier, rightAt, squareAt}
+use Rattle.newton_system.proofs.row_of.Statement.{statement}
+use Rattle.newton_system.proofs.row_of.Tie as tie
+use Rattle.newton_system.proofs.row_of.Reads as reads
+use Rattle.newton_system.proofs.row_of.Lts as lts
+
+returns : tie.Need-returns
+unfolding barrier rightAt squareAt
+returns c = (refl, (refl, refl))
+
+pub row-of-spec : {M : Type 1} → statement M
+row-of-spec = tie.close (tie.spec returns)

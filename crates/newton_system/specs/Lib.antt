@@ -1,0 +1,2 @@
+-- The definitions that the contracts of newton_system cite.
+pub mod Rows

@@ -1,0 +1,3 @@
+pub mod Laws
+pub mod Candidates
+pub mod Ends

@@ -1,0 +1,100 @@
+use borrow.Author.Needs.{needs}
+use mathlib.Core.Path.{_≡_}
+use native.Mathlib.Omega.{arith}
+use lib.ListN.{length, length-set}
+use Rattle.polish.proofs.Laws.{one-le, marks-none, marks-more, marks-kept}
+use Rattle.vectors.proofs.Laws.{kept-none}
+use Rattle.newton.specs.Places.{point}
+use Rattle.vectors.specs.Vec.{KeptOf}
+use Rattle.polish.specs.Marks.{holdOf, Marks}
+use Rattle.polish.specs.Polish.{isFree, holdAt}
+use Prim.Native.Nat.{_≤_, _<_, _-_, _+_}
+use Rattle.polish.proofs.marks.mark.Statement.{statement}
+use Rattle.polish.proofs.marks.mark.Tie as tie
+
+abbrev Inv-loop : tie.InvT-loop
+Inv-loop s marks₀ lam n m q₀ i₀ marks q i = (i ≤ m) × ((q ≤ i) × (Marks (holdAt lam (point n m s)) n i marks q × KeptOf 0 0 (n + i) marks₀ marks))
+
+abbrev μ-loop : tie.MeasureT-loop
+μ-loop s marks₀ lam n m q₀ i₀ marks q i = m - i
+
+loop-holds : tie.Need-loop-holds Inv-loop μ-loop
+loop-holds c = (search needs, (search needs, (marks-none _ _ _, kept-none _ _ _)))
+
+mark-at-requires : tie.Need-mark-at-requires Inv-loop μ-loop
+mark-at-requires c κs = search needs
+
+add-marks : tie.Need-add-marks Inv-loop μ-loop
+add-marks c = search needs
+
+mul-marks : tie.Need-mul-marks Inv-loop μ-loop
+mul-marks c = search needs
+
+slice-write-marks : tie.Need-slice-write-marks Inv-loop μ-loop
+slice-write-marks c = search needs
+
+cast-marks : tie.Need-cast-marks Inv-loop μ-loop
+cast-marks c = search needs
+
+mul-marks-2 : tie.Need-mul-marks-2 Inv-loop μ-loop
+mul-marks-2 c = search needs
+
+slice-write-marks-2 : tie.Need-slice-write-marks-2 Inv-loop μ-loop
+slice-write-marks-2 c = let l = c .before .before .loop in
+    let e : l .q < length (l .marks) = omega arith in
+    simp length-set e
+
+one-if-free-requires : tie.Need-one-if-free-requires Inv-loop μ-loop
+one-if-free-requires c κs = search needs
+
+add-q : tie.Need-add-q Inv-loop μ-loop
+add-q c = omega (arith, c .one-if-free .ensures, one-le (isFree (holdOf (c .before .mark-at .result))))
+
+add-i : tie.Need-add-i Inv-loop μ-loop
+add-i c = search needs
+
+loop-less : tie.Need-loop-less Inv-loop μ-loop
+loop-less c = search needs
+
+loop-again : tie.Need-loop-again Inv-loop μ-loop
+loop-again c = let l = c .before .before .before .loop in
+    let w = l .inv .1 .1 .0 in (
+      search needs,
+      (
+        omega (arith, c .one-if-free .ensures, one-le (isFree (holdOf (c .before .mark-at .result)))),
+        (
+          marks-more w (omega arith) (omega arith) (c .before .mark-at .ensures) _ (c .one-if-free .ensures),
+          marks-kept w (omega arith) (omega arith) (c .before .mark-at .ensures) (l .inv .1 .1 .1),
+        ),
+      ),
+    )
+
+same-length : tie.Need-same-length Inv-loop μ-loop
+same-length c = search needs
+
+returns : tie.Need-returns Inv-loop μ-loop
+returns c = let l = c .before .loop in
+    let e : l .i ≡ c .before .before .before .before .args .m = omega arith in
+    (rw e at (l .inv .1 .1 .0), rw e at (l .inv .1 .1 .1))
+
+pub mark-spec : {M : Type 1} → statement M
+mark-spec =
+    tie.close
+    (tie.spec
+    Inv-loop
+    μ-loop
+    loop-holds
+    mark-at-requires
+    add-marks
+    mul-marks
+    slice-write-marks
+    cast-marks
+    mul-marks-2
+    slice-write-marks-2
+    one-if-free-requires
+    add-q
+    add-i
+    loop-less
+    loop-again
+    same-length
+    returns)

@@ -1,0 +1,151 @@
+use borrow.Author.Needs.{needs}
+use mathlib.Core.Path.{_≡_, refl, _∙_}
+use native.Mathlib.Omega.{arith}
+use Rattle.polish.proofs.Ends.{dy-long, polish-is, marks-in, ended-none, ended-some}
+use Rattle.polish.proofs.Candidates.{part-size}
+use Rattle.polish.specs.Polish.{holdAt}
+use Rattle.newton.specs.Places.{point}
+use lib.ListN.{length, take, drop}
+use Prim.Native.Nat.{_≤_, _<_, _-_, _+_, _*_}
+use mathlib.Core.Bool.{true, false}
+use borrow.Author.Tests.{not-true, not-false}
+use Rattle.polish.proofs.polish_l1.Statement.{statement}
+use Rattle.polish.proofs.polish_l1.Tie as tie
+
+sub-m : tie.Need-sub-m
+sub-m c = search needs
+
+mark-requires : tie.Need-mark-requires
+mark-requires c κs = search needs
+
+make-candidate-requires : tie.Need-make-candidate-requires
+make-candidate-requires c κs = let ck = c .before .before .before .before in
+    let st = ck .before .before .before .before .before .before .before in
+    let a = st .args in
+    let k = a .k in
+    let y = a .y .now in
+    let n = length y in
+    let w₀ = a .work .now in
+    let o : k < n = st .pre .1 .1 .0 in
+    let big : 13 * n ≤ length w₀ = st .pre .1 .1 .1 .1 .0 in
+    let dy = st .pre .1 .1 .1 .1 .1 .1 in
+    let more : 2 * n ≤ length (a .marks .now) = st .pre .1 .1 .1 .1 .1 .0 in
+    let size = ck .mark .ensures .1 .size in
+    let i = marks-in (ck .mark .ensures .0) k (omega arith) refl in
+    (st .pre .1 .0, (o, (big, (omega arith, (omega (arith, dy-long k y (a .dy .now) dy), i)))))
+
+none-requires : tie.Need-none-requires
+none-requires c κs = search needs
+
+same-length : tie.Need-same-length
+same-length c = search needs
+
+same-length-2 : tie.Need-same-length-2
+same-length-2 c = search needs
+
+returns : tie.Need-returns
+returns c = let cm = c .before .before .before .before in
+    let ck = cm .before .before .before .before .before in
+    let st = ck .before .before .before .before .before .before .before in
+    let a = st .args in
+    let k = a .k in
+    let y = a .y .now in
+    let n = length y in
+    let w₀ = a .work .now in
+    let o : k < n = st .pre .1 .1 .0 in
+    let big : 13 * n ≤ length w₀ = st .pre .1 .1 .1 .1 .0 in
+    let dy = st .pre .1 .1 .1 .1 .1 .1 in
+    let no : cm .make-candidate .result ≡ false = not-true _ (c .before .if1 .taken) in
+    let h = holdAt (a .lam) (point n (n - k) w₀) in
+    ended-none k y (a .lam) (ck .mark .ensures .1) (cm .make-candidate .ensures .1) (c .none .result) (c .none .ensures)
+    (polish-is k y (a .dy .now) dy (a .lam) w₀ (cm .make-candidate .ensures .0 h (ck .mark .ensures .0) ∙ rw no))
+
+mul-a : tie.Need-mul-a
+mul-a c = search needs
+
+mul-e : tie.Need-mul-e
+mul-e c = search needs
+
+add-e : tie.Need-add-e
+add-e c = search needs
+
+mul-certify-l1 : tie.Need-mul-certify-l1
+mul-certify-l1 c = search needs
+
+sub-certify-l1 : tie.Need-sub-certify-l1
+sub-certify-l1 c = search needs
+
+part-certify-l1-start : tie.Need-part-certify-l1-start
+part-certify-l1-start c = search needs
+
+part-certify-l1-end : tie.Need-part-certify-l1-end
+part-certify-l1-end c = search needs
+
+certify-l1-requires : tie.Need-certify-l1-requires
+certify-l1-requires c κs = let cm = c .before .before .before .before in
+    let st = cm .before .before .before .before .before .before .before .before .before .before .before .before in
+    let a = st .args in
+    let k = a .k in
+    let y = a .y .now in
+    let n = length y in
+    let w₀ = a .work .now in
+    let o : k < n = st .pre .1 .1 .0 in
+    let big : 13 * n ≤ length w₀ = st .pre .1 .1 .1 .1 .0 in
+    let dy = st .pre .1 .1 .1 .1 .1 .1 in
+    let w₁ = cm .make-candidate .last .0 in
+    let l = 12 * n + (n - k) - 11 * n in
+    let s : length w₁ ≡ length w₀ = cm .make-candidate .ensures .1 .size in
+    let z = part-size (11 * n) l w₁ (take l (drop (11 * n) w₁)) (omega arith) refl in
+    (st .pre .0, (st .pre .1 .0, (o, (omega arith, dy))))
+
+same-length-3 : tie.Need-same-length-3
+same-length-3 c = search needs
+
+same-length-4 : tie.Need-same-length-4
+same-length-4 c = search needs
+
+returns-2 : tie.Need-returns-2
+returns-2 c = let cc = c .before .before .before in
+    let cm = cc .before .before .before .before .before in
+    let ck = cm .before .before .before .before .before in
+    let st = ck .before .before .before .before .before .before .before in
+    let a = st .args in
+    let k = a .k in
+    let y = a .y .now in
+    let n = length y in
+    let w₀ = a .work .now in
+    let o : k < n = st .pre .1 .1 .0 in
+    let big : 13 * n ≤ length w₀ = st .pre .1 .1 .1 .1 .0 in
+    let dy = st .pre .1 .1 .1 .1 .1 .1 in
+    let yes : cm .make-candidate .result ≡ true = not-false _ (cc .before .before .if1 .left) in
+    let h = holdAt (a .lam) (point n (n - k) w₀) in
+    let w₁ = cm .make-candidate .last .0 in
+    let l = 12 * n + (n - k) - 11 * n in
+    let s : length w₁ ≡ length w₀ = cm .make-candidate .ensures .1 .size in
+    let x = cc .certify-l1 .last .0 in
+    let e = part-size (11 * n) l w₁ x (omega arith) (cc .certify-l1 .kept .0) in
+    ended-some k y (a .lam) (ck .mark .ensures .1) (cm .make-candidate .ensures .1) big l (omega arith) x e (cc .certify-l1 .result .primal) (cc .certify-l1 .result .dual)
+    (polish-is k y (a .dy .now) dy (a .lam) w₀ (cm .make-candidate .ensures .0 h (ck .mark .ensures .0) ∙ rw yes)) (cc .certify-l1 .ensures) _ refl refl refl
+
+pub polish-l1-spec : {M : Type 1} → statement M
+polish-l1-spec =
+    tie.close
+    (tie.spec
+    sub-m
+    mark-requires
+    make-candidate-requires
+    none-requires
+    same-length
+    same-length-2
+    returns
+    mul-a
+    mul-e
+    add-e
+    mul-certify-l1
+    sub-certify-l1
+    part-certify-l1-start
+    part-certify-l1-end
+    certify-l1-requires
+    same-length-3
+    same-length-4
+    returns-2)

@@ -1,0 +1,2 @@
+-- The laws of questions.
+pub mod Laws

@@ -1,0 +1,118 @@
+// Questions 1 to 9: what is asked for, and the lengths lent.
+ghost use mathlib.Core.Path.{_≡_};
+ghost use mathlib.Core.Bool.{_&&_};
+ghost use Prim.Native.Nat.{_≤_};
+ghost use lib.ListN.{length};
+ghost use Rattle.fit.specs.Questions.{oneOrTwo, finiteTo, question};
+ghost use Rattle.questions.specs.Groups.{asking, lending, sizes, values, room};
+
+fn one_or_two(x: u32) -> bool
+    ensures { λ r. ⌜ r ≡ oneOrTwo x ⌝ }
+{
+    if x == 1 {
+        return true;
+    }
+    x == 2
+}
+
+fn both(a: bool, b: bool) -> bool
+    ensures { λ r. ⌜ r ≡ a && b ⌝ }
+{
+    if a { b } else { false }
+}
+
+fn all_finite(y: &[f64]) -> bool
+    ensures { λ r. ⌜ r ≡ finiteTo (now (y .entry)) (length (now (y .entry))) ⌝ }
+{
+    let mut all = true;
+    let mut i = 0;
+    while i < y.len() {
+        let x = float64::is_finite(y[i]);
+        all = both(all, x);
+        i += 1;
+    }
+    all
+}
+
+// Questions 1 to 3: the first that is answered no; 0 where none is.
+fn sizes(n: usize, order: u32, penalty: u32) -> u32
+    ensures { λ r. ⌜ r ≡ sizes n order penalty ⌝ }
+{
+    if !one_or_two(order) {
+        return 1;
+    }
+    if !one_or_two(penalty) {
+        return 1;
+    }
+    if n <= order as usize {
+        return 2;
+    }
+    if 65536 < n {
+        return 3;
+    }
+    0
+}
+
+// Questions 4 to 7.
+fn values(y: &[f64], lam: f64, tol: f64, max_iter: u64) -> u32
+    ensures { λ r. ⌜ r ≡ values (now (y .entry)) lam tol «max_iter» ⌝ }
+{
+    if !all_finite(y) {
+        return 4;
+    }
+    if !float64::is_finite(lam) {
+        return 5;
+    }
+    if lam < 0.0 {
+        return 5;
+    }
+    if !float64::is_finite(tol) {
+        return 6;
+    }
+    if !(0.0 < tol) {
+        return 6;
+    }
+    if max_iter == 0 {
+        return 7;
+    }
+    0
+}
+
+// Questions 8 and 9, for a series of n.
+fn room(n: usize, trend: usize, cycle: usize, knots: usize, work: usize, marks: usize) -> u32
+    requires { ⌜ n ≤ 65536 ⌝ }
+    ensures { λ r. ⌜ r ≡ room n (lending trend cycle knots work marks) ⌝ }
+{
+    if trend < n {
+        return 8;
+    }
+    if cycle < n {
+        return 8;
+    }
+    if knots < n {
+        return 8;
+    }
+    if work < 40 * n {
+        return 9;
+    }
+    if marks < 2 * n {
+        return 9;
+    }
+    0
+}
+
+// The first question of 1 to 9 that is answered no; 0 where none is. trend, cycle, knots, work and marks are the lengths lent.
+pub fn question(y: &[f64], lam: f64, tol: f64, max_iter: u64, order: u32, penalty: u32, trend: usize, cycle: usize, knots: usize, work: usize, marks: usize) -> u32
+    ensures { λ r. ⌜ r ≡ question (asking (now (y .entry)) lam tol «max_iter» order penalty) (lending trend cycle knots work marks) ⌝ }
+{
+    let n = y.len();
+    let s = sizes(n, order, penalty);
+    if s != 0 {
+        return s;
+    }
+    let v = values(y, lam, tol, max_iter);
+    if v != 0 {
+        return v;
+    }
+    room(n, trend, cycle, knots, work, marks)
+}

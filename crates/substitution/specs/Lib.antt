@@ -1,0 +1,2 @@
+-- The definitions that the contracts of substitution cite.
+pub mod Solved

@@ -1,0 +1,4 @@
+-- The laws of trend_filter.
+pub mod Laws
+pub mod Wrote
+pub mod Won

@@ -1,0 +1,172 @@
+use borrow.Author.Needs.{needs}
+use mathlib.Core.Path.{_≡_, refl, sym, ap, ap₂, _∙_}
+use mathlib.Core.List.{List}
+use mathlib.Core.Bool.{true, false}
+use Prim.Native.Nat.{ℕ, _≤_, _<_, _-_, _+_, _*_}
+use native.Mathlib.Nat.{mul-le-mul-left, mul-le-mul-right}
+use native.Mathlib.Omega.{arith}
+use borrow.Author.Tests.{not-true, not-false}
+use lib.ListN.{length, take, drop, length-drop}
+use lib.Seq.{length-take-le}
+use lib.Ieee.{Float, nan}
+use Rattle.float64.specs.Ops.{_⊖_, c0}
+use Rattle.vectors.specs.Vec.{part, put}
+use Rattle.vectors.proofs.Laws.{kept-none, kept-then}
+use Rattle.questions.specs.Groups.{asking}
+use Rattle.l2.specs.L2.{soundL2, trendL2, gapL2, objectiveL2}
+use Rattle.trend_filter.specs.Inner.{closedOf}
+use Rattle.trend_filter.proofs.Laws.{gives-refused, gives-fit, gives-same, closed-shows, l2-sound, l2-unsound}
+use Rattle.trend_filter.proofs.Wrote.{wrote-as, l2-gap, l2-objective, l2-trend, l2-kept}
+use Rattle.trend_filter.proofs.fit_l2.Statement.{statement}
+use Rattle.trend_filter.proofs.fit_l2.Tie as tie
+use Rattle.trend_filter.proofs.fit_l2.Reads as reads
+use Rattle.trend_filter.proofs.fit_l2.Lts as lts
+use Rattle.l2.proofs.objectives.Reads as objectives-reads
+use Rattle.l2.proofs.solve_l2.Reads as solve-l2-reads
+use Rattle.trend_filter.proofs.closed.closed.Reads as closed-reads
+use Rattle.trend_filter.proofs.closed.rows_end.Reads as rows-end-reads
+use Rattle.trend_filter.proofs.closed.write_out.Reads as write-out-reads
+
+solve-l2-requires : tie.Need-solve-l2-requires
+solve-l2-requires c κs = let q = c .before .before .before .before .before .before in
+    let p = q .args in
+    let n = length (p .y .now) in
+    let h = q .pre .0 in
+    let top : n * (p .k + 1) ≤ n * 3 = mul-le-mul-left n (omega (arith, h .high)) in
+    (h .high, (omega (arith, h .long), (h .short, omega (arith, q .pre .1 .0))))
+
+same-length : tie.Need-same-length
+same-length c = search needs
+
+returns : tie.Need-returns
+returns c = let q = c .before .before .before .before .before .before .before .before .before .before in
+    let p = q .args in
+    let y = p .y .now in
+    let k = p .k in
+    let n = length y in
+    let h = q .pre .0 in
+    let top : n * (k + 1) ≤ n * 3 = mul-le-mul-left n (omega (arith, h .high)) in
+    let so = c .before .before .before .solve-l2 in
+    (
+      λ tol limit penalty.
+          gives-same (l2-unsound (asking y (p .lam) tol limit k penalty) (sym (so .ensures .sound) ∙ not-true _ (c .if1 .taken)))
+          (gives-refused 10 (p .trend .now) (p .cycle .now) (p .knots .now)),
+      kept-then 0 (16 * n) (so .ensures .kept) (kept-none 0 0 (so .last .0)) (omega arith) (omega arith) (omega arith) (omega arith),
+    )
+
+rows-end-requires : tie.Need-rows-end-requires
+rows-end-requires c κs = search needs
+
+add-b : tie.Need-add-b
+add-b c = search needs
+
+add-e : tie.Need-add-e
+add-e c = search needs
+
+mul-objectives : tie.Need-mul-objectives
+mul-objectives c = search needs
+
+sub-objectives : tie.Need-sub-objectives
+sub-objectives c = search needs
+
+part-objectives-start : tie.Need-part-objectives-start
+part-objectives-start c = search needs
+
+part-objectives-end : tie.Need-part-objectives-end
+part-objectives-end c = search needs
+
+objectives-requires : tie.Need-objectives-requires
+objectives-requires c κs = search needs
+
+mul-write-out : tie.Need-mul-write-out
+mul-write-out c = search needs
+
+sub-write-out : tie.Need-sub-write-out
+sub-write-out c = search needs
+
+part-write-out-start : tie.Need-part-write-out-start
+part-write-out-start c = search needs
+
+part-write-out-end : tie.Need-part-write-out-end
+part-write-out-end c = search needs
+
+write-out-requires : tie.Need-write-out-requires
+write-out-requires c κs = search needs
+
+closed-requires : tie.Need-closed-requires
+closed-requires c κs = search needs
+
+same-length-2 : tie.Need-same-length-2
+same-length-2 c = search needs
+
+same-length-3 : tie.Need-same-length-3
+same-length-3 c = search needs
+
+same-length-4 : tie.Need-same-length-4
+same-length-4 c = search needs
+
+same-length-5 : tie.Need-same-length-5
+same-length-5 c = search needs
+
+returns-2 : tie.Need-returns-2
+returns-2 c = let q = c .before .before .before .before .before .before .before .before .before .before .before .before .before .before .before .before .before .before .before .before .before .before .before .before .before .before .before .before in
+    let p = q .args in
+    let y = p .y .now in
+    let k = p .k in
+    let n = length y in
+    let re = c .before .before .before .before .before .before .before .before .before .before .before .before .before .before .before .before .before .rows-end in
+    let a = re .result in
+    let b = a + n in
+    let e = b + n in
+    let h = q .pre .0 in
+    let ra = re .ensures in
+    let so = c .before .before .before .before .before .before .before .before .before .before .before .before .before .before .before .before .before .before .before .before .before .solve-l2 in
+    let ob = c .before .before .before .before .before .before .before .before .before .before .before .before .before .before .before .objectives in
+    let wo = c .before .before .before .before .before .before .before .write-out in
+    let yes = not-false _ (c .before .before .before .before .before .before .before .before .before .before .before .before .before .before .before .before .before .before .if1 .left) in
+    let w = so .last .0 in
+    let x = ob .last .0 in
+    let t = trendL2 k y (p .lam) in
+    let held = ap (λ (j : ℕ). part j n w) (ra .0) ∙ so .ensures .trend yes in
+    let fi : e ≤ length w = omega (arith, q .pre .1 .0, so .ensures .kept .size, ra .1 .1) in
+    let sz : length x ≡ e - a = omega (arith, ob .kept .0, length-take-le (e - a) (drop a w) (omega (arith, length-drop a w))) in
+    let ga = l2-gap k y (p .lam) w x t (ob .result) a b e refl refl fi sz held (ob .ensures) in
+    let oj = l2-objective k y (p .lam) w x t (ob .result) a b e refl refl fi sz held (ob .ensures) in
+    let tr = l2-trend k y (p .lam) w x t (ob .result) a b e refl refl fi sz held (ob .ensures) in
+    (
+      λ tol limit penalty.
+          let A = asking y (p .lam) tol limit k penalty in
+          gives-same (l2-sound A (sym (so .ensures .sound) ∙ yes))
+          (gives-fit
+          (closed-shows A t (gapL2 k y (p .lam) t) (objectiveL2 k y (p .lam) t)
+          (c .closed .ensures ∙ ap₂ (λ (g o : Float). closedOf (wo .result) (p .lam-max) g o) ga oj) (q .pre .1 .1)
+          (wrote-as _ t tr (wo .ensures)))),
+      kept-then 0 (16 * n) (so .ensures .kept) (l2-kept k y (p .lam) w x t (ob .result) a b e refl refl fi sz held (ob .ensures) (16 * n) (omega (arith, ra .1 .1))) (omega arith) (omega arith) (omega (arith, ra .0, ra .1 .1)) (omega arith),
+    )
+
+pub fit-l2-spec : {M : Type 1} → statement M
+fit-l2-spec =
+    tie.close
+    (tie.spec
+    solve-l2-requires
+    same-length
+    returns
+    rows-end-requires
+    add-b
+    add-e
+    mul-objectives
+    sub-objectives
+    part-objectives-start
+    part-objectives-end
+    objectives-requires
+    mul-write-out
+    sub-write-out
+    part-write-out-start
+    part-write-out-end
+    write-out-requires
+    closed-requires
+    same-length-2
+    same-length-3
+    same-length-4
+    same-length-5
+    returns-2)

@@ -1,0 +1,87 @@
+use borrow.Author.Needs.{needs}
+use mathlib.Core.Path.{_≡_, refl, sym, ap, _∙_}
+use Prim.Native.Nat.{ℕ, _≤_, _<_, _-_, _+_, _*_}
+use native.Mathlib.Omega.{arith}
+use borrow.Author.Tests.{not-true, not-false, eq-eqb, ne-eqb}
+use lib.ListN.{length}
+use Rattle.vectors.proofs.Laws.{kept-none, kept-then}
+use Rattle.questions.specs.Groups.{asking, lending}
+use Rattle.trend_filter.proofs.Laws.{gives-refused, gives-fit, gives-same, by-1, by-2, not-early, sound-fit, unsound-fit}
+use Rattle.fit.proofs.Passed.{fit-refused}
+use Rattle.fit.proofs.Demand3.{bounds}
+use Rattle.trend_filter.proofs.l1_trend_filter.Statement.{statement}
+use Rattle.trend_filter.proofs.l1_trend_filter.Tie as tie
+use Rattle.trend_filter.proofs.l1_trend_filter.Reads as reads
+use Rattle.trend_filter.proofs.l1_trend_filter.Lts as lts
+use Rattle.questions.proofs.question.Reads as question-reads
+use Rattle.trend_filter.proofs.fit_asked.Reads as fit-asked-reads
+
+question-requires : tie.Need-question-requires
+question-requires c κs = search needs
+
+returns : tie.Need-returns
+returns c = let d = c .before in
+    let p = c .before .before .before .before .before .before .before .before .args in
+    let o = p .opts in
+    let a = asking (p .y .now) (p .lam) (o .tol) (o .«max_iter») (o .order) (o .penalty) in
+    let l = lending (length (p .trend .now)) (length (p .cycle .now)) (length (p .knots .now)) (length (p .work .now)) (length (p .marks .now)) in
+    let n = length (p .y .now) in
+    let q = d .question .result in
+    let f = fit-refused a l q (sym (d .question .ensures)) (ne-eqb q 0 (c .if1 .taken)) in
+    record {
+      gives = gives-same f (gives-refused q (p .trend .now) (p .cycle .now) (p .knots .now));
+      unused = λ e. (refl, refl);
+      work = kept-none 0 (40 * n) (p .work .now);
+      marks = kept-none 0 (2 * n) (p .marks .now);
+      bounds = bounds a l;
+    }
+
+fit-asked-requires : tie.Need-fit-asked-requires
+fit-asked-requires c κs = let q = c .before .before .before .before .before .before in
+    sym (q .question .ensures) ∙ c .before .before .before .before .before .if1 .left
+
+same-length : tie.Need-same-length
+same-length c = search needs
+
+same-length-2 : tie.Need-same-length-2
+same-length-2 c = search needs
+
+same-length-3 : tie.Need-same-length-3
+same-length-3 c = search needs
+
+same-length-4 : tie.Need-same-length-4
+same-length-4 c = search needs
+
+same-length-5 : tie.Need-same-length-5
+same-length-5 c = search needs
+
+returns-2 : tie.Need-returns-2
+returns-2 c = let d = c .before .before .before .before .before .before .before .before .before .before in
+    let q = c .before .before .before .before .before .before .before .before .before .before .before .before .before .before .before .before .before in
+    let p = c .before .before .before .before .before .before .before .before .before .before .before .before .before .before .before .before .before .before .before .before .before .before .before .before .args in
+    let o = p .opts in
+    let a = asking (p .y .now) (p .lam) (o .tol) (o .«max_iter») (o .order) (o .penalty) in
+    let l = lending (length (p .trend .now)) (length (p .cycle .now)) (length (p .knots .now)) (length (p .work .now)) (length (p .marks .now)) in
+    let z = sym (q .question .ensures) ∙ c .before .before .before .before .before .before .before .before .before .before .before .before .before .before .before .before .if1 .left in
+    let e = d .fit-asked .ensures in
+    record {
+      gives = e .0;
+      unused = λ t. absurd (not-early a l z t);
+      work = e .1 .0;
+      marks = e .1 .1;
+      bounds = bounds a l;
+    }
+
+pub l1-trend-filter-spec : {M : Type 1} → statement M
+l1-trend-filter-spec =
+    tie.close
+    (tie.spec
+    question-requires
+    returns
+    fit-asked-requires
+    same-length
+    same-length-2
+    same-length-3
+    same-length-4
+    same-length-5
+    returns-2)

@@ -1,0 +1,65 @@
+use borrow.Author.Needs.{needs}
+use mathlib.Core.Path.{_≡_, refl, sym, ap, ap₂, _∙_}
+use mathlib.Core.List.{List}
+use mathlib.Core.Bool.{true, false}
+use Prim.Native.Nat.{ℕ, _≤_, _<_, _-_, _+_, _*_}
+use native.Mathlib.Nat.{mul-le-mul-left, mul-le-mul-right}
+use native.Mathlib.Omega.{arith}
+use borrow.Author.Tests.{not-true, not-false}
+use lib.ListN.{length, take, drop, length-drop}
+use lib.Seq.{length-take-le}
+use lib.Ieee.{Float, nan}
+use Rattle.float64.specs.Ops.{_⊖_, c0}
+use Rattle.vectors.specs.Vec.{part, put}
+use Rattle.vectors.proofs.Laws.{kept-none, kept-then}
+use Rattle.questions.specs.Groups.{asking}
+use Rattle.differences.specs.Diff.{diffK, gramRow}
+use Rattle.banded.specs.Rows.{sound}
+use Rattle.matrices.specs.Gram.{gram, lamMax, zstar}
+use Rattle.l2.proofs.System.{kept-drop, taken-part}
+use Rattle.trend_filter.proofs.prepare.Statement.{statement}
+use Rattle.trend_filter.proofs.prepare.Tie as tie
+use Rattle.trend_filter.proofs.prepare.Reads as reads
+use Rattle.trend_filter.proofs.prepare.Lts as lts
+use Rattle.differences.proofs.gram_offsets.Reads as gram-offsets-reads
+use Rattle.matrices.proofs.prepare.Reads as prepare-reads
+
+sub-m : tie.Need-sub-m
+sub-m c = search needs
+
+gram-offsets-requires : tie.Need-gram-offsets-requires
+gram-offsets-requires c κs = search needs
+
+prepare-requires : tie.Need-prepare-requires
+prepare-requires c κs = let q = c .before .before .before .before in
+    let p = q .args in
+    let m = length (p .y .now) - p .k in
+    let top : m * (p .k + 1) ≤ m * 3 = mul-le-mul-left m (omega (arith, q .pre)) in
+    (omega (arith, q .pre), (omega (arith, q .pre), (omega (arith, q .pre), (omega (arith, q .pre), omega (arith, q .pre)))))
+
+same-length : tie.Need-same-length
+same-length c = search needs
+
+returns : tie.Need-returns
+returns c = let q = c .before .before .before .before .before .before .before in
+    let p = q .args in
+    let k = p .k in
+    let y = p .y .now in
+    let m = length y - k in
+    let b = m * (k + 1) in
+    let top : b ≤ m * 3 = mul-le-mul-left m (omega (arith, q .pre)) in
+    let r = c .before .before .prepare in
+    let g = c .before .before .before .before .gram-offsets .ensures in
+    let f = rw g at (r .ensures) in
+    let w = r .last .0 in
+    let size : length w ≡ length (p .work .now) = r .kept .0 in
+    record {
+      good = f .0;
+      top = λ t. f .1 .1 t .0;
+      star = λ t. sym (taken-part b m w (omega (arith, q .pre))) ∙ f .1 .1 t .1 .1;
+      kept = kept-then 0 (40 * length y) (kept-drop nan (b + m) (p .work .now) w size (f .1 .0)) (kept-none 0 0 w) (omega arith) (omega arith) (omega (arith, q .pre)) (omega arith);
+    }
+
+pub prepare-spec : {M : Type 1} → statement M
+prepare-spec =
+    tie.close (tie.spec sub-m gram-offsets-requires prepare-requires same-length returns)

@@ -1,0 +1,104 @@
+//! Writes the fixed list of the Rust's answers that the program `replay` reads: little-endian words of 8 bytes.
+//!
+//! The file is the number of cases and then the cases. A case is: group, order, penalty, n, the lengths lent of trend, cycle, knots, work
+//! and marks, lam, tol, max_iter, the n places of y; then the refusal's number, 0 for a fit; and for a fit lam_max, gap, first gap, best
+//! gap, objective, how many knots, n_iter, improvements, converged, the n places of trend and of cycle, and the knots.
+//! A double is its bits, any NaN 7ff8000000000000.
+use crate::cases::{damaged, good, lam_max_of, Case};
+use crate::compare::expected;
+use crate::port::Lengths;
+use crate::random::Random;
+
+pub const GROUPS: [&str; 12] = [
+    "refused", "short buffers", "lam 0", "lam at lam_max or above", "L2", "gap small enough", "limit spent", "stalled", "pivot lost", "NaN or infinite gaps",
+    "subnormal and huge", "weeks",
+];
+
+fn bits(x: f64) -> u64 {
+    if x.is_nan() {
+        0x7ff8_0000_0000_0000
+    } else {
+        x.to_bits()
+    }
+}
+
+fn words(group: usize, c: &Case, l: &Lengths, out: &mut Vec<u64>) {
+    let n = c.y.len();
+    let lent = [l.trend, l.cycle, l.knots, l.work, l.marks].map(|x| x as u64);
+    out.extend([group as u64, c.order as u64, c.penalty as u64, n as u64]);
+    out.extend(lent);
+    out.extend([c.lam.to_bits(), c.tol.to_bits(), c.max_iter]);
+    out.extend(c.y.iter().map(|&x| bits(x)));
+    let short = if l.trend < n || l.cycle < n || l.knots < n {
+        8
+    } else if l.work < 40 * n || l.marks < 2 * n {
+        9
+    } else {
+        0
+    };
+    match expected(c) {
+        Err(q) if q != 10 || short == 0 => out.push(q as u64),
+        _ if short != 0 => out.push(short),
+        Err(_) => unreachable!(),
+        Ok((f, s)) => {
+            out.push(0);
+            out.extend([f.lam_max, f.duality_gap, s.first, s.best, f.objective].map(bits));
+            out.extend([f.knots.len() as u64, f.n_iter as u64, s.improvements, f.converged as u64]);
+            out.extend(f.trend.iter().chain(&f.cycle).map(|&x| bits(x)));
+            out.extend(f.knots.iter().map(|&k| k as u64));
+        }
+    }
+}
+
+/// The group of a case, by how the Rust answers it.
+fn group(c: &Case) -> usize {
+    let Ok((f, s)) = expected(c) else { return 0 };
+    let size = c.y.iter().fold(0.0f64, |m, v| m.max(v.abs()));
+    if !f.duality_gap.is_finite() {
+        9
+    } else if c.penalty == 2 {
+        4
+    } else if c.lam == 0.0 {
+        2
+    } else if s.reason == 0 {
+        3
+    } else if !(1e-140..1e140).contains(&size) {
+        10
+    } else {
+        4 + s.reason as usize
+    }
+}
+
+/// The list: some cases of every group, most of them short, and some weeks of 168 places.
+pub fn list(seed: u64, each: usize) -> Vec<u64> {
+    let mut r = Random::new(seed);
+    let mut have = [0usize; 12];
+    let mut out = vec![0];
+    let mut count = 0;
+    while have[..11].iter().enumerate().any(|(g, &h)| g != 1 && h < each) {
+        let c = if r.below(4) == 0 { damaged(&mut r, 14) } else { good(&mut r, 14) };
+        let g = group(&c);
+        if have[g] < each {
+            have[g] += 1;
+            count += 1;
+            words(g, &c, &Lengths::exact(c.y.len()), &mut out);
+        }
+    }
+    for i in 0..each {
+        let c = good(&mut r, 14);
+        let mut l = Lengths::exact(c.y.len());
+        let lent = [&mut l.trend, &mut l.cycle, &mut l.knots, &mut l.work, &mut l.marks];
+        *lent.into_iter().nth(i % 5).unwrap() -= 1;
+        count += 1;
+        words(1, &c, &l, &mut out);
+    }
+    for i in 0..6u32 {
+        let order = 1 + i % 2;
+        let y: Vec<f64> = (0..168).map(|h| (h as f64 * 20.0 + if h > 90 { 2500.0 } else { 0.0 } + r.normal() * 400.0).round()).collect();
+        let lam = lam_max_of(&y, order) * [0.3, 0.05, 0.01][i as usize / 2];
+        count += 1;
+        words(11, &Case { y, lam, tol: 1e-8, max_iter: 100, order, penalty: 1 }, &Lengths::exact(168), &mut out);
+    }
+    out[0] = count;
+    out
+}

@@ -1,0 +1,161 @@
+// Runs every call of the fit that is stored in a folder (NNN.case, NNN.exp) through trend_filter_fit and compares
+// each number, place and refusal with the answer of the Rust. Every lent buffer stands between guard bytes, and
+// every place that must stay as found is compared with what it held.
+#include <dirent.h>
+#include <inttypes.h>
+#include <stdint.h>
+#include <stdio.h>
+#include <stdlib.h>
+#include <string.h>
+
+// A slice is passed as its address and its length.
+extern uint32_t trend_filter_fit(
+    const double *y, size_t n, double lam, double tol, uint64_t max_iter, uint32_t order, uint32_t penalty,
+    double *trend, size_t trend_len, double *cycle, size_t cycle_len, uint32_t *knots, size_t knots_len,
+    double *work, size_t work_len, uint32_t *marks, size_t marks_len, double numbers[5], uint64_t counts[4]);
+
+enum { GUARD = 4096 };
+
+// A buffer of len bytes between two guards, filled with a pattern.
+typedef struct {
+    unsigned char *all, *at;
+    size_t len;
+    unsigned seed;
+} Lent;
+
+static unsigned char fill_at(unsigned seed, size_t i) { return (unsigned char)(seed * 37u + i * 151u + (i >> 8) * 29u + 11u); }
+
+static Lent lend(size_t len, unsigned seed) {
+    Lent l = {malloc(len + 2 * GUARD), NULL, len, seed};
+    if (!l.all) { perror("malloc"); exit(2); }
+    l.at = l.all + GUARD;
+    for (size_t i = 0; i < len + 2 * GUARD; i++) l.all[i] = fill_at(seed, i);
+    return l;
+}
+
+// Whether everything but the first free bytes is as it was filled, the guards included.
+static int kept(Lent l, size_t free) {
+    for (size_t i = 0; i < l.len + 2 * GUARD; i++)
+        if ((i < GUARD || GUARD + free <= i) && l.all[i] != fill_at(l.seed, i)) return 0;
+    return 1;
+}
+
+static uint64_t bits_of(double x) {
+    uint64_t b;
+    memcpy(&b, &x, 8);
+    return x != x ? UINT64_C(0x7ff8000000000000) : b;
+}
+
+static double double_of(const unsigned char *p) {
+    double x;
+    memcpy(&x, p, 8);
+    return x;
+}
+
+static uint64_t hash_more(uint64_t h, uint64_t v, int bytes) {
+    for (int i = 0; i < bytes; i++) h = (h ^ (v >> (8 * i) & 255)) * UINT64_C(0x100000001b3);
+    return h;
+}
+
+static const uint64_t HASH0 = UINT64_C(0xcbf29ce484222325);
+
+static unsigned char *read_file(const char *dir, const char *name, const char *end, size_t *len) {
+    char path[4096];
+    snprintf(path, sizeof path, "%s/%s.%s", dir, name, end);
+    FILE *f = fopen(path, "rb");
+    if (!f) { perror(path); exit(2); }
+    fseek(f, 0, SEEK_END);
+    *len = (size_t)ftell(f);
+    rewind(f);
+    unsigned char *d = malloc(*len + 1);
+    if (fread(d, 1, *len, f) != *len) { perror(path); exit(2); }
+    d[*len] = 0;
+    fclose(f);
+    return d;
+}
+
+static uint32_t u32_at(const unsigned char *d, size_t i) { uint32_t v; memcpy(&v, d + i, 4); return v; }
+
+static long wrong;
+
+static void say(const char *name, const char *what) {
+    if (wrong++ < 40) printf("%s: %s\n", name, what);
+}
+
+// The text that the .exp has, from what the call returned; the reason, which the call does not return, is taken over.
+static char *listing(size_t n, uint32_t order, uint32_t penalty, const char *reason, const double *t, const double *c,
+                     const uint32_t *k, const double num[5], const uint64_t cnt[4]) {
+    char *out = malloc(400 + (n <= 256 ? n * 80 : 0)), *p = out;
+    uint64_t h[3] = {HASH0, HASH0, HASH0};
+    for (size_t i = 0; i < n; i++) h[0] = hash_more(h[0], bits_of(t[i]), 8), h[1] = hash_more(h[1], bits_of(c[i]), 8);
+    for (uint64_t i = 0; i < cnt[0]; i++) h[2] = hash_more(h[2], k[i], 4);
+    p += sprintf(p, "fit %zu %u %u %" PRIu64 " %" PRIu64 " %" PRIu64 " %s %" PRIu64 "\n", n, order, penalty, cnt[1], cnt[2], cnt[3], reason, cnt[0]);
+    p += sprintf(p, "num");
+    for (int i = 0; i < 5; i++) p += sprintf(p, " %016" PRIx64, bits_of(num[i]));
+    p += sprintf(p, "\nhash %016" PRIx64 " %016" PRIx64 " %016" PRIx64 "\n", h[0], h[1], h[2]);
+    if (n <= 256) {
+        for (size_t i = 0; i < n; i++) p += sprintf(p, "h %zu %016" PRIx64 " %016" PRIx64 "\n", i, bits_of(t[i]), bits_of(c[i]));
+        for (uint64_t i = 0; i < cnt[0]; i++) p += sprintf(p, "knot %u\n", k[i]);
+    }
+    return out;
+}
+
+static void run(const char *dir, const char *name) {
+    size_t len, elen;
+    unsigned char *d = read_file(dir, name, "case", &len);
+    char *e = (char *)read_file(dir, name, "exp", &elen);
+    uint32_t order = d[4], penalty = d[5];
+    size_t n = u32_at(d, 8), lt = u32_at(d, 12), lc = u32_at(d, 16), lk = u32_at(d, 20), lw = u32_at(d, 24), lm = u32_at(d, 28);
+    double lam = double_of(d + 32), tol = double_of(d + 40);
+    uint64_t max_iter;
+    memcpy(&max_iter, d + 48, 8);
+    Lent y = lend(8 * n, 1), t = lend(8 * lt, 2), c = lend(8 * lc, 3), k = lend(4 * lk, 4), w = lend(8 * lw, 5), m = lend(4 * lm, 6);
+    Lent nu = lend(40, 7), co = lend(32, 8);
+    memcpy(y.at, d + 56, 8 * n);
+    uint32_t got = trend_filter_fit((double *)y.at, n, lam, tol, max_iter, order, penalty, (double *)t.at, lt, (double *)c.at, lc,
+                                    (uint32_t *)k.at, lk, (double *)w.at, lw, (uint32_t *)m.at, lm, (double *)nu.at, (uint64_t *)co.at);
+    if (memcmp(y.at, d + 56, 8 * n) || !kept(y, 8 * n)) say(name, "y changed");
+    if (got) {
+        char text[40];
+        snprintf(text, sizeof text, "refused %u\n", got);
+        if (strcmp(text, e)) say(name, "another refusal, or a refusal where a fit is due");
+        if (!kept(t, 0) || !kept(c, 0) || !kept(k, 0) || !kept(nu, 0) || !kept(co, 0)) say(name, "something was written before a refusal");
+        if (!kept(w, got == 10 ? 8 * 40 * n : 0) || !kept(m, got == 10 ? 4 * 2 * n : 0)) say(name, "work or marks changed before a refusal");
+    } else if (strncmp(e, "fit ", 4)) {
+        say(name, "a fit where a refusal is due");
+    } else {
+        const uint64_t *cnt = (uint64_t *)co.at;
+        char reason[8];
+        sscanf(e, "fit %*s %*s %*s %*s %*s %*s %7s", reason);
+        if (cnt[0] > lk || cnt[0] > n) say(name, "more knots than places");
+        else {
+            char *g = listing(n, order, penalty, reason, (double *)t.at, (double *)c.at, (uint32_t *)k.at, (double *)nu.at, cnt);
+            if (strcmp(g, e)) say(name, "another answer");
+            free(g);
+            if (!kept(t, 8 * n) || !kept(c, 8 * n) || !kept(k, 4 * cnt[0])) say(name, "a place past the answer changed");
+        }
+        if (!kept(w, 8 * 40 * n) || !kept(m, 4 * 2 * n)) say(name, "work or marks changed past the free places");
+        if (!kept(nu, 40) || !kept(co, 32)) say(name, "a guard of the numbers changed");
+    }
+    free(d), free(e), free(y.all), free(t.all), free(c.all), free(k.all), free(w.all), free(m.all), free(nu.all), free(co.all);
+}
+
+int main(int argc, char **argv) {
+    long cases = 0;
+    if (argc != 2) { fprintf(stderr, "usage: run FOLDER\n"); return 2; }
+    struct dirent **names;
+    int all = scandir(argv[1], &names, NULL, alphasort);
+    if (all < 0) { perror(argv[1]); return 2; }
+    for (int i = 0; i < all; i++) {
+        char *end = strstr(names[i]->d_name, ".case");
+        if (end && !end[5]) {
+            *end = 0;
+            run(argv[1], names[i]->d_name);
+            cases++;
+        }
+        free(names[i]);
+    }
+    free(names);
+    printf("%ld cases, %ld differences\n", cases, wrong);
+    return wrong != 0 || cases == 0;
+}
