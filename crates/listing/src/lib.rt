@@ -46,7 +46,7 @@ fn put_all(out: &mut [u8], at: usize, src: &[u8]) -> usize
 }
 
 // The bits of a double; a NaN's are those that the listing prints for any NaN.
-fn pattern(x: f64) -> u64
+pub fn pattern(x: f64) -> u64
     ensures { λ r. ⌜ r ≡ toBits binary64 x ⌝ }
 {
     if x != x {

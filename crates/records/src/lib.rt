@@ -68,7 +68,7 @@ fn four(s: &[u8], at: usize) -> u64
     two(s, at) + 65536 * two(s, at + 2)
 }
 
-fn eight(s: &[u8], at: usize) -> u64
+pub fn eight(s: &[u8], at: usize) -> u64
     requires { ⌜ at + 8 ≤ length (now s) ⌝ }
     ensures { λ r. ⌜ r ≡ eight·at (now (s .entry)) at ⌝ }
 {
@@ -76,7 +76,7 @@ fn eight(s: &[u8], at: usize) -> u64
 }
 
 // The double that a bit pattern spells; each NaN's pattern is the NaN.
-fn double(b: u64) -> f64
+pub fn double(b: u64) -> f64
     ensures { λ r. ⌜ r ≡ ofBits binary64 b ⌝ }
 {
     if b % 0x8000_0000_0000_0000 > 0x7ff0_0000_0000_0000 {
