@@ -14,7 +14,7 @@ use Rattle.banded.specs.Rows.{Matrix, matrix, concat}
 use Rattle.banded.specs.Run.{flat}
 use Rattle.banded.proofs.Laws.{above, one-row, of-holds, shape-matrix, look-matrix, kept-after}
 use Rattle.matrices.specs.Gram.{more, apart, product}
-use Rattle.matrices.specs.Layout.{Laid}
+pub use Rattle.matrices.specs.Layout.{Laid}
 
 pub laid-none : (k : ℕ) (a : Matrix) (s : List Float) → Laid k 0 a s s
 laid-none k a s = record { kept = kept-none 0 (0 * (k + 1)) s; same = λ i j h g. absurd (omega arith) }
