@@ -30,6 +30,7 @@ pub struct Run {
     pub lost: bool,
 }
 
+// The places from a up to e become v.
 fn fill(s: &mut [f64], a: usize, e: usize, v: f64)
     requires { ⌜ (a ≤ e) × (e ≤ length (now s)) ⌝ }
     ensures { λ _. ⌜ Written a e (λ j. v) (now (s .entry)) (now (s .exit)) ⌝ }
@@ -95,6 +96,7 @@ fn going(r: Run, tol: f64, max_iter: u64) -> bool
     r.stalled != 10
 }
 
+// The next t: larger if the last step was at least 0.2.
 fn next_t(t: f64, step: f64, gap: f64, m: usize) -> f64
     requires { ⌜ m ≤ 65536 ⌝ }
     ensures { λ r. ⌜ ((p : Dual) → r ≡ nextT m gap (record { point = p; t = t; step = step })) ⌝ }
@@ -169,7 +171,7 @@ fn pivot_lost(r: Run) -> Run
     }
 }
 
-// One iteration.
+// One iteration: a Newton step with the next t, and the certificate at the point that it leaves.
 fn iterate(work: &mut [f64], y: &[f64], dy: &[f64], lam: f64, k: usize, g: [f64; 3], r: Run) -> Run
     requires { ⌜ (1 ≤ k) × ((k ≤ 2) × ((k < length (now y)) × ((length (now y) ≤ 65536) × ((13 * length (now y) ≤ length (now work)) × ((take (length (now y) - k) (now dy) ≡ diffK k (now y))
         × ((r .«n_iter» + 1 < 2 ^ 64) × ((r .improvements ≤ r .«n_iter») × ((r .stalled ≤ 10)

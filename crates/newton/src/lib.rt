@@ -37,6 +37,7 @@ fn residual(s: &[f64], dy: &[f64], lam: f64, u: f64, g: [f64; 3], k: usize, m: u
     a
 }
 
+// How mu1 moves at a place, and mu2, where z moves by dz.
 fn dmu1_at(z: f64, mu1: f64, dz: f64, lam: f64, u: f64) -> f64
     ensures { λ r. ⌜ r ≡ dmu1At lam u z mu1 dz ⌝ }
 {
@@ -134,6 +135,7 @@ pub fn directions(s: &mut [f64], b: usize, lam: f64, u: f64, m: usize) -> f64
     cap(s, b, m)
 }
 
+// Whether the norm of the residual at the trial in s is low enough against the old one.
 fn low_enough(
     s: &[f64],
     dy: &[f64],
@@ -194,6 +196,7 @@ fn attempt(
     }
 }
 
+// How a line search ended: its last step, halved if the trial was not accepted, and whether the last trial is inside.
 pub struct Trial {
     pub step: f64,
     pub inside: bool,
