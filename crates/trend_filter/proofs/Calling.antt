@@ -5,11 +5,11 @@ use Prim.Native.Nat.{ℕ}
 use lib.Ieee.{Float}
 use Rattle.fit.specs.Questions.{Asked, Lent}
 use Rattle.fit.specs.Fit.{fit}
 use Rattle.trend_filter.specs.Answers.{answerOf, Answered}
 use Rattle.trend_filter.specs.declared.Summary.{Summary}
 use Rattle.trend_filter.specs.declared.Answer.{Answer}
 use Rattle.trend_filter.specs.declared.Answer.the-variants.{Fit, Refused}
-use Rattle.trend_filter_c.specs.Calls.{numbersOf, countsOf, codeOf, filled, Called}
+use Rattle.trend_filter.specs.Calls.{numbersOf, countsOf, codeOf, filled, Called}
 
 module _ {a : Asked} {l : Lent} {r : Answer} {t₀ t c₀ c : List Float} {k₀ k : List ℕ} {w₀ w : List Float} {m₀ m : List ℕ}
     (h : Answered a l r t₀ t c₀ c k₀ k w₀ w m₀ m) where

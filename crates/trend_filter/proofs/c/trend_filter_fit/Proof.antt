@@ -1,7 +1,7 @@
 use borrow.Author.Needs.{needs}
-use Rattle.trend_filter_c.proofs.Laws.{told-refused, told-fit}
-use Rattle.trend_filter_c.proofs.trend_filter_fit.Statement.{statement}
-use Rattle.trend_filter_c.proofs.trend_filter_fit.Tie as tie
+use Rattle.trend_filter.proofs.Calling.{told-refused, told-fit}
+use Rattle.trend_filter.proofs.c.trend_filter_fit.Statement.{statement}
+use Rattle.trend_filter.proofs.c.trend_filter_fit.Tie as tie
 
 l1-trend-filter-requires : tie.Need-l1-trend-filter-requires
 l1-trend-filter-requires c κs = search needs

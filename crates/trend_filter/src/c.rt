@@ -2,10 +2,10 @@
 ghost use mathlib.Core.Path.{_≡_};
 ghost use lib.ListN.{length};
 ghost use Rattle.questions.specs.Groups.{asking, lending};
-ghost use Rattle.trend_filter_c.specs.Calls.{oneIf, numbersOf, countsOf, Called};
-use trend_filter::Answer;
-use trend_filter::Summary;
-use trend_filter::TrendFilterOptions;
+ghost use Rattle.trend_filter.specs.Calls.{oneIf, numbersOf, countsOf, Called};
+use crate::Answer;
+use crate::Summary;
+use crate::TrendFilterOptions;
 
 fn one_if(b: bool) -> u64
     ensures { λ r. ⌜ r ≡ oneIf b ⌝ }
@@ -55,7 +55,7 @@ pub extern "C" fn trend_filter_fit(
         tol: tol,
         max_iter: max_iter,
     };
-    let a = trend_filter::l1_trend_filter(y, lam, o, trend, cycle, knots, work, marks);
+    let a = crate::l1_trend_filter(y, lam, o, trend, cycle, knots, work, marks);
     match a {
         Answer::Refused(q) => q,
         Answer::Fit(s) => {
