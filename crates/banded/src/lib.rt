@@ -17,7 +17,7 @@ pub fn get(s: &[f64], w: usize, r: usize, c: usize) -> f64
 }
 
 // The first place of row r that stands for a column.
-pub fn first(k: usize, r: usize) -> usize
+fn first(k: usize, r: usize) -> usize
     ensures { λ c. ⌜ c ≡ k - r ⌝ }
 {
     if r < k { k - r } else { 0 }

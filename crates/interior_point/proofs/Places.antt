@@ -50,21 +50,21 @@ point-in a n m s h f =
 -- a part of the run that changed within it
 pub kept-within : (a n b l : ℕ) (s x : List Float) → a + n ≤ length s → length x ≡ n → Kept b l (take n (drop a s)) x → Kept (a + b) l s (putBack a n s x)
 kept-within a n b l s x f e w = record {
-      size = kept-put a n s x f e nan .size;
-      below = λ j h. ⊎-elim
-          (λ (o : j < a). kept-put a n s x f e nan .below j o)
-          (λ (o : a ≤ j). let q : a + (j - a) ≡ j = omega arith in
-            ⊎-elim
-            (λ (u : j - a < n). within j (j - a) q u (w .below (j - a) (omega arith)))
-            (λ (u : n ≤ j - a). kept-put a n s x f e nan .above j (omega arith))
-            (split (j - a) n))
-          (split j a);
-      above = λ j h. let q : a + (j - a) ≡ j = omega arith in
-          ⊎-elim
-          (λ (u : j - a < n). within j (j - a) q u (w .above (j - a) (omega arith)))
-          (λ (u : n ≤ j - a). kept-put a n s x f e nan .above j (omega arith))
-          (split (j - a) n);
-    }
+  size = kept-put a n s x f e nan .size;
+  below = λ j h. ⊎-elim
+      (λ (o : j < a). kept-put a n s x f e nan .below j o)
+      (λ (o : a ≤ j). let q : a + (j - a) ≡ j = omega arith in
+      ⊎-elim
+      (λ (u : j - a < n). within j (j - a) q u (w .below (j - a) (omega arith)))
+      (λ (u : n ≤ j - a). kept-put a n s x f e nan .above j (omega arith))
+      (split (j - a) n))
+      (split j a);
+  above = λ j h. let q : a + (j - a) ≡ j = omega arith in
+      ⊎-elim
+      (λ (u : j - a < n). within j (j - a) q u (w .above (j - a) (omega arith)))
+      (λ (u : n ≤ j - a). kept-put a n s x f e nan .above j (omega arith))
+      (split (j - a) n);
+}
   where
     within : (j i : ℕ) → a + i ≡ j → i < n → at x i ≡ at (take n (drop a s)) i → at (putBack a n s x) j ≡ at s j
     within j i q u o =
@@ -80,10 +80,10 @@ module _ (k : ℕ) (g dy : List Float) (lam u : Float) (a m n : ℕ) (s x : List
       let y : a + (0 + m) ≡ a + m = omega arith in
       let v : a + (0 + m + m) ≡ a + m + m = omega arith in
       let back : point a m (putBack a n s x) ≡ point 0 m x = λ i. record {
-            z = (sym (ap (λ (q : ℕ). part q m (putBack a n s x)) z) ∙ part-put a n s x fits e nan 0 m (omega arith)) i;
-            mu1 = (sym (ap (λ (q : ℕ). part q m (putBack a n s x)) y) ∙ part-put a n s x fits e nan (0 + m) m (omega arith)) i;
-            mu2 = (sym (ap (λ (q : ℕ). part q m (putBack a n s x)) v) ∙ part-put a n s x fits e nan (0 + m + m) m (omega arith)) i;
-          } in
+        z = (sym (ap (λ (q : ℕ). part q m (putBack a n s x)) z) ∙ part-put a n s x fits e nan 0 m (omega arith)) i;
+        mu1 = (sym (ap (λ (q : ℕ). part q m (putBack a n s x)) y) ∙ part-put a n s x fits e nan (0 + m) m (omega arith)) i;
+        mu2 = (sym (ap (λ (q : ℕ). part q m (putBack a n s x)) v) ∙ part-put a n s x fits e nan (0 + m + m) m (omega arith)) i;
+      } in
       record {
         answer = w .answer ∙ λ i. stepOf (sound k (system k g lam (p i)) m) (searchLine k g dy lam u (p i) .step);
         moves = back ∙ w .moves ∙ λ i. cond (sound k (system k g lam (p i)) m) (taken lam (p i) (searchLine k g dy lam u (p i))) (p i);

@@ -60,15 +60,18 @@ pub started : (k : ℕ) (y : List Float) (lam : Float) (n m : ℕ) (s₀ s₁ s�
     → Written n (n + m) (λ j. c0) s₀ s₁ → Written (n + m) (n + m + m + m) (λ j. c1) s₁ s₂
     → part 0 n s₃ ≡ certify k y lam (part n m s₂) .trend → p ≡ certify k y lam (part n m s₂) .primal → d ≡ certify k y lam (part n m s₂) .dual → Kept 0 n s₂ s₃
     → ((g : List Float) → pointOf n m s₃ (startRun (p ⊖ d) p) ≡ start (problem k g y lam) (origin m))
-      × (Standing k y lam n m s₃ (startRun (p ⊖ d) p) × ((p ⊖ d ≡ p ⊖ d) × ((false ≡ false) × Kept 0 (13 * n) s₀ s₃)))
+    × (Standing k y lam n m s₃ (startRun (p ⊖ d) p) × ((p ⊖ d ≡ p ⊖ d) × ((false ≡ false) × Kept 0 (13 * n) s₀ s₃)))
 started k y lam n m s₀ s₁ s₂ s₃ p d o v w e f h q =
     let z : part n m s₃ ≡ part n m s₂ = part-above nan n m q (omega arith) in
     let x : p ⊖ d ≡ gapOf (certify k y lam (part n m s₃)) = λ i. (f ∙ λ j. certify k y lam (sym z j) .primal) i ⊖ (h ∙ λ j. certify k y lam (sym z j) .dual) i in
     let b : Kept (n + m) (m + m) s₁ s₂ = record { size = w .size; below = w .below; above = λ j u. w .above j (omega arith) } in
-    let a = kept-then 0 (13 * n) (written-kept v) b (omega arith) (omega arith) (omega arith) (omega arith) in
-    ((λ g. start-is k g y lam n m s₃ (p ⊖ d) p (origin-stands n m s₀ s₁ s₂ s₃ v w q) x),
-     (record { trend = e ∙ (λ i. certify k y lam (sym z i) .trend); primal = f ∙ (λ i. certify k y lam (sym z i) .primal); gap = x },
-      (refl, (refl, kept-then 0 (13 * n) a q (omega arith) (omega arith) (omega arith) (omega arith)))))
+    let a = kept-then 0 (13 * n) (written-kept v) b (omega arith) (omega arith) (omega arith) (omega arith) in (
+      (λ g. start-is k g y lam n m s₃ (p ⊖ d) p (origin-stands n m s₀ s₁ s₂ s₃ v w q) x),
+      (
+        record { trend = e ∙ (λ i. certify k y lam (sym z i) .trend); primal = f ∙ (λ i. certify k y lam (sym z i) .primal); gap = x },
+        (refl, (refl, kept-then 0 (13 * n) a q (omega arith) (omega arith) (omega arith) (omega arith))),
+      ),
+    )
 
 -- ---- one iteration
 
@@ -76,7 +79,7 @@ started k y lam n m s₀ s₁ s₂ s₃ p d o v w e f h q =
 pub move-is : (k : ℕ) (g y : List Float) (lam : Float) (m : ℕ) (p : Dual) (t step v t₁ : Float) → length (p .z) ≡ m → v ≡ gapOf (certify k y lam (p .z))
     → t₁ ≡ nextT m v (record { point = p; t = t; step = step })
     → move k g y lam (record { point = p; t = t; step = step })
-      ≡ cond (sound k (system k g lam p) m) (moved (landed lam (record { point = p; t = t; step = step }) t₁ (searchLine k g (diffK k y) lam (c1 ⊘ t₁) p))) lost
+    ≡ cond (sound k (system k g lam p) m) (moved (landed lam (record { point = p; t = t; step = step }) t₁ (searchLine k g (diffK k y) lam (c1 ⊘ t₁) p))) lost
 unfolding move
 move-is k g y lam m p t step v t₁ l e f =
     let st : State = record { point = p; t = t; step = step } in
@@ -185,21 +188,21 @@ module _ (k : ℕ) (g y dy : List Float) (lam : Float) (n m : ℕ) (s₀ s₁ : 
 
     pub turned-moved : w ≡ Moved step → Turned k g y lam n m s₀ s r x
     turned-moved e = record {
-          ahead = λ tol j q f. run-moved L tol j (pointOf n m s₀ r) (stateOf n m s x) (improves r p d) (gap-test tol false q) f
-                (ap (λ (h : State → Turn State). h (stateOf n m s₀ r)) moves-as ∙ landed-at e) better-is
-              ∙ sym (ap (run L tol j) (advanced (improves r p d) refl))
-              ∙ sym (ap (leftOf L tol j (pointOf n m s x)) (new .lost));
-          standing = record {
-            trend = trend ∙ λ i. certify k y lam (sym z-s i) .trend;
-            primal = new .primal ∙ primal ∙ λ i. certify k y lam (sym z-s i) .primal;
-            gap = new .gap ∙ gap-s;
-          };
-          first = new .first;
-          steps = new .steps;
-          gains = rw (new .gains) (at-most (improves r p d) (r .improvements + 1) (r .improvements) (omega arith));
-          stall = rw (new .stall) (no-more (improves r p d));
-          kept = kept-then 0 (13 * n) (stepped .kept) kept (omega arith) (omega arith) (omega arith) (omega arith);
-        }
+      ahead = λ tol j q f. run-moved L tol j (pointOf n m s₀ r) (stateOf n m s x) (improves r p d) (gap-test tol false q) f
+          (ap (λ (h : State → Turn State). h (stateOf n m s₀ r)) moves-as ∙ landed-at e) better-is
+          ∙ sym (ap (run L tol j) (advanced (improves r p d) refl))
+          ∙ sym (ap (leftOf L tol j (pointOf n m s x)) (new .lost));
+      standing = record {
+        trend = trend ∙ λ i. certify k y lam (sym z-s i) .trend;
+        primal = new .primal ∙ primal ∙ λ i. certify k y lam (sym z-s i) .primal;
+        gap = new .gap ∙ gap-s;
+      };
+      first = new .first;
+      steps = new .steps;
+      gains = rw (new .gains) (at-most (improves r p d) (r .improvements + 1) (r .improvements) (omega arith));
+      stall = rw (new .stall) (no-more (improves r p d));
+      kept = kept-then 0 (13 * n) (stepped .kept) kept (omega arith) (omega arith) (omega arith) (omega arith);
+    }
       where
         no-more : (b : Bool) → cond b 0 (r .stalled + 1) ≤ r .stalled + 1
         no-more true = omega arith
@@ -318,7 +321,7 @@ all-found k g y lam tol limit s₀ s₁ s r isg v w h =
     let m = length y - k in
     let e = loop-ends k g y lam tol limit n m s₁ s r w h in
     let q : run (problem k g y lam) tol limit (start (problem k g y lam) (origin m)) ≡ searchOf k y lam tol limit =
-        λ i. run (problem k (isg i) y lam) tol limit (start (problem k (isg i) y lam) (origin m)) in
+    λ i. run (problem k (isg i) y lam) tol limit (start (problem k (isg i) y lam) (origin m)) in
     let p : point n m s ≡ searchOf k y lam tol limit .state .point = ap (λ (x : State). x .point) (e .state) ∙ ap (λ (x : Ended State). x .state .point) q in
     record {
       ends = p;

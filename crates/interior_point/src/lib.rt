@@ -13,7 +13,6 @@ ghost use Rattle.newton.specs.Newton.{Dual};
 ghost use Rattle.newton_step.specs.Stepped.{Stepped};
 ghost use Rattle.interior_point.specs.InteriorPoint.{nextT, problem, origin};
 ghost use Rattle.interior_point.specs.Account.{pointOf, Standing, goes, Settled, Turned, Found};
-
 use certificate::Pair;
 use newton_step::Step;
 
@@ -31,6 +30,7 @@ pub struct Run {
     pub lost: bool,
 }
 
+// The places from a up to e become v.
 fn fill(s: &mut [f64], a: usize, e: usize, v: f64)
     requires { ⌜ (a ≤ e) × (e ≤ length (now s)) ⌝ }
     ensures { λ _. ⌜ Written a e (λ j. v) (now (s .entry)) (now (s .exit)) ⌝ }
@@ -96,6 +96,7 @@ fn going(r: Run, tol: f64, max_iter: u64) -> bool
     r.stalled != 10
 }
 
+// The next t: larger if the last step was at least 0.2.
 fn next_t(t: f64, step: f64, gap: f64, m: usize) -> f64
     requires { ⌜ m ≤ 65536 ⌝ }
     ensures { λ r. ⌜ ((p : Dual) → r ≡ nextT m gap (record { point = p; t = t; step = step })) ⌝ }
@@ -155,6 +156,7 @@ fn pivot_lost(r: Run) -> Run
     requires { ⌜ r .«n_iter» + 1 < 2 ^ 64 ⌝ }
     ensures { λ x. ⌜ (x ≡ record { t = r .t; step = r .step; gap = r .gap; primal = r .primal; first = r .first; best = r .best; «n_iter» = r .«n_iter» + 1; improvements = r .improvements; stalled = r .stalled; lost = true }) ⌝ }
 {
+    let n_iter = r.n_iter + 1;
     Run {
         t: r.t,
         step: r.step,
@@ -162,14 +164,14 @@ fn pivot_lost(r: Run) -> Run
         primal: r.primal,
         first: r.first,
         best: r.best,
-        n_iter: r.n_iter + 1,
+        n_iter: n_iter,
         improvements: r.improvements,
         stalled: r.stalled,
         lost: true,
     }
 }
 
-// One iteration.
+// One iteration: a Newton step with the next t, and the certificate at the point that it leaves.
 fn iterate(work: &mut [f64], y: &[f64], dy: &[f64], lam: f64, k: usize, g: [f64; 3], r: Run) -> Run
     requires { ⌜ (1 ≤ k) × ((k ≤ 2) × ((k < length (now y)) × ((length (now y) ≤ 65536) × ((13 * length (now y) ≤ length (now work)) × ((take (length (now y) - k) (now dy) ≡ diffK k (now y))
         × ((r .«n_iter» + 1 < 2 ^ 64) × ((r .improvements ≤ r .«n_iter») × ((r .stalled ≤ 10)
@@ -187,7 +189,15 @@ fn iterate(work: &mut [f64], y: &[f64], dy: &[f64], lam: f64, k: usize, g: [f64;
 }
 
 // The interior point search. work: the trend's n places; z, mu1, mu2; the trial's; the rows of the Newton system; dz, dmu1, dmu2.
-pub fn ipm_l1(work: &mut [f64], y: &[f64], dy: &[f64], lam: f64, tol: f64, max_iter: u64, k: usize) -> Run
+pub fn ipm_l1(
+    work: &mut [f64],
+    y: &[f64],
+    dy: &[f64],
+    lam: f64,
+    tol: f64,
+    max_iter: u64,
+    k: usize,
+) -> Run
     requires { ⌜ (1 ≤ k) × ((k ≤ 2) × ((k < length (now y)) × ((length (now y) ≤ 65536) × ((13 * length (now y) ≤ length (now work)) × (take (length (now y) - k) (now dy) ≡ diffK k (now y)))))) ⌝ }
     ensures { λ r. ⌜ Found k (now (y .entry)) lam tol «max_iter» (now (work .entry)) (now (work .exit)) r ⌝ }
 {

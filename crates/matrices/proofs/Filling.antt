@@ -14,11 +14,7 @@ use Rattle.banded.specs.Rows.{Matrix, matrix, concat}
 use Rattle.banded.specs.Run.{flat}
 use Rattle.banded.proofs.Laws.{above, one-row, of-holds, shape-matrix, look-matrix, kept-after}
 use Rattle.matrices.specs.Gram.{more, apart, product}
-
--- s is s₀ with the first r rows of a in its first places
-pub record Laid (k r : ℕ) (a : Matrix) (s₀ s : List Float) : Type 0 where
-  pub kept : Kept 0 (r * (k + 1)) s₀ s
-  pub same : (i j : ℕ) → i < r → j ≤ k → flat k s i j ≡ a i j
+pub use Rattle.matrices.specs.Layout.{Laid}
 
 pub laid-none : (k : ℕ) (a : Matrix) (s : List Float) → Laid k 0 a s s
 laid-none k a s = record { kept = kept-none 0 (0 * (k + 1)) s; same = λ i j h g. absurd (omega arith) }
@@ -37,9 +33,10 @@ laid-more {k} {r} {a} {s₀} {s} {s′} w v =
 
 pub laid-done : {k m : ℕ} {a : Matrix} {s₀ s : List Float} → Laid k m a s₀ s → m * (k + 1) ≤ length s
     → (take (m * (k + 1)) s ≡ concat (matrix k a m)) × (drop (m * (k + 1)) s ≡ drop (m * (k + 1)) s₀)
-laid-done {k} {m} {a} {s₀} {s} w room =
-    (of-holds k m (matrix k a m) s room (record { shape = shape-matrix k a m; same = λ i j h g. w .same i j h g ∙ sym (look-matrix k a m i j h g) }),
-     kept-after (m * (k + 1)) s s₀ (w .kept .size) (λ q h. w .kept .above q (omega arith)))
+laid-done {k} {m} {a} {s₀} {s} w room = (
+  of-holds k m (matrix k a m) s room (record { shape = shape-matrix k a m; same = λ i j h g. w .same i j h g ∙ sym (look-matrix k a m i j h g) }),
+  kept-after (m * (k + 1)) s s₀ (w .kept .size) (λ q h. w .kept .above q (omega arith)),
+)
 
 -- ---- place i of (D D') v, away from the ends
 
@@ -77,5 +74,16 @@ pub product-2 : (g v : List Float) (i : ℕ) → 2 ≤ i → i + 2 < length v
 unfolding more
 product-2 g v i h l =
     product-far 2 g v i h l 5 refl
-    ∙ rw (place i 2 0 (omega arith) h, place i 2 1 (omega arith) h, place-after i 2 2 (omega arith) h, add-zero i, place-after i 2 3 (omega arith) h, place-after i 2 4 (omega arith) h,
-      below i 2 h, below i 1 (omega arith), here i, after i 1, after i 2)
+    ∙ rw (
+      place i 2 0 (omega arith) h,
+      place i 2 1 (omega arith) h,
+      place-after i 2 2 (omega arith) h,
+      add-zero i,
+      place-after i 2 3 (omega arith) h,
+      place-after i 2 4 (omega arith) h,
+      below i 2 h,
+      below i 1 (omega arith),
+      here i,
+      after i 1,
+      after i 2,
+    )

@@ -40,7 +40,10 @@ module _ (k m : ℕ) (g y s₀ s₁ x s₃ : List Float) (ok : Bool) (room : m *
       let b = m * (k + 1) in
       let r = done (gram k g) (first-put b m s₁ x room l ∙ held) in
       let f = kept-put b m s₁ x room l nan in
-      let two : (s : List Float) → drop (b + m) s ≡ drop m (drop b s) = λ s. sym (drop-drop m b s) in
-      (r .0, (
-        after ∙ kept-after (b + m) (putBack b m s₁ x) s₁ (f .size) (f .above) ∙ two s₁ ∙ ap (drop m) kept ∙ sym (two s₀),
-        λ t. (r .1 t .0, r .1 t .1 ∙ ap (solve k (rows k (gram k g) m)) (mid-put b m s₁ x room l ∙ differences))))
+      let two : (s : List Float) → drop (b + m) s ≡ drop m (drop b s) = λ s. sym (drop-drop m b s) in (
+        r .0,
+        (
+          after ∙ kept-after (b + m) (putBack b m s₁ x) s₁ (f .size) (f .above) ∙ two s₁ ∙ ap (drop m) kept ∙ sym (two s₀),
+          λ t. (r .1 t .0, r .1 t .1 ∙ ap (solve k (rows k (gram k g) m)) (mid-put b m s₁ x room l ∙ differences)),
+        ),
+      )

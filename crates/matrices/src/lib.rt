@@ -35,7 +35,7 @@ fn gram_row(s: &mut [f64], g: [f64; 3], k: usize, r: usize)
 }
 
 // The m rows of D D' in the first places of s.
-pub fn fill_gram(s: &mut [f64], g: [f64; 3], k: usize, m: usize)
+fn fill_gram(s: &mut [f64], g: [f64; 3], k: usize, m: usize)
     requires { ⌜ (k ≤ 2) × (m * (k + 1) ≤ length (now s)) ⌝ }
     ensures { λ _. ⌜ (take (m * (k + 1)) (now (s .exit)) ≡ concat (matrix k (gram k g) m)) × (drop (m * (k + 1)) (now (s .exit)) ≡ drop (m * (k + 1)) (now (s .entry))) ⌝ }
 {
@@ -47,7 +47,7 @@ pub fn fill_gram(s: &mut [f64], g: [f64; 3], k: usize, m: usize)
 }
 
 // The factor of D D' and then z* in the first places of s; whether every pivot was good. What comes after them stays.
-pub fn star(s: &mut [f64], y: &[f64], g: [f64; 3], k: usize, m: usize) -> bool
+fn star(s: &mut [f64], y: &[f64], g: [f64; 3], k: usize, m: usize) -> bool
     requires { ⌜ (1 ≤ k) × ((k ≤ 2) × ((1 ≤ m) × ((length (now y) ≡ m + k) × (m * (k + 1) + m ≤ length (now s))))) ⌝ }
     ensures { λ ok. ⌜ (ok ≡ sound k (gram k g) m)
         × ((drop (m * (k + 1) + m) (now (s .exit)) ≡ drop (m * (k + 1) + m) (now (s .entry)))

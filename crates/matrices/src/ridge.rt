@@ -1,9 +1,12 @@
 // The rows of I + lam D'D.
 ghost use mathlib.Core.Path.{_≡_};
 ghost use Prim.Native.Nat.{_≤_, _<_, _-_, _+_, _*_, _^_};
+ghost use mathlib.Core.List.{List};
 ghost use lib.ListN.{length, take, drop};
+ghost use lib.Ieee.{Float};
 ghost use Rattle.vectors.specs.Vec.{Written};
 ghost use Rattle.banded.specs.Rows.{matrix, concat};
+ghost use Rattle.matrices.specs.Layout.{Laid, Repeated};
 ghost use Rattle.matrices.specs.Ridge.{start, ridge};
 
 // Place p of a row of I.
@@ -47,14 +50,42 @@ fn ridge_row(s: &mut [f64], c: [f64; 3], lam: f64, k: usize, n: usize, i: usize)
     }
 }
 
-// All n rows, in the first places of s.
+// Rows from up to, not including, to, once those before them are in their place.
+fn ridge_rows(s: &mut [f64], c: [f64; 3], lam: f64, k: usize, n: usize, from: usize, to: usize)
+    requires { ⌜ (k ≤ 2) × ((from ≤ to) × ((to ≤ n) × (n * (k + 1) ≤ length (now s)))) ⌝ }
+    ensures { λ _. ⌜ ((v : List Float) → Laid k from (ridge k c lam n) v (now (s .entry)) → Laid k to (ridge k c lam n) v (now (s .exit))) ⌝ }
+{
+    let mut i = from;
+    while i < to {
+        ridge_row(s, c, lam, k, n, i);
+        i += 1;
+    }
+}
+
+// The n places from b on become what stands w places before.
+fn repeat(s: &mut [f64], w: usize, b: usize, n: usize)
+    requires { ⌜ (1 ≤ w) × ((w ≤ b) × (b + n ≤ length (now s))) ⌝ }
+    ensures { λ _. ⌜ Repeated w b n (now (s .entry)) (now (s .exit)) ⌝ }
+{
+    let mut i = 0;
+    while i < n {
+        s[b + i] = s[b + i - w];
+        i += 1;
+    }
+}
+
+// All n rows, in the first places of s. From row k up to the last k they are alike.
 pub fn fill_ridge(s: &mut [f64], c: [f64; 3], lam: f64, k: usize, n: usize)
     requires { ⌜ (k ≤ 2) × (n * (k + 1) ≤ length (now s)) ⌝ }
     ensures { λ _. ⌜ (take (n * (k + 1)) (now (s .exit)) ≡ concat (matrix k (ridge k c lam n) n)) × (drop (n * (k + 1)) (now (s .exit)) ≡ drop (n * (k + 1)) (now (s .entry))) ⌝ }
 {
-    let mut i = 0;
-    while i < n {
-        ridge_row(s, c, lam, k, n, i);
-        i += 1;
+    let w = k + 1;
+    if n < w + k {
+        ridge_rows(s, c, lam, k, n, 0, n);
+        return;
     }
+    let m = n - k;
+    ridge_rows(s, c, lam, k, n, 0, w);
+    repeat(s, w, w * w, (m - w) * w);
+    ridge_rows(s, c, lam, k, n, m, n);
 }

@@ -23,8 +23,15 @@ pub cap-more : (b m : ℕ) (s : List Float) (i : ℕ) (x y : Float) → i < m �
     → y ≡ capped x (at s (m + i)) (at s (b + m + i)) → capped y (at s (m + m + i)) (at s (b + m + m + i)) ≡ capTo (point 0 m s) (point b m s) (i + 1)
 unfolding capTo
 cap-more b m s i x y h e f =
-    rw (add-one i, f, e, at-part (0 + m) m s i (m + i) h (omega arith), at-part (0 + m + m) m s i (m + m + i) h (omega arith),
-      at-part (b + m) m s i (b + m + i) h refl, at-part (b + m + m) m s i (b + m + m + i) h refl)
+    rw (
+      add-one i,
+      f,
+      e,
+      at-part (0 + m) m s i (m + i) h (omega arith),
+      at-part (0 + m + m) m s i (m + m + i) h (omega arith),
+      at-part (b + m) m s i (b + m + i) h refl,
+      at-part (b + m + m) m s i (b + m + m + i) h refl,
+    )
 
 -- what is below a number is a number
 pub less-number : (q step : Float) → lt q step ≡ true → isNan q ≡ false
@@ -60,13 +67,13 @@ pub move-done : (m b : ℕ) (step : Float) (s₀ s : List Float) → Written (3 
     → (point (3 * m) m s ≡ along (point 0 m s₀) (point b m s₀) step) × Kept (3 * m) (3 * m) s₀ s
 unfolding along
 move-done m b step s₀ s w = (
-      (λ i. record {
-        z = stepped-part 0 b (3 * m) m step s₀ s (λ j l. place (3 * m + j) (0 + j) (b + j) (omega arith) (omega arith) (omega arith) (omega arith)) i;
-        mu1 = stepped-part (0 + m) (b + m) (3 * m + m) m step s₀ s (λ j l. place (3 * m + m + j) (0 + m + j) (b + m + j) (omega arith) (omega arith) (omega arith) (omega arith)) i;
-        mu2 = stepped-part (0 + m + m) (b + m + m) (3 * m + m + m) m step s₀ s (λ j l. place (3 * m + m + m + j) (0 + m + m + j) (b + m + m + j) (omega arith) (omega arith) (omega arith) (omega arith)) i;
-      }),
-      record { size = w .size; below = w .below; above = w .above }
-    )
+  (λ i. record {
+    z = stepped-part 0 b (3 * m) m step s₀ s (λ j l. place (3 * m + j) (0 + j) (b + j) (omega arith) (omega arith) (omega arith) (omega arith)) i;
+    mu1 = stepped-part (0 + m) (b + m) (3 * m + m) m step s₀ s (λ j l. place (3 * m + m + j) (0 + m + j) (b + m + j) (omega arith) (omega arith) (omega arith) (omega arith)) i;
+    mu2 = stepped-part (0 + m + m) (b + m + m) (3 * m + m + m) m step s₀ s (λ j l. place (3 * m + m + m + j) (0 + m + m + j) (b + m + m + j) (omega arith) (omega arith) (omega arith) (omega arith)) i;
+  }),
+  record { size = w .size; below = w .below; above = w .above },
+)
   where
     place : (q x y : ℕ) → 3 * m ≤ q → q < 3 * m + 3 * m → q - 3 * m ≡ x → b + (q - 3 * m) ≡ y
         → at s q ≡ add binary64 (at s₀ x) (mul binary64 step (at s₀ y))

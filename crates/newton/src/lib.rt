@@ -37,6 +37,7 @@ fn residual(s: &[f64], dy: &[f64], lam: f64, u: f64, g: [f64; 3], k: usize, m: u
     a
 }
 
+// How mu1 moves at a place, and mu2, where z moves by dz.
 fn dmu1_at(z: f64, mu1: f64, dz: f64, lam: f64, u: f64) -> f64
     ensures { λ r. ⌜ r ≡ dmu1At lam u z mu1 dz ⌝ }
 {
@@ -134,7 +135,18 @@ pub fn directions(s: &mut [f64], b: usize, lam: f64, u: f64, m: usize) -> f64
     cap(s, b, m)
 }
 
-fn low_enough(s: &[f64], dy: &[f64], lam: f64, u: f64, g: [f64; 3], k: usize, m: usize, step: f64, old: f64) -> bool
+// Whether the norm of the residual at the trial in s is low enough against the old one.
+fn low_enough(
+    s: &[f64],
+    dy: &[f64],
+    lam: f64,
+    u: f64,
+    g: [f64; 3],
+    k: usize,
+    m: usize,
+    step: f64,
+    old: f64,
+) -> bool
     requires { ⌜ (k ≤ 2) × ((m + m + m ≤ length (now s)) × (m ≤ length (now dy))) ⌝ }
     ensures { λ r. ⌜ r ≡ lower (norm k g (now (dy .entry)) lam u (point 0 m (now (s .entry)))) step old ⌝ }
 {
@@ -148,7 +160,18 @@ struct Tried {
 }
 
 // One trial: the point at a step, whether it is inside, and whether it is accepted.
-fn attempt(s: &mut [f64], b: usize, dy: &[f64], lam: f64, u: f64, g: [f64; 3], k: usize, m: usize, step: f64, old: f64) -> Tried
+fn attempt(
+    s: &mut [f64],
+    b: usize,
+    dy: &[f64],
+    lam: f64,
+    u: f64,
+    g: [f64; 3],
+    k: usize,
+    m: usize,
+    step: f64,
+    old: f64,
+) -> Tried
     requires { ⌜ (k ≤ 2) × ((6 * m ≤ b) × ((b + 3 * m ≤ length (now s)) × (m ≤ length (now dy)))) ⌝ }
     ensures { λ r. ⌜ (point (3 * m) m (now (s .exit)) ≡ along (point 0 m (now (s .entry))) (point b m (now (s .entry))) step)
         × (Kept (3 * m) (3 * m) (now (s .entry)) (now (s .exit))
@@ -162,18 +185,36 @@ fn attempt(s: &mut [f64], b: usize, dy: &[f64], lam: f64, u: f64, g: [f64; 3], k
     let within = vectors::inside(&s[c..d], lam);
     if within {
         let low = low_enough(&s[c..e], dy, lam, u, g, k, m, step, old);
-        return Tried { inside: true, good: low };
+        return Tried {
+            inside: true,
+            good: low,
+        };
     }
-    Tried { inside: false, good: false }
+    Tried {
+        inside: false,
+        good: false,
+    }
 }
 
+// How a line search ended: its last step, halved if the trial was not accepted, and whether the last trial is inside.
 pub struct Trial {
     pub step: f64,
     pub inside: bool,
 }
 
 // Up to 20 trials; the last stands after the point.
-pub fn line_search(s: &mut [f64], b: usize, dy: &[f64], lam: f64, u: f64, g: [f64; 3], k: usize, m: usize, cap: f64, old: f64) -> Trial
+pub fn line_search(
+    s: &mut [f64],
+    b: usize,
+    dy: &[f64],
+    lam: f64,
+    u: f64,
+    g: [f64; 3],
+    k: usize,
+    m: usize,
+    cap: f64,
+    old: f64,
+) -> Trial
     requires { ⌜ (k ≤ 2) × ((6 * m ≤ b) × ((b + 3 * m ≤ length (now s)) × (m ≤ length (now dy)))) ⌝ }
     ensures { λ r. ⌜ Searched k g (now (dy .entry)) lam u m b cap old (now (s .entry)) (now (s .exit)) (r .step) (r .inside) ⌝ }
 {
@@ -183,11 +224,17 @@ pub fn line_search(s: &mut [f64], b: usize, dy: &[f64], lam: f64, u: f64, g: [f6
     while i < 20 {
         let a = attempt(s, b, dy, lam, u, g, k, m, step, old);
         if a.good {
-            return Trial { step: step, inside: true };
+            return Trial {
+                step: step,
+                inside: true,
+            };
         }
         last = a.inside;
         step = step * 0.5;
         i += 1;
     }
-    Trial { step: step, inside: last }
+    Trial {
+        step: step,
+        inside: last,
+    }
 }

@@ -20,10 +20,10 @@ use Rattle.newton_step.specs.declared.Step.the-variants.{Lost, Moved}
 -- the trial copied over the point
 pub copied : (m : ℕ) (s₀ s : List Float) → Written 0 (3 * m) (λ j. at s₀ (3 * m + j)) s₀ s → point 0 m s ≡ point (3 * m) m s₀
 copied m s₀ s w = λ i. record {
-      z = partOf-ext nan 0 (3 * m) m s s₀ (λ j l. place (0 + j) (3 * m + j) (omega arith) (omega arith)) i;
-      mu1 = partOf-ext nan (0 + m) (3 * m + m) m s s₀ (λ j l. place (0 + m + j) (3 * m + m + j) (omega arith) (omega arith)) i;
-      mu2 = partOf-ext nan (0 + m + m) (3 * m + m + m) m s s₀ (λ j l. place (0 + m + m + j) (3 * m + m + m + j) (omega arith) (omega arith)) i;
-    }
+  z = partOf-ext nan 0 (3 * m) m s s₀ (λ j l. place (0 + j) (3 * m + j) (omega arith) (omega arith)) i;
+  mu1 = partOf-ext nan (0 + m) (3 * m + m) m s s₀ (λ j l. place (0 + m + j) (3 * m + m + j) (omega arith) (omega arith)) i;
+  mu2 = partOf-ext nan (0 + m + m) (3 * m + m + m) m s s₀ (λ j l. place (0 + m + m + j) (3 * m + m + m + j) (omega arith) (omega arith)) i;
+}
   where
     place : (q r : ℕ) → q < 3 * m → 3 * m + q ≡ r → at s q ≡ at s₀ r
     place q r h e = w .inside q (omega arith) h ∙ ap (at s₀) e

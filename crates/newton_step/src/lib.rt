@@ -31,7 +31,15 @@ fn take_trial(s: &mut [f64], m: usize, inside: bool)
 }
 
 // One Newton step. s: z, mu1, mu2; the trial's; the rows of the system; dz, dmu1, dmu2.
-pub fn newton_step(s: &mut [f64], dy: &[f64], lam: f64, u: f64, g: [f64; 3], k: usize, m: usize) -> Step
+pub fn newton_step(
+    s: &mut [f64],
+    dy: &[f64],
+    lam: f64,
+    u: f64,
+    g: [f64; 3],
+    k: usize,
+    m: usize,
+) -> Step
     requires { ⌜ (1 ≤ k) × ((k ≤ 2) × ((1 ≤ m) × ((6 * m + (m * (k + 1) + 3 * m) ≤ length (now s)) × (m ≤ length (now dy))))) ⌝ }
     ensures { λ r. ⌜ Stepped k g (now (dy .entry)) lam u 0 m (now (s .entry)) (now (s .exit)) r ⌝ }
 {

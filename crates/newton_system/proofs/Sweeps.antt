@@ -3,7 +3,7 @@ use mathlib.Core.Path.{_≡_, refl, sym, ap, _∙_}
 use mathlib.Core.Logic.{⊎-elim}
 use mathlib.Core.Bool.{Bool, true, false, cond}
 use mathlib.Core.List.{List}
-use Prim.Native.Nat.{ℕ, suc, _+_, _-_, _*_, _≤_, _<_}
+use Prim.Native.Nat.{ℕ, _+_, _-_, _*_, _≤_, _<_}
 use native.Mathlib.Nat.{eq-or-lt-of-le, mul-le-mul-right}
 use native.Mathlib.Omega.{arith}
 use lib.Dec.{ltb}
@@ -12,11 +12,11 @@ use lib.Seq.{getD-set-same, getD-set-other, length-take-le}
 use lib.Ieee.{Float, nan, binary64, add}
 use borrow.Author.Tests.{lt-ltb, le-ltb}
 use Rattle.vectors.specs.Sums.{sumTo}
-use Rattle.vectors.specs.Vec.{at, list, part, Written, Kept}
+use Rattle.vectors.specs.Vec.{at, part, Written, Kept}
 use Rattle.vectors.proofs.Laws.{length-list, at-list, none, up, kept-then}
 use Rattle.vectors.proofs.Parts.{length-part, at-part, first-part, range-part, partOf-range, putBack, mid-put, length-put, kept-put, part-put}
 use Rattle.vectors.proofs.Sums.{sum-more}
-use Rattle.banded.specs.Rows.{Matrix, rows, sound, concat}
+use Rattle.banded.specs.Rows.{Matrix, rows, concat}
 use Rattle.banded.specs.Solve.{forward, divided, back, solve}
 use Rattle.banded.specs.Run.{flat, Shape, Eliminated}
 use Rattle.banded.proofs.Laws.{one-row, shape-rows, of-holds, stands-part}
@@ -226,7 +226,7 @@ module _ (k : ℕ) (g dy : List Float) (lam u : Float) (a m : ℕ) where
   -- the right side carried back, by x
   pub solved : {s₀ s : List Float} {acc : Float} {good : Bool} (x : List Float) → Swept k g dy lam u a m s₀ s acc good → good ≡ true → a + places ≤ length s → length x ≡ places
       → ((f : List (List Float)) → Shape k m f → take (m * (k + 1)) (take places (drop a s)) ≡ concat f
-        → take m (drop (m * (k + 1)) x) ≡ back k f (divided k f (take m (drop (m * (k + 1)) (take places (drop a s))))) m)
+      → take m (drop (m * (k + 1)) x) ≡ back k f (divided k f (take m (drop (m * (k + 1)) (take places (drop a s))))) m)
       → part (a + m * (k + 1)) m (putBack a places s x) ≡ newtonZ k g dy lam u (point 0 m s₀)
   unfolding newtonZ
   solved {s₀} {s} {acc} {good} x w y room l h =

@@ -35,8 +35,8 @@ fn row_of(q: f64, dy: f64, z: f64, mu1: f64, mu2: f64, lam: f64, u: f64, g0: f64
     let rc1 = -mu1 * f1 - u;
     let rc2 = -mu2 * f2 - u;
     Row {
-        d: d,
-        x: x,
+        d,
+        x,
         e: rd * rd + rc1 * rc1 + rc2 * rc2,
     }
 }
@@ -74,7 +74,16 @@ fn put_row(s: &mut [f64], g: [f64; 3], k: usize, m: usize, r: usize, d: f64, x: 
 }
 
 // The system's rows from place a on, factored as they are made, with the right side carried forward after them. A bad pivot ends it.
-fn sweep(s: &mut [f64], a: usize, dy: &[f64], lam: f64, u: f64, g: [f64; 3], k: usize, m: usize) -> Solved
+fn sweep(
+    s: &mut [f64],
+    a: usize,
+    dy: &[f64],
+    lam: f64,
+    u: f64,
+    g: [f64; 3],
+    k: usize,
+    m: usize,
+) -> Solved
     requires { ⌜ (1 ≤ k) × ((k ≤ 2) × ((1 ≤ m) × ((m + m + m ≤ a) × ((a + (m * (k + 1) + m) ≤ length (now s)) × (m ≤ length (now dy)))))) ⌝ }
     ensures { λ w. ⌜ Swept k g (now (dy .entry)) lam u a m (now (s .entry)) (now (s .exit)) (w .acc) (w .good) ⌝ }
 {
@@ -85,16 +94,25 @@ fn sweep(s: &mut [f64], a: usize, dy: &[f64], lam: f64, u: f64, g: [f64; 3], k: 
         let v = row_at(s, dy, lam, u, g, k, m, r);
         put_row(&mut s[a..e], g, k, m, r, v.d, v.x);
         if !banded::eliminate(&mut s[a..e], k, m, r) {
-            return Solved { acc: acc, good: false };
+            return Solved { acc, good: false };
         }
         acc = acc + v.e;
         r += 1;
     }
-    Solved { acc: acc, good: true }
+    Solved { acc, good: true }
 }
 
 // The Newton system of the point in the first 3 m places, from place a on, solved: dz stands after its rows.
-pub fn newton_z(s: &mut [f64], a: usize, dy: &[f64], lam: f64, u: f64, g: [f64; 3], k: usize, m: usize) -> Solved
+pub fn newton_z(
+    s: &mut [f64],
+    a: usize,
+    dy: &[f64],
+    lam: f64,
+    u: f64,
+    g: [f64; 3],
+    k: usize,
+    m: usize,
+) -> Solved
     requires { ⌜ (1 ≤ k) × ((k ≤ 2) × ((1 ≤ m) × ((m + m + m ≤ a) × ((a + (m * (k + 1) + m) ≤ length (now s)) × (m ≤ length (now dy)))))) ⌝ }
     ensures { λ r. ⌜ (r .good ≡ sound k (system k g lam (point 0 m (now (s .entry)))) m)
         × ((r .good ≡ true → (r .acc ≡ squares k g (now (dy .entry)) lam u (point 0 m (now (s .entry))))

@@ -2,3 +2,4 @@
 pub mod Laws
 pub mod Wrote
 pub mod Won
+pub mod Calling

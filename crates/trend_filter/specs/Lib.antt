@@ -2,3 +2,4 @@
 pub mod Answers
 pub mod Inner
 pub mod Search
+pub mod Calls

@@ -1,4 +1,5 @@
 // The trend of a series: the questions, the preparation, the fit by its penalty, and the answer.
+pub mod c;
 mod closed;
 mod search;
 

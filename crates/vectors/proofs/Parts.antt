@@ -36,7 +36,7 @@ module _ {A : Type 0} (z : A) where
       let f : length (take n (drop a s)) ≡ n = length-take-le n (drop a s) (omega (arith, length-drop a s)) in
       rw d
       (ext-getD z (take n (drop a s)) (partOf z a n s) (f ∙ sym (length-partOf a n s))
-        (λ i l. let m : i < n = omega (arith, f) in getD-take n (drop a s) i z m ∙ getD-drop a s i z ∙ sym (getD-partOf a n s i (a + i) m refl)))
+      (λ i l. let m : i < n = omega (arith, f) in getD-take n (drop a s) i z m ∙ getD-drop a s i z ∙ sym (getD-partOf a n s i (a + i) m refl)))
 
   -- a part of a range of the run
   pub partOf-range : (a m c e : ℕ) (s : List A) → c ≤ e → e ≤ length s → a + m ≤ e - c → partOf z a m (take (e - c) (drop c s)) ≡ partOf z (c + a) m s

@@ -4,7 +4,8 @@ use native.Mathlib.Omega.{arith}
 use lib.ListN.{length}
 use Rattle.banded.proofs.Laws.{rows-fit}
 use Rattle.matrices.specs.Gram.{gram}
-use Rattle.matrices.proofs.Filling.{Laid, laid-none, laid-more, laid-done}
+use Rattle.matrices.proofs.Filling.{laid-none, laid-more, laid-done}
+use Rattle.matrices.specs.Layout.{Laid}
 use borrow.Author.Needs.{needs}
 use Rattle.matrices.proofs.fill_gram.Statement.{statement}
 use Rattle.matrices.proofs.fill_gram.Tie as tie

@@ -62,11 +62,18 @@ returns c = let a = c .before .before .before .before .before .before .before .b
     let v = c .before .before .before .before .before .before .before .before .before .move-to .ensures in
     let s = c .before .before .before .before .before .before .before .before .before .move-to .last .0 in
     let q : true ≡ inside (a .lam) (part (3 * a .m) (a .m) s) =
-        sym (c .before .before .before .if1 .taken) ∙ c .before .before .before .before .inside .ensures ∙ ap (inside (a .lam)) (range-part (3 * a .m) (3 * a .m + a .m) (a .m) s refl (omega (arith, v .1 .size))) in
-    (v .0, (v .1, (q,
-      accept-yes (a .k) (a .g) (a .dy .now) (a .lam) (a .u) (a .old) (a .step) (point (3 * a .m) (a .m) s) (c .low-enough .result) q
-      (c .low-enough .ensures
-      ∙ ap (λ (p : Dual). lower (norm (a .k) (a .g) (a .dy .now) (a .lam) (a .u) p) (a .step) (a .old)) (point-range (a .m) (3 * a .m) (3 * a .m + 3 * a .m) s refl refl (omega (arith, v .1 .size)))))))
+    sym (c .before .before .before .if1 .taken) ∙ c .before .before .before .before .inside .ensures ∙ ap (inside (a .lam)) (range-part (3 * a .m) (3 * a .m + a .m) (a .m) s refl (omega (arith, v .1 .size))) in (
+      v .0,
+      (
+        v .1,
+        (
+          q,
+          accept-yes (a .k) (a .g) (a .dy .now) (a .lam) (a .u) (a .old) (a .step) (point (3 * a .m) (a .m) s) (c .low-enough .result) q
+              (c .low-enough .ensures
+              ∙ ap (λ (p : Dual). lower (norm (a .k) (a .g) (a .dy .now) (a .lam) (a .u) p) (a .step) (a .old)) (point-range (a .m) (3 * a .m) (3 * a .m + 3 * a .m) s refl refl (omega (arith, v .1 .size)))),
+        ),
+      ),
+    )
 
 same-length-2 : tie.Need-same-length-2
 same-length-2 c = search needs
@@ -76,7 +83,7 @@ returns-2 c = let a = c .before .before .before .before .before .before .before 
     let v = c .before .before .before .before .before .before .move-to .ensures in
     let s = c .before .before .before .before .before .before .move-to .last .0 in
     let q : false ≡ inside (a .lam) (part (3 * a .m) (a .m) s) =
-        sym (c .if1 .left) ∙ c .before .inside .ensures ∙ ap (inside (a .lam)) (range-part (3 * a .m) (3 * a .m + a .m) (a .m) s refl (omega (arith, v .1 .size))) in
+    sym (c .if1 .left) ∙ c .before .inside .ensures ∙ ap (inside (a .lam)) (range-part (3 * a .m) (3 * a .m + a .m) (a .m) s refl (omega (arith, v .1 .size))) in
     (v .0, (v .1, (q, accept-no (a .k) (a .g) (a .dy .now) (a .lam) (a .u) (a .old) (a .step) (point (3 * a .m) (a .m) s) q)))
 
 pub attempt-spec : {M : Type 1} → statement M

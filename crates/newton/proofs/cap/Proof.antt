@@ -84,7 +84,7 @@ loop-again : tie.Need-loop-again Inv-loop μ-loop
 loop-again c = let l = c .before .before .before .before .before .before .before .loop in
     let a = c .before .before .before .before .before .before .before .before .before .args in (
       search needs,
-      (c .cap-of2 .ensures .0 ∙ cap-more (a .b) (a .m) (a .s .now) (l .i) (l .step) (c .before .before .before .cap-of .result) (omega arith) (l .inv .1 .0) (c .before .before .before .cap-of .ensures .0), c .cap-of2 .ensures .1)
+      (c .cap-of2 .ensures .0 ∙ cap-more (a .b) (a .m) (a .s .now) (l .i) (l .step) (c .before .before .before .cap-of .result) (omega arith) (l .inv .1 .0) (c .before .before .before .cap-of .ensures .0), c .cap-of2 .ensures .1),
     )
 
 returns : tie.Need-returns Inv-loop μ-loop

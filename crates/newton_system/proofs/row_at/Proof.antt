@@ -1,10 +1,10 @@
 use borrow.Author.Needs.{needs}
-use mathlib.Core.Path.{_≡_, refl, sym, ap, _∙_}
+use mathlib.Core.Path.{_≡_, refl, ap, _∙_}
 use mathlib.Core.List.{List}
-use Prim.Native.Nat.{ℕ, _≤_, _<_, _+_}
+use Prim.Native.Nat.{_<_}
 use native.Mathlib.Omega.{arith}
 use lib.Ieee.{Float}
-use Rattle.vectors.specs.Vec.{at, part}
+use Rattle.vectors.specs.Vec.{part}
 use Rattle.vectors.proofs.Parts.{range-part}
 use Rattle.matrices.specs.Gram.{product}
 use Rattle.newton.proofs.Laws.{square-place}

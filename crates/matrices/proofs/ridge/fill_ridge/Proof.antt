@@ -3,59 +3,91 @@ use Prim.Native.Nat.{ℕ, suc, _≤_, _<_, _-_, _+_, _*_}
 use native.Mathlib.Omega.{arith}
 use lib.ListN.{length}
 use Rattle.matrices.specs.Ridge.{ridge}
-use Rattle.matrices.proofs.Filling.{Laid, laid-none, laid-more, laid-done}
+use Rattle.matrices.proofs.Alike.{laid-repeat, ridge-alike, rows-span, rows-room}
+use Rattle.matrices.proofs.Filling.{laid-none, laid-done}
 use borrow.Author.Needs.{needs}
 use Rattle.matrices.proofs.ridge.fill_ridge.Statement.{statement}
 use Rattle.matrices.proofs.ridge.fill_ridge.Tie as tie
 use Rattle.matrices.proofs.ridge.fill_ridge.Reads as reads
 use Rattle.matrices.proofs.ridge.fill_ridge.Lts as lts
-use Rattle.matrices.proofs.ridge.ridge_row.Reads as ridge-row-reads
+use Rattle.matrices.proofs.ridge.repeat.Reads as repeat-reads
+use Rattle.matrices.proofs.ridge.ridge_rows.Reads as ridge-rows-reads
 
-abbrev Inv-loop : tie.InvT-loop
-Inv-loop s₀ c lam k n i₀ s i = (i ≤ n) × Laid k i (ridge k c lam n) s₀ s
+add-w : tie.Need-add-w
+add-w c = search needs
 
-abbrev μ-loop : tie.MeasureT-loop
-μ-loop s₀ c lam k n i₀ s i = n - i
+add-if1 : tie.Need-add-if1
+add-if1 c = search needs
 
-loop-holds : tie.Need-loop-holds Inv-loop μ-loop
-loop-holds c = let a = c .before .args in
-    (search needs, laid-none (a .k) (ridge (a .k) (a .c) (a .lam) (a .n)) (a .s .now))
+ridge-rows-requires : tie.Need-ridge-rows-requires
+ridge-rows-requires c κs = search needs
 
-ridge-row-requires : tie.Need-ridge-row-requires Inv-loop μ-loop
-ridge-row-requires c κs = let a = c .before .before .before .before .args in
-    let l = c .before .before .loop in
-    let size = l .inv .1 .kept .size in
-    (omega arith, (omega arith, omega arith))
+same-length : tie.Need-same-length
+same-length c = search needs
 
-add-i : tie.Need-add-i Inv-loop μ-loop
-add-i c = search needs
+returns : tie.Need-returns
+returns c = let a = c .before .before .before .before .before .before .args in
+    let size = c .before .before .ridge-rows .kept .0 in
+    laid-done (c .before .before .ridge-rows .ensures (a .s .now) (laid-none (a .k) (ridge (a .k) (a .c) (a .lam) (a .n)) (a .s .now))) (omega arith)
 
-loop-less : tie.Need-loop-less Inv-loop μ-loop
-loop-less c = search needs
+sub-m : tie.Need-sub-m
+sub-m c = search needs
 
-loop-again : tie.Need-loop-again Inv-loop μ-loop
-loop-again c = (search needs, laid-more (c .before .before .before .before .before .loop .inv .1) (c .before .before .ridge-row .ensures))
+ridge-rows-requires-2 : tie.Need-ridge-rows-requires-2
+ridge-rows-requires-2 c κs = search needs
 
-same-length : tie.Need-same-length Inv-loop μ-loop
-same-length c = c .before .loop .inv .1 .kept .size
+mul-repeat : tie.Need-mul-repeat
+mul-repeat c = let a = c .before .before .before .before .before .before .before .args in
+    omega (arith, rows-room (a .k + 1) (a .n - a .k) (a .n) (length (a .s .now)) (omega arith) (omega arith) (omega arith) (omega arith))
 
-returns : tie.Need-returns Inv-loop μ-loop
-returns c = let a = c .before .before .before .args in
-    let e : c .before .loop .i ≡ a .n = omega arith in
-    let w = rw e at (c .before .loop .inv .1) in
-    let size = w .kept .size in
-    laid-done w (omega arith)
+sub-repeat : tie.Need-sub-repeat
+sub-repeat c = search needs
+
+mul-repeat-2 : tie.Need-mul-repeat-2
+mul-repeat-2 c = let a = c .before .before .before .before .before .before .before .args in
+    omega (arith, rows-room (a .k + 1) (a .n - a .k) (a .n) (length (a .s .now)) (omega arith) (omega arith) (omega arith) (omega arith))
+
+repeat-requires : tie.Need-repeat-requires
+repeat-requires c κs = let a = c .before .before .before .before .before .before .before .args in
+    let kept = c .before .before .before .ridge-rows2 .kept .0 in
+    let f = rows-room (a .k + 1) (a .n - a .k) (a .n) (length (a .s .now)) (omega arith) (omega arith) (omega arith) (omega arith) in
+    (omega arith, (f .0, omega arith))
+
+ridge-rows-requires-3 : tie.Need-ridge-rows-requires-3
+ridge-rows-requires-3 c κs = search needs
+
+same-length-2 : tie.Need-same-length-2
+same-length-2 c = search needs
+
+returns-2 : tie.Need-returns-2
+returns-2 c = let a = c .before .before .before .before .before .before .before .before .before .before .before .before .before .before .args in
+    let k = a .k in
+    let n = a .n in
+    let m = n - k in
+    let r = ridge k (a .c) (a .lam) n in
+    let s = a .s .now in
+    let low : k + 1 ≤ m = omega arith in
+    let l1 = c .before .before .before .before .before .before .before .before .before .before .ridge-rows2 .ensures s (laid-none k r s) in
+    let l2 = laid-repeat l1 (c .before .before .before .before .before .before .repeat .ensures) (omega arith) low (rows-span (k + 1) m low) (λ i j h g u. ridge-alike k (a .c) (a .lam) n i j (omega arith) g u) in
+    let l3 = c .before .before .ridge-rows3 .ensures s l2 in
+    let size = l3 .kept .size in
+    laid-done l3 (omega arith)
 
 pub fill-ridge-spec : {M : Type 1} → statement M
 fill-ridge-spec =
     tie.close
     (tie.spec
-    Inv-loop
-    μ-loop
-    loop-holds
-    ridge-row-requires
-    add-i
-    loop-less
-    loop-again
+    add-w
+    add-if1
+    ridge-rows-requires
     same-length
-    returns)
+    returns
+    sub-m
+    ridge-rows-requires-2
+    mul-repeat
+    sub-repeat
+    mul-repeat-2
+    repeat-requires
+    ridge-rows-requires-3
+    same-length-2
+    returns-2)

@@ -3,7 +3,8 @@ use mathlib.Core.Path.{_≡_}
 use native.Mathlib.Omega.{arith}
 use Prim.Native.Nat.{_≤_, _-_}
 use Rattle.banded.proofs.Laws.{rows-fit}
-use Rattle.matrices.proofs.Filling.{Laid, laid-none, laid-more, laid-done}
+use Rattle.matrices.proofs.Filling.{laid-none, laid-more, laid-done}
+use Rattle.matrices.specs.Layout.{Laid}
 use Rattle.polish.specs.Polish.{compressed}
 use Rattle.polish.proofs.system.fill_bands.Statement.{statement}
 use Rattle.polish.proofs.system.fill_bands.Tie as tie

@@ -1,0 +1,3 @@
+mod Decimals
+mod Lines
+mod Known

@@ -1,0 +1,63 @@
+use native.Mathlib.Omega.{arith}
+use mathlib.Core.Path.{_≡_, ap₂, _∙_}
+use Prim.Native.Nat.{ℕ, _≤_}
+use lib.Dec.{lit<, lit≤}
+use Rattle.io.specs.Digits.{digits}
+use Rattle.listing.specs.Listing.{hexOf}
+use Rattle.listing.proofs.Decimals.{fewest-le}
+use borrow.Author.Needs.{needs}
+use Rattle.listing.proofs.put_hex.Statement.{statement}
+use Rattle.listing.proofs.put_hex.Tie as tie
+use Rattle.listing.proofs.put_hex.Reads as reads
+use Rattle.listing.proofs.put_hex.Lts as lts
+use Rattle.io.proofs.hex.Reads as hex-reads
+use Rattle.listing.proofs.pattern.Reads as pattern-reads
+use Rattle.listing.proofs.put_all.Reads as put-all-reads
+
+-- pre{
+-- sixteen digits
+few : (c : tie.After-hex) → c .hex .result ≡ 16
+few c =
+    let l : c .hex .result ≤ 16 = fewest-le 16 16 (c .before .before .pattern .result) _ 16 (lit< tt) (lit≤ tt) (omega (arith, c .before .before .pattern .ok)) (c .hex .ensures .1 .0) in
+    omega (arith, c .hex .ensures .1 .0 .0)
+
+-- }pre
+
+pattern-requires : tie.Need-pattern-requires
+pattern-requires c κs = search needs
+
+hex-requires : tie.Need-hex-requires
+hex-requires c κs = search needs
+
+array-share-prefix-text : tie.Need-array-share-prefix-text
+array-share-prefix-text c = search needs
+
+slice-aggregate-put-all : tie.Need-slice-aggregate-put-all
+slice-aggregate-put-all c = search needs
+
+put-all-requires : tie.Need-put-all-requires
+put-all-requires c κs = let d = c .before .before in
+    omega (arith, d .hex .ensures .0 .1, few d)
+
+same-length : tie.Need-same-length
+same-length c = search needs
+
+returns : tie.Need-returns
+unfolding hexOf
+returns c = let p = c .before .before in
+    let d = p .before .before .before in
+    let e = d .hex .ensures in
+    let w = p .put-all .ensures in
+    (rw (e .1 .1 ∙ ap₂ (λ (k n : ℕ). digits 16 k n) (few d) (d .before .before .pattern .ensures)) at w, omega (arith, w .next, e .0 .1, few d))
+
+pub put-hex-spec : {M : Type 1} → statement M
+put-hex-spec =
+    tie.close
+    (tie.spec
+    pattern-requires
+    hex-requires
+    array-share-prefix-text
+    slice-aggregate-put-all
+    put-all-requires
+    same-length
+    returns)

@@ -1,0 +1,73 @@
+use native.Mathlib.Omega.{arith}
+use borrow.Author.Needs.{needs}
+use mathlib.Core.Path.{_≡_}
+use Prim.Native.Nat.{_≤_, _+_, _-_, _*_}
+use lib.ListN.{length}
+use Rattle.vectors.specs.Vec.{Wrote}
+use Rattle.listing.specs.Listing.{knotLines}
+use Rattle.vectors.proofs.Texts.{wrote-length}
+use Rattle.listing.proofs.Lines.{knots-none, knots-more}
+use denote.Ref.{now}
+use Rattle.listing.proofs.put_knots.Statement.{statement}
+use Rattle.listing.proofs.put_knots.Tie as tie
+use Rattle.listing.proofs.put_knots.Reads as reads
+use Rattle.listing.proofs.put_knots.Lts as lts
+use Rattle.listing.proofs.put_knot_line.Reads as put-knot-line-reads
+use Rattle.listing.proofs.wide.Reads as wide-reads
+
+abbrev Inv-loop : tie.InvT-loop
+Inv-loop out₀ at knots n i₀ pos₀ out i pos = (i ≤ n) × (length out ≡ length out₀) × (pos ≤ at + 26 * i) × Wrote out₀ at (knotLines knots i) out pos
+
+abbrev μ-loop : tie.MeasureT-loop
+μ-loop out₀ at knots n i₀ pos₀ out i pos = n - i
+
+loop-holds : tie.Need-loop-holds Inv-loop μ-loop
+loop-holds c = (search needs, search needs, search needs, knots-none _ _ (now (c .before .before .args .knots)) (omega arith))
+
+mul-wide : tie.Need-mul-wide Inv-loop μ-loop
+mul-wide c = search needs
+
+shared-slice-read-wide : tie.Need-shared-slice-read-wide Inv-loop μ-loop
+shared-slice-read-wide c = search needs
+
+wide-requires : tie.Need-wide-requires Inv-loop μ-loop
+wide-requires c κs = search needs
+
+put-knot-line-requires : tie.Need-put-knot-line-requires Inv-loop μ-loop
+put-knot-line-requires c κs = search needs
+
+add-i : tie.Need-add-i Inv-loop μ-loop
+add-i c = search needs
+
+loop-less : tie.Need-loop-less Inv-loop μ-loop
+loop-less c = search needs
+
+loop-again : tie.Need-loop-again Inv-loop μ-loop
+loop-again c = let p = c .before .before in
+    let l = p .before .before .before .before .before .loop in
+    let w = knots-more (now (p .before .before .before .before .before .before .before .before .args .knots)) (l .i) (l .inv .3) (rw (p .before .wide .ensures) at (p .put-knot-line .ensures .0)) in
+    (search needs, wrote-length w, omega (arith, p .put-knot-line .ensures .1), w)
+
+same-length : tie.Need-same-length Inv-loop μ-loop
+same-length c = c .before .loop .inv .1
+
+returns : tie.Need-returns Inv-loop μ-loop
+returns c = let e : c .before .loop .i ≡ c .before .before .before .before .args .n = omega arith in
+    (rw e at (c .before .loop .inv .3), omega arith)
+
+pub put-knots-spec : {M : Type 1} → statement M
+put-knots-spec =
+    tie.close
+    (tie.spec
+    Inv-loop
+    μ-loop
+    loop-holds
+    mul-wide
+    shared-slice-read-wide
+    wide-requires
+    put-knot-line-requires
+    add-i
+    loop-less
+    loop-again
+    same-length
+    returns)

@@ -1,0 +1,47 @@
+use native.Mathlib.Omega.{arith}
+use Rattle.listing.specs.Listing.{numbersLine}
+use Rattle.vectors.proofs.Texts.{wrote-then}
+use borrow.Author.Needs.{needs}
+use Rattle.listing.proofs.put_numbers_line.Statement.{statement}
+use Rattle.listing.proofs.put_numbers_line.Tie as tie
+use Rattle.listing.proofs.put_numbers_line.Reads as reads
+use Rattle.listing.proofs.put_numbers_line.Lts as lts
+use Rattle.listing.proofs.put_byte.Reads as put-byte-reads
+use Rattle.listing.proofs.put_hex.Reads as put-hex-reads
+use Rattle.listing.proofs.put_hex_field.Reads as put-hex-field-reads
+
+put-hex-requires : tie.Need-put-hex-requires
+put-hex-requires c κs = search needs
+
+put-hex-field-requires : tie.Need-put-hex-field-requires
+put-hex-field-requires c κs = search needs
+
+put-hex-field-requires-2 : tie.Need-put-hex-field-requires-2
+put-hex-field-requires-2 c κs = search needs
+
+put-byte-requires : tie.Need-put-byte-requires
+put-byte-requires c κs = search needs
+
+same-length : tie.Need-same-length
+same-length c = search needs
+
+returns : tie.Need-returns
+unfolding numbersLine
+returns c = let w4 = c .before .before in
+    let w3 = w4 .before .before .before .before in
+    let w2 = w3 .before .before .before .before in
+    let w1 = w2 .before .before .before .before in (
+      wrote-then (wrote-then (wrote-then (w1 .put-hex .ensures .0) (w2 .put-hex-field .ensures .0)) (w3 .put-hex-field2 .ensures .0)) (w4 .put-byte .ensures),
+      omega (arith, w1 .put-hex .ensures .1, w2 .put-hex-field .ensures .1, w3 .put-hex-field2 .ensures .1, w4 .put-byte .ensures .next),
+    )
+
+pub put-numbers-line-spec : {M : Type 1} → statement M
+put-numbers-line-spec =
+    tie.close
+    (tie.spec
+    put-hex-requires
+    put-hex-field-requires
+    put-hex-field-requires-2
+    put-byte-requires
+    same-length
+    returns)

@@ -1,0 +1,218 @@
+// The listing of a fit, or of a refusal, as bytes at the start of a lent array, which always suffices.
+// Inside, each function writes from a place on and answers the place past it.
+ghost use mathlib.Core.Path.{_≡_};
+ghost use mathlib.Core.Bool.{cond};
+ghost use mathlib.Core.List.{[], _∷_};
+ghost use Prim.Native.Nat.{_+_, _*_, _≤_, _<_};
+ghost use lib.Ieee.{binary64, toBits};
+ghost use lib.ListN.{length};
+ghost use Rattle.vectors.specs.Vec.{Wrote};
+ghost use Rattle.listing.specs.Listing.{decimal, hexOf, field, hexField, hourLine, knotLine, hourLines, knotLines, three, fitLine, numbersLine, listingOf, refusedLine};
+
+// What is shown of a fit besides its trend, its cycle and its knots: n hours, and so many knots.
+pub struct Shown {
+    pub n: usize,
+    pub order: u32,
+    pub penalty: u32,
+    pub n_iter: u64,
+    pub improvements: u64,
+    pub converged: bool,
+    pub lam_max: f64,
+    pub gap: f64,
+    pub objective: f64,
+    pub knots: usize,
+}
+
+// One byte.
+fn put_byte(out: &mut [u8], at: usize, b: u8) -> usize
+    requires { ⌜ at < length (now out) ⌝ }
+    ensures { λ r. ⌜ Wrote (now (out .entry)) at (b ∷ []) (now (out .exit)) r ⌝ }
+{
+    out[at] = b;
+    at + 1
+}
+
+// A run of bytes.
+fn put_all(out: &mut [u8], at: usize, src: &[u8]) -> usize
+    requires { ⌜ at + length (now src) ≤ length (now out) ⌝ }
+    ensures { λ r. ⌜ Wrote (now (out .entry)) at (now (src .entry)) (now (out .exit)) r ⌝ }
+{
+    let mut i = 0;
+    while i < src.len() {
+        out[at + i] = src[i];
+        i += 1;
+    }
+    at + i
+}
+
+// The bits of a double; a NaN's are those that the listing prints for any NaN.
+pub fn pattern(x: f64) -> u64
+    ensures { λ r. ⌜ r ≡ toBits binary64 x ⌝ }
+{
+    if x != x {
+        0x7ff8_0000_0000_0000
+    } else {
+        f64::to_bits(x)
+    }
+}
+
+// A whole number in decimal.
+fn put_decimal(out: &mut [u8], at: usize, n: u64) -> usize
+    requires { ⌜ at + 20 ≤ length (now out) ⌝ }
+    ensures { λ r. ⌜ (Wrote (now (out .entry)) at (decimal n) (now (out .exit)) r) × (r ≤ at + 20) ⌝ }
+{
+    let mut text = [0u8; 20];
+    let k = io::decimal(n, &mut text);
+    put_all(out, at, &text[..k])
+}
+
+// A double as sixteen hexadecimal digits.
+fn put_hex(out: &mut [u8], at: usize, x: f64) -> usize
+    requires { ⌜ at + 16 ≤ length (now out) ⌝ }
+    ensures { λ r. ⌜ (Wrote (now (out .entry)) at (hexOf x) (now (out .exit)) r) × (r ≤ at + 16) ⌝ }
+{
+    let mut text = [0u8; 16];
+    let k = io::hex(pattern(x), 16, &mut text);
+    put_all(out, at, &text[..k])
+}
+
+// A space and then the number; a space and then the double.
+fn put_field(out: &mut [u8], at: usize, n: u64) -> usize
+    requires { ⌜ at + 21 ≤ length (now out) ⌝ }
+    ensures { λ r. ⌜ (Wrote (now (out .entry)) at (field n) (now (out .exit)) r) × (r ≤ at + 21) ⌝ }
+{
+    let a = put_byte(out, at, 32);
+    put_decimal(out, a, n)
+}
+
+fn put_hex_field(out: &mut [u8], at: usize, x: f64) -> usize
+    requires { ⌜ at + 17 ≤ length (now out) ⌝ }
+    ensures { λ r. ⌜ (Wrote (now (out .entry)) at (hexField x) (now (out .exit)) r) × (r ≤ at + 17) ⌝ }
+{
+    let a = put_byte(out, at, 32);
+    put_hex(out, a, x)
+}
+
+// The line of an hour.
+fn put_hour_line(out: &mut [u8], at: usize, i: u64, t: f64, c: f64) -> usize
+    requires { ⌜ at + 57 ≤ length (now out) ⌝ }
+    ensures { λ r. ⌜ (Wrote (now (out .entry)) at (hourLine i t c) (now (out .exit)) r) × (r ≤ at + 57) ⌝ }
+{
+    let a1 = put_byte(out, at, 104);
+    let a2 = put_field(out, a1, i);
+    let a3 = put_hex_field(out, a2, t);
+    let a4 = put_hex_field(out, a3, c);
+    put_byte(out, a4, 10)
+}
+
+// The line of a knot.
+fn put_knot_line(out: &mut [u8], at: usize, i: u64) -> usize
+    requires { ⌜ at + 26 ≤ length (now out) ⌝ }
+    ensures { λ r. ⌜ (Wrote (now (out .entry)) at (knotLine i) (now (out .exit)) r) × (r ≤ at + 26) ⌝ }
+{
+    let a1 = put_all(out, at, b"knot");
+    let a2 = put_field(out, a1, i);
+    put_byte(out, a2, 10)
+}
+
+// The lines of the first n hours.
+fn put_hours(out: &mut [u8], at: usize, trend: &[f64], cycle: &[f64], n: usize) -> usize
+    requires { ⌜ (n ≤ length (now trend)) × (n ≤ length (now cycle)) ⌝ }
+    requires { ⌜ at + 57 * n ≤ length (now out) ⌝ }
+    ensures { λ r. ⌜ (Wrote (now (out .entry)) at (hourLines (now (trend .entry)) (now (cycle .entry)) n) (now (out .exit)) r) × (r ≤ at + 57 * n) ⌝ }
+{
+    let mut i: usize = 0;
+    let mut pos = at;
+    while i < n {
+        pos = put_hour_line(out, pos, i as u64, trend[i], cycle[i]);
+        i += 1;
+    }
+    pos
+}
+
+fn wide(x: u32) -> u64
+    ensures { λ r. ⌜ r ≡ x ⌝ }
+{
+    x as u64
+}
+
+// The lines of the first n knots.
+fn put_knots(out: &mut [u8], at: usize, knots: &[u32], n: usize) -> usize
+    requires { ⌜ n ≤ length (now knots) ⌝ }
+    requires { ⌜ at + 26 * n ≤ length (now out) ⌝ }
+    ensures { λ r. ⌜ (Wrote (now (out .entry)) at (knotLines (now (knots .entry)) n) (now (out .exit)) r) × (r ≤ at + 26 * n) ⌝ }
+{
+    let mut i: usize = 0;
+    let mut pos = at;
+    while i < n {
+        pos = put_knot_line(out, pos, wide(knots[i]));
+        i += 1;
+    }
+    pos
+}
+
+// Three fields.
+fn put_three(out: &mut [u8], at: usize, a: u64, b: u64, c: u64) -> usize
+    requires { ⌜ at + 63 ≤ length (now out) ⌝ }
+    ensures { λ r. ⌜ (Wrote (now (out .entry)) at (three a b c) (now (out .exit)) r) × (r ≤ at + 63) ⌝ }
+{
+    let a1 = put_field(out, at, a);
+    let a2 = put_field(out, a1, b);
+    put_field(out, a2, c)
+}
+
+fn bit(b: bool) -> u64
+    ensures { λ r. ⌜ r ≡ cond b 1 0 ⌝ }
+{
+    if b { 1 } else { 0 }
+}
+
+// The first line of a fit.
+fn put_fit_line(out: &mut [u8], at: usize, f: Shown) -> usize
+    requires { ⌜ at + 130 ≤ length (now out) ⌝ }
+    ensures { λ r. ⌜ (Wrote (now (out .entry)) at (fitLine f) (now (out .exit)) r) × (r ≤ at + 130) ⌝ }
+{
+    let a1 = put_all(out, at, b"fit");
+    let a2 = put_three(out, a1, f.n as u64, f.order as u64, f.penalty as u64);
+    let a3 = put_three(out, a2, f.n_iter, f.improvements, bit(f.converged));
+    put_byte(out, a3, 10)
+}
+
+// The line of a fit's doubles.
+fn put_numbers_line(out: &mut [u8], at: usize, a: f64, b: f64, c: f64) -> usize
+    requires { ⌜ at + 51 ≤ length (now out) ⌝ }
+    ensures { λ r. ⌜ (Wrote (now (out .entry)) at (numbersLine a b c) (now (out .exit)) r) × (r ≤ at + 51) ⌝ }
+{
+    let a1 = put_hex(out, at, a);
+    let a2 = put_hex_field(out, a1, b);
+    let a3 = put_hex_field(out, a2, c);
+    put_byte(out, a3, 10)
+}
+
+// The whole listing of a fit, at the start of out: answers how many bytes it has.
+pub fn put_listing(
+    out: &mut [u8; 16384],
+    f: Shown,
+    trend: &[f64; 168],
+    cycle: &[f64; 168],
+    knots: &[u32; 168],
+) -> usize
+    requires { ⌜ (f .n ≤ 168) × (f .knots ≤ 168) ⌝ }
+    ensures { λ r. ⌜ Wrote (now (out .entry)) 0 (listingOf f (now (trend .entry)) (now (cycle .entry)) (now (knots .entry))) (now (out .exit)) r ⌝ }
+{
+    let n = f.n;
+    let k = f.knots;
+    let a1 = put_fit_line(out, 0, f);
+    let a2 = put_numbers_line(out, a1, f.lam_max, f.gap, f.objective);
+    let a3 = put_hours(out, a2, trend, cycle, n);
+    put_knots(out, a3, knots, k)
+}
+
+// The line of a refusal, at the start of out: answers how many bytes it has.
+pub fn put_refused(out: &mut [u8; 16384], number: u32) -> usize
+    ensures { λ r. ⌜ Wrote (now (out .entry)) 0 (refusedLine number) (now (out .exit)) r ⌝ }
+{
+    let word = put_all(out, 0, b"refused");
+    let end = put_field(out, word, number as u64);
+    put_byte(out, end, 10)
+}

@@ -1,0 +1,18 @@
+-- Document 01, "Differences and bands": flat rows of k + 1 numbers. What a run holds while a matrix is laid out in it.
+use mathlib.Core.Path.{_≡_}
+use mathlib.Core.List.{List}
+use Prim.Native.Nat.{ℕ, _+_, _-_, _*_, _<_, _≤_}
+use lib.Ieee.{Float}
+use Rattle.vectors.specs.Vec.{at, Kept}
+use Rattle.banded.specs.Rows.{Matrix}
+use Rattle.banded.specs.Run.{flat}
+
+-- s is s₀ with the first r rows of a in its first places
+pub record Laid (k r : ℕ) (a : Matrix) (s₀ s : List Float) : Type 0 where
+  pub kept : Kept 0 (r * (k + 1)) s₀ s
+  pub same : (i j : ℕ) → i < r → j ≤ k → flat k s i j ≡ a i j
+
+-- s is s₀ but for the n places from b on, each of which holds what stands w places before it
+pub record Repeated (w b n : ℕ) (s₀ s : List Float) : Type 0 where
+  pub kept : Kept b n s₀ s
+  pub same : (q : ℕ) → b ≤ q → q < b + n → at s q ≡ at s (q - w)

@@ -1,0 +1,110 @@
+-- Known files: for each an input, and what `readWeek` says of it as numbers. One proof covers the table. Assumes nothing.
+use mathlib.Core.Path.{_≡_, refl, _∙_}
+use mathlib.Core.List.{List, [], _∷_, _++_}
+use Prim.Native.Nat.{ℕ, zero, suc, _*_}
+use native.Mathlib.Omega.{arith}
+use lib.Ieee
+use lib.Ieee.{Float, binary64, toBits}
+use lib.ListN.{length, take, length-append}
+use Rattle.records.specs.Bytes.{four·at, eight·at, signed32}
+use Rattle.records.specs.Records.{headAt, recordsAt, records, countKind, hoursOf}
+use Rattle.records.specs.Week.{Answer, refused, taken, readWeek, askRecords, settingsAt}
+use Rattle.records.proofs.Asking.{week-long}
+
+-- the bits of each double
+patterns : List Float → List ℕ
+patterns [] = []
+patterns (x ∷ xs) = toBits binary64 x ∷ patterns xs
+
+-- a refusal is its number; a week that is taken is 0, its settings (doubles by their bits) and the bits of its hours
+numbers : Answer → List ℕ
+numbers (refused k) = k ∷ []
+numbers (taken st hs) = 0 ∷ toBits binary64 (st .lam) ∷ toBits binary64 (st .tol) ∷ st .«max_iter» ∷ st .order ∷ st .penalty ∷ patterns hs
+
+-- x, n times over
+times : ℕ → List ℕ → List ℕ
+times zero x = []
+times (suc n) x = x ++ times n x
+
+-- document 01's settings (lam 4000, order 1, penalty 1, tol 1e-8, max_iter 100), an hour of 8000 ms, of 0, of −1, of −2147483648, and a silent hour
+abbrev settings : List ℕ
+settings = 28 ∷ 0 ∷ 3 ∷ 0 ∷ 0 ∷ 0 ∷ 0 ∷ 0 ∷ 0 ∷ 64 ∷ 175 ∷ 64 ∷ 58 ∷ 140 ∷ 48 ∷ 226 ∷ 142 ∷ 121 ∷ 69 ∷ 62 ∷ 100 ∷ 0 ∷ 0 ∷ 0 ∷ 0 ∷ 0 ∷ 0 ∷ 0 ∷ 1 ∷ 1 ∷ []
+
+abbrev hour : List ℕ
+hour = 6 ∷ 0 ∷ 1 ∷ 0 ∷ 64 ∷ 31 ∷ 0 ∷ 0 ∷ []
+
+abbrev punctual : List ℕ
+punctual = 6 ∷ 0 ∷ 1 ∷ 0 ∷ 0 ∷ 0 ∷ 0 ∷ 0 ∷ []
+
+abbrev early : List ℕ
+early = 6 ∷ 0 ∷ 1 ∷ 0 ∷ 255 ∷ 255 ∷ 255 ∷ 255 ∷ []
+
+abbrev earliest : List ℕ
+earliest = 6 ∷ 0 ∷ 1 ∷ 0 ∷ 0 ∷ 0 ∷ 0 ∷ 128 ∷ []
+
+abbrev silent : List ℕ
+silent = 2 ∷ 0 ∷ 2 ∷ 0 ∷ []
+
+-- settings whose lam and tol are patterns of a NaN, with the greatest max_iter, order 2 and penalty 255
+abbrev odd-settings : List ℕ
+odd-settings = 28 ∷ 0 ∷ 3 ∷ 0 ∷ 1 ∷ 0 ∷ 0 ∷ 0 ∷ 0 ∷ 0 ∷ 240 ∷ 127 ∷ 0 ∷ 0 ∷ 0 ∷ 0 ∷ 0 ∷ 0 ∷ 248 ∷ 255 ∷ 255 ∷ 255 ∷ 255 ∷ 255 ∷ 255 ∷ 255 ∷ 255 ∷ 255 ∷ 2 ∷ 255 ∷ []
+
+-- the settings of document 01, as numbers
+abbrev said : List ℕ
+said = 0 ∷ 0x40af_4000_0000_0000 ∷ 0x3e45_798e_e230_8c3a ∷ 100 ∷ 1 ∷ 1 ∷ []
+
+abbrev nan-pattern : ℕ
+nan-pattern = 0x7ff8_0000_0000_0000
+
+table : List (List ℕ × List ℕ)
+table =
+    ([], 12 ∷ [])
+    -- document 01's file; a silent hour is left out; milliseconds are signed
+    ∷ (settings ++ hour ++ punctual, said ++ (0x40bf_4000_0000_0000 ∷ 0 ∷ []))
+    ∷ (settings ++ hour ++ silent ++ early ++ earliest, said ++ (0x40bf_4000_0000_0000 ∷ 0xbff0_0000_0000_0000 ∷ 0xc1e0_0000_0000_0000 ∷ []))
+    ∷ (settings, said)
+    ∷ (odd-settings, 0 ∷ nan-pattern ∷ nan-pattern ∷ 18446744073709551615 ∷ 2 ∷ 255 ∷ [])
+    -- a record that the input cuts, a length of 0, an hour of another length, a kind that there is not
+    ∷ (take 29 settings, 11 ∷ [])
+    ∷ (settings ++ take 7 hour, 11 ∷ [])
+    ∷ (settings ++ take 3 silent, 11 ∷ [])
+    ∷ (settings ++ (0 ∷ 0 ∷ 2 ∷ 0 ∷ []), 11 ∷ [])
+    ∷ (settings ++ (5 ∷ 0 ∷ 1 ∷ 0 ∷ 0 ∷ 0 ∷ 0 ∷ []), 11 ∷ [])
+    ∷ (settings ++ (2 ∷ 0 ∷ 4 ∷ 0 ∷ []), 11 ∷ [])
+    -- the higher byte first
+    ∷ (settings ++ (0 ∷ 2 ∷ 0 ∷ 2 ∷ []), 11 ∷ [])
+    -- no settings, settings that are not the first record, settings twice
+    ∷ (hour, 12 ∷ [])
+    ∷ (hour ++ settings, 12 ∷ [])
+    ∷ (settings ++ hour ++ settings, 12 ∷ [])
+    -- 168 hours and a silent one; 169 hours
+    ∷ (settings ++ times 168 hour ++ silent, said ++ times 168 (0x40bf_4000_0000_0000 ∷ []))
+    ∷ (settings ++ times 169 hour, 13 ∷ [])
+    -- 11 comes before 12, and 12 before 13
+    ∷ (hour ++ settings ++ take 3 silent, 11 ∷ [])
+    ∷ (settings ++ times 169 hour ++ settings, 12 ∷ [])
+    ∷ []
+
+says : List (List ℕ × List ℕ) → List (List ℕ)
+says [] = []
+says (p ∷ ps) = numbers (readWeek (p .0)) ∷ says ps
+
+expected : List (List ℕ × List ℕ) → List (List ℕ)
+expected [] = []
+expected (p ∷ ps) = p .1 ∷ expected ps
+
+known : says table ≡ expected table
+unfolding patterns numbers times says expected table readWeek askRecords settingsAt records recordsAt headAt countKind hoursOf four·at eight·at signed32 Ieee.ofBits Ieee.toBits Ieee.ofInt
+known = refl
+
+-- 4,098 bytes, all of them whole records, are too many; so are 4,097 of any kind
+length-times : (n : ℕ) (x : List ℕ) → length (times n x) ≡ n * length x
+unfolding times
+length-times zero x = omega arith
+length-times (suc n) x = length-append x (times n x) ∙ omega (arith, length-times n x)
+
+known-long : readWeek (settings ++ times 1017 silent) ≡ refused 11
+known-long = week-long (settings ++ times 1017 silent) (omega (arith, length-append settings (times 1017 silent), length-times 1017 silent))
+
+known-longer : readWeek (times 4097 (0 ∷ [])) ≡ refused 11
+known-longer = week-long (times 4097 (0 ∷ [])) (omega (arith, length-times 4097 (0 ∷ [])))

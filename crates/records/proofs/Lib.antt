@@ -1,0 +1,5 @@
+mod Floats
+mod Heads
+mod Passing
+mod Asking
+mod Known

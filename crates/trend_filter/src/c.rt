@@ -1,0 +1,67 @@
+// The fit for callers in C: 0 for a fit, else the refusal's number.
+ghost use mathlib.Core.Path.{_≡_};
+ghost use lib.ListN.{length};
+ghost use Rattle.questions.specs.Groups.{asking, lending};
+ghost use Rattle.trend_filter.specs.Calls.{oneIf, numbersOf, countsOf, Called};
+use crate::Answer;
+use crate::Summary;
+use crate::TrendFilterOptions;
+
+fn one_if(b: bool) -> u64
+    ensures { λ r. ⌜ r ≡ oneIf b ⌝ }
+{
+    if b { 1 } else { 0 }
+}
+
+fn put_numbers(numbers: &mut [f64; 5], s: Summary)
+    ensures { λ _. ⌜ now (numbers .exit) ≡ numbersOf s ⌝ }
+{
+    *numbers = [s.lam_max, s.gap, s.first_gap, s.best_gap, s.objective];
+}
+
+fn put_counts(counts: &mut [u64; 4], s: Summary)
+    ensures { λ _. ⌜ now (counts .exit) ≡ countsOf s ⌝ }
+{
+    let c = one_if(s.converged);
+    *counts = [s.knots as u64, s.n_iter, s.improvements, c];
+}
+
+// numbers are lam_max, gap, first gap, best gap and objective; counts are knots, n_iter, improvements and converged (0 or 1).
+#[no_mangle]
+pub extern "C" fn trend_filter_fit(
+    y: &[f64],
+    lam: f64,
+    tol: f64,
+    max_iter: u64,
+    order: u32,
+    penalty: u32,
+    trend: &mut [f64],
+    cycle: &mut [f64],
+    knots: &mut [u32],
+    work: &mut [f64],
+    marks: &mut [u32],
+    numbers: &mut [f64; 5],
+    counts: &mut [u64; 4],
+) -> u32
+    ensures { λ r. ⌜ Called (asking (now (y .entry)) lam tol «max_iter» order penalty)
+        (lending (length (now (trend .entry))) (length (now (cycle .entry))) (length (now (knots .entry))) (length (now (work .entry))) (length (now (marks .entry)))) r
+        (now (trend .entry)) (now (trend .exit)) (now (cycle .entry)) (now (cycle .exit)) (now (knots .entry)) (now (knots .exit))
+        (now (work .entry)) (now (work .exit)) (now (marks .entry)) (now (marks .exit))
+        (now (numbers .entry)) (now (numbers .exit)) (now (counts .entry)) (now (counts .exit)) ⌝ }
+{
+    let o = TrendFilterOptions {
+        order: order,
+        penalty: penalty,
+        tol: tol,
+        max_iter: max_iter,
+    };
+    let a = crate::l1_trend_filter(y, lam, o, trend, cycle, knots, work, marks);
+    match a {
+        Answer::Refused(q) => q,
+        Answer::Fit(s) => {
+            put_numbers(numbers, s);
+            put_counts(counts, s);
+            0
+        }
+    }
+}

@@ -1,2 +1,0 @@
--- The laws of trend_filter_c.
-pub mod Laws

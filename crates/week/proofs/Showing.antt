@@ -1,0 +1,134 @@
+-- From the answers of `read_week` and of the fit to the text. Assumes nothing.
+use mathlib.Core.Path.{_≡_, refl, sym, ap, ap₂, _∙_, subst}
+use mathlib.Core.Bool.{Bool, true, false, cond, _&&_}
+use Prim.Native.Nat.{ℕ, _+_, _≤_}
+use native.Mathlib.Omega.{arith}
+use mathlib.Core.List.{List, [], _∷_}
+use mathlib.Core.Option.{Option, none, some}
+use lib.ListN.{length, take, drop, length-append}
+use lib.Seq.{take-append-seam, length-take-le}
+use lib.Dec.{leb, ltb, eqb}
+use lib.Ieee.{Float}
+use borrow.Author.Tests.{leb-true}
+use Rattle.io.specs.Counts.{Counts}
+use Rattle.vectors.specs.Vec.{Wrote}
+use Rattle.vectors.proofs.Texts.{wrote-length}
+use Rattle.records.specs.Records.{Rec, rec, records, countKind, hoursOf}
+use Rattle.records.specs.Week.{readWeek, askRecords, settingsAt, answer, series}
+use Rattle.records.specs.Week as read
+use Rattle.records.specs.declared.Settings.{Settings}
+use Rattle.records.specs.declared.Week.the-variants as week
+use Rattle.listing.specs.Listing.{listingOf, refusedLine}
+use Rattle.fit.specs.Questions.{Lent}
+use Rattle.fit.specs.Fit.{Fit, Outcome, refused, fitted, fit}
+use Rattle.fit.proofs.Lengths.{lengths}
+use Rattle.trend_filter.specs.Answers.{summaryOf, answerOf, after, Gives}
+use Rattle.trend_filter.specs.declared.Summary.{Summary}
+use Rattle.trend_filter.specs.declared.Answer.{Answer}
+use Rattle.trend_filter.specs.declared.Answer.the-variants as fits
+use Rattle.week.specs.Printed.{asked, lent, shown, outcomeText, fitText}
+use Rattle.week.specs.Week.{answerText, weekText}
+use Rattle.week.proofs.Fronts.{hours-front, knots-front}
+
+-- what lending the written part asks
+pub wrote-counts : {d t e : List ℕ} {at r : ℕ} → Wrote d at t e r → Counts r e
+wrote-counts {d} {t} {e} {at} {r} w =
+    let h : r ≤ length e = omega (arith, wrote-length w, w .room) in
+    (h, sym (length-take-le r e h))
+
+-- a week that is taken has at most 168 hours
+abbrev Short : read.Answer → Type 0
+Short (read.refused k) = Unit
+Short (read.taken st hs) = length hs ≤ 168
+
+cond-case : (P : read.Answer → Type 0) (b : Bool) (x y : read.Answer) → (b ≡ true → P x) → P y → P (cond b x y)
+cond-case P true x y f g = f refl
+cond-case P false x y f g = g
+
+ask-short : (s : List ℕ) (o : Option (List Rec)) → Short (askRecords s o)
+unfolding askRecords
+ask-short s none = tt
+ask-short s (some []) = tt
+ask-short s (some (rec k b ∷ rs)) =
+    cond-case Short (eqb k 3 && eqb (countKind 3 rs) 0) _ _
+    (λ _. cond-case Short (leb (length (hoursOf s rs)) 168) (read.taken (settingsAt s b) (hoursOf s rs)) (read.refused 13) (λ e. leb-true _ _ e) tt) tt
+
+short : (s : List ℕ) → Short (readWeek s)
+unfolding readWeek
+short s = cond-case Short (ltb 4096 (length s)) (read.refused 11) (askRecords s (records s)) (λ _. tt) (ask-short s (records s))
+
+-- what an answer of `read_week` says
+was-refused : (a : read.Answer) {k : ℕ} → week.Refused k ≡ answer a → a ≡ read.refused k
+was-refused (read.refused j) e = ap read.refused (sym (let f : _ ≡ j = cc in f))
+was-refused (read.taken st hs) e = let z : _≡_ {A = ℕ} 0 1 = cc in absurd (omega arith)
+
+pub record Taken (a : read.Answer) (st : Settings) (n : ℕ) (z : List Float) : Type 0 where
+  pub hours : List Float
+  pub week : a ≡ read.taken st hours
+  pub count : n ≡ length hours
+  pub front : take n z ≡ hours
+  pub room : n ≤ length z
+  pub few : n ≤ 168
+
+was-taken : (a : read.Answer) (y : List Float) {st : Settings} {n : ℕ} {z : List Float} → week.Read st n ≡ answer a → z ≡ series a y → Short a → Taken a st n z
+was-taken (read.refused j) y e p h = let z : _≡_ {A = ℕ} 0 1 = cc in absurd (omega arith)
+was-taken (read.taken sd hs) y {st} {n} {z} e p h =
+    let es : sd ≡ st = cc in
+    let en : n ≡ length hs = cc in
+    record {
+      hours = hs;
+      week = ap (λ (x : Settings). read.taken x hs) es;
+      count = en;
+      front = ap₂ (λ (i : ℕ) (l : List Float). take i l) en p ∙ take-append-seam hs (drop (0 + length hs) y);
+      room = omega (arith, en, ap length p, length-append hs (drop (0 + length hs) y));
+      few = omega arith;
+    }
+
+pub taken-week : (s : List ℕ) (y : List Float) {st : Settings} {n : ℕ} {z : List Float} → week.Read st n ≡ answer (readWeek s) → z ≡ series (readWeek s) y → Taken (readWeek s) st n z
+taken-week s y e p = was-taken (readWeek s) y e p (short s)
+
+-- the text of a week
+pub text-refused : (s : List ℕ) {k : ℕ} → week.Refused k ≡ answer (readWeek s) → weekText s ≡ refusedLine k
+unfolding weekText answerText
+text-refused s e = ap answerText (was-refused (readWeek s) e)
+
+pub text-taken : (s : List ℕ) {st : Settings} {n : ℕ} {z : List Float} → Taken (readWeek s) st n z → weekText s ≡ fitText st (take n z)
+unfolding weekText answerText
+text-taken s {st} w = ap answerText (w .week) ∙ ap (fitText st) (sym (w .front))
+
+-- what an answer of the fit says
+was-no-fit : (st : Settings) (n : ℕ) (o : Outcome) {k : ℕ} → fits.Refused k ≡ answerOf o → outcomeText st n o ≡ refusedLine k
+unfolding outcomeText answerOf
+was-no-fit st n (refused j) e = ap refusedLine (sym (let f : _ ≡ j = cc in f))
+was-no-fit st n (fitted f) e = let z : _≡_ {A = ℕ} 0 1 = cc in absurd (omega arith)
+
+pub record Listed (st : Settings) (y : List Float) (s : Summary) (t c : List Float) (k : List ℕ) : Type 0 where
+  pub text : fitText st y ≡ listingOf (shown st (length y) s) t c k
+  pub few : s .knots ≤ length y
+
+was-fit : (st : Settings) (y : List Float) (o : Outcome) (t₀ c₀ : List Float) (k₀ : List ℕ) {r : Answer} {s : Summary} {t c : List Float} {k : List ℕ}
+    → fit (asked st y) lent ≡ o → r ≡ fits.Fit s → Gives o r t₀ t c₀ c k₀ k → Listed st y s t c k
+unfolding fitText outcomeText listingOf summaryOf answerOf after
+was-fit st y (refused i) t₀ c₀ k₀ {r} {s} g e h =
+    let p : fits.Fit s ≡ answerOf (refused i) = sym e ∙ h .answer in
+    let z : _≡_ {A = ℕ} 0 1 = cc in absurd (omega arith)
+was-fit st y (fitted f) t₀ c₀ k₀ {r} {s} {t} {c} {k} g e h =
+    let p : fits.Fit s ≡ answerOf (fitted f) = sym e ∙ h .answer in
+    let es : summaryOf f ≡ s = cc in
+    let l = lengths (asked st y) lent f g in
+    subst (λ (x : Summary). Listed st y x t c k) es (record {
+      text = ap (outcomeText st (length y)) g ∙ rw (h .trend, h .cycle, h .knots, hours-front (f .trend) (f .cycle) t₀ c₀ (length y) (omega (arith, l .trend)) (omega (arith, l .cycle)), knots-front (f .knots) k₀ (length (f .knots)) (omega arith));
+      few = omega (arith, l .knots);
+    })
+
+-- the fit with what the program lends
+module _ (st : Settings) (y : List Float) (l : Lent) where
+  pub fit-listed : {r : Answer} {s : Summary} {t₀ t c₀ c : List Float} {k₀ k : List ℕ} → r ≡ fits.Fit s → Gives (fit (asked st y) l) r t₀ t c₀ c k₀ k → lent ≡ l → Listed st y s t c k
+  fit-listed {r} {s} {t₀} {t} {c₀} {c} {k₀} {k} e h g = was-fit st y (fit (asked st y) l) t₀ c₀ k₀ (ap (fit (asked st y)) g) e h
+
+  pub fit-refused : {r : Answer} {j : ℕ} {t₀ t c₀ c : List Float} {k₀ k : List ℕ} → r ≡ fits.Refused j → Gives (fit (asked st y) l) r t₀ t c₀ c k₀ k → lent ≡ l → fitText st y ≡ refusedLine j
+  unfolding fitText
+  fit-refused e h g = ap (λ (x : Lent). outcomeText st (length y) (fit (asked st y) x)) g ∙ was-no-fit st (length y) (fit (asked st y) l) (sym e ∙ h .answer)
+
+pub lent-is : {t c k w m : ℕ} → 168 ≡ t → 168 ≡ c → 168 ≡ k → 6720 ≡ w → 336 ≡ m → lent ≡ record { trend = t; cycle = c; knots = k; work = w; marks = m }
+lent-is et ec ek ew em = rw (sym et, sym ec, sym ek, sym ew, sym em)

@@ -1,0 +1,3 @@
+-- What the weekly program prints.
+pub mod Printed
+pub mod Week

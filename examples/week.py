@@ -1,0 +1,59 @@
+#!/usr/bin/env python3
+"""A sample week, and a reader for its listing.
+
+week.py make FILE    writes the sample week: 168 hours, four of them silent
+week.py show         reads a listing from standard input and prints it with plain numbers
+
+    python3 examples/week.py make examples/week.bin
+    target/bin/weektrend < examples/week.bin | python3 examples/week.py show
+"""
+import math
+import random
+import struct
+import sys
+
+LAM, TOL, LIMIT, ORDER, PENALTY = 8000.0, 1e-8, 100, 1, 1
+NIGHT = range(73, 77)  # Thursday, 01:00 to 05:00: the transmitter is off
+STEP = 62  # Wednesday, 14:00: a longer jingle package goes on air
+
+
+def drift(hour):
+    """How late the news starts, in milliseconds: a slow loss, a daily swing, the step, and chance."""
+    swing = 350 * math.sin(2 * math.pi * (hour % 24 - 7) / 24)
+    return round(900 + 4 * hour + swing + (2600 if hour >= STEP else 0) + random.gauss(0, 220))
+
+
+def make():
+    random.seed(168)
+    out = struct.pack("<HHddQBB", 28, 3, LAM, TOL, LIMIT, ORDER, PENALTY)
+    for hour in range(168):
+        late = drift(hour)
+        out += struct.pack("<HH", 2, 2) if hour in NIGHT else struct.pack("<HHi", 6, 1, late)
+    return out
+
+
+def number(digits):
+    return struct.unpack(">d", bytes.fromhex(digits))[0]
+
+
+def show(lines):
+    for line in lines:
+        word, *rest = line.split()
+        if word == "fit":
+            n, order, penalty, steps, gains, converged = rest
+            print(f"{n} hours, order {order}, penalty {penalty}: {steps} steps, {gains} of them improvements, {'settled' if converged == '1' else 'not settled'}")
+        elif word == "h":
+            print(f"hour {int(rest[0]):3}  trend {number(rest[1]):10.1f} ms  cycle {number(rest[2]):10.1f} ms")
+        elif word == "knot":
+            print(f"the trend bends at hour {rest[0]}")
+        elif word == "refused":
+            print(f"refused: question {rest[0]}")
+        else:
+            top, gap, objective = map(number, [word] + rest)
+            print(f"flat from lam {top:.6g} on; gap {gap:.3g}; objective {objective:.6g}")
+
+
+if sys.argv[1:2] == ["make"]:
+    open(sys.argv[2], "wb").write(make())
+else:
+    show(sys.stdin)

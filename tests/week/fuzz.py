@@ -1,0 +1,174 @@
+#!/usr/bin/env python3
+"""fuzz.py [COUNT [SEED [PROGRAM]]]: random and mutated inputs of the weekly program, 100,000 unless COUNT is given.
+
+Each run must end within ten seconds, with status 0, and print a listing or one line `refused N`, nothing else.
+Beside that form, a plain reading of document 01's questions 11 to 13, 1, 2, 5, 6 and 7 says for each input
+which refusal is right, and of a fit n, order, penalty, the bounds of n_iter and the rising knots are checked.
+"""
+import math
+import multiprocessing
+import random
+import re
+import struct
+import subprocess
+import sys
+
+LENGTHS = {1: 6, 2: 2, 3: 28}
+HEX = "[0-9a-f]{16}"
+FIT = re.compile(rf"fit (\d+) (\d+) (\d+) (\d+) (\d+) ([01])\n{HEX} {HEX} {HEX}\n((?:h \d+ {HEX} {HEX}\n)*)((?:knot \d+\n)*)")
+
+
+# ---- what is right
+
+def split(data):
+    """The records of an input as (kind, body), or None."""
+    records, at = [], 0
+    while at < len(data):
+        if len(data) - at < 4:
+            return None
+        length, kind = struct.unpack_from("<HH", data, at)
+        if length != LENGTHS.get(kind) or at + 2 + length > len(data):
+            return None
+        records.append((kind, data[at + 4:at + 2 + length]))
+        at += 2 + length
+    return records
+
+
+def expected(data):
+    """A refusal's number, or (n, order, penalty, max_iter) of a series that reaches the fit."""
+    records = split(data) if len(data) <= 4096 else None
+    if records is None:
+        return 11
+    if not records or records[0][0] != 3 or any(k == 3 for k, _ in records[1:]):
+        return 12
+    n = sum(k == 1 for k, _ in records)
+    if n > 168:
+        return 13
+    lam, tol, limit, order, penalty = struct.unpack("<ddQBB", records[0][1])
+    if order not in (1, 2) or penalty not in (1, 2):
+        return 1
+    if n < order + 1:
+        return 2
+    if not math.isfinite(lam) or lam < 0:
+        return 5
+    if not math.isfinite(tol) or tol <= 0:
+        return 6
+    if limit < 1:
+        return 7
+    return n, order, penalty, limit
+
+
+def fault(data, run):
+    """What is wrong with a run, or None."""
+    if run.returncode != 0 or run.stderr:
+        return f"status {run.returncode}, {run.stderr[:80]!r}"
+    want = expected(data)
+    if isinstance(want, int):
+        return None if run.stdout == b"refused %d\n" % want else f"refused {want} is right"
+    n, order, penalty, limit = want
+    if run.stdout == b"refused 10\n":
+        return None
+    m = FIT.fullmatch(run.stdout.decode("ascii", "replace"))
+    if not m:
+        return "neither a listing nor a refusal"
+    head = [int(m.group(i)) for i in range(1, 7)]
+    steps, gains = head[3], head[4]
+    if head[:3] != [n, order, penalty]:
+        return "another n, order or penalty"
+    if steps > limit or steps > 10 * gains + 10:
+        return "more steps than allowed"
+    if [int(line.split()[1]) for line in m.group(7).splitlines()] != list(range(n)):
+        return "the hours are not numbered from 0"
+    knots = [int(line.split()[1]) for line in m.group(8).splitlines()]
+    if knots != sorted(set(knots)) or any(k >= n - order for k in knots):
+        return "the knots do not rise within the series"
+    return None
+
+
+# ---- inputs
+
+def bits(r):
+    """Eight bytes of a double: mostly sensible, else an edge or any pattern."""
+    kind = r.random()
+    if kind < 0.6:
+        return struct.pack("<d", 10 ** r.uniform(-9, 7))
+    if kind < 0.75:
+        return struct.pack("<d", r.choice([0.0, -0.0, 5e-324, -5e-324, 1e308, 1e-300, math.inf, -math.inf, 1.0, -1.0]))
+    if kind < 0.85:
+        return struct.pack("<Q", r.choice([0, 2 ** 63]) + 0x7FF0000000000000 + r.choice([1, 2 ** 51, 2 ** 51 + 1, 2 ** 52 - 1]))
+    return struct.pack("<Q", r.getrandbits(64))
+
+
+def settings(r):
+    limit = r.choice([0, 1, 2, 20, 60, 100, 2 ** 32, 2 ** 64 - 1, r.getrandbits(64)])
+    small = lambda: r.choice([1, 2, 1, 2, 1, 2, 0, 3, r.getrandbits(8)])
+    return struct.pack("<HH", 28, 3) + bits(r) + bits(r) + struct.pack("<QBB", limit, small(), small())
+
+
+def hours(r):
+    n = r.choice([0, 1, 2, 3, r.randrange(4, 40), r.randrange(100, 169), 168, 169])
+    level, out = r.randrange(-8000, 8000), []
+    for _ in range(n):
+        if r.random() < 0.03:
+            level = r.choice([r.randrange(-8000, 8000), r.randrange(-2 ** 31, 2 ** 31), 2 ** 31 - 1, -2 ** 31])
+        if r.random() < 0.05:
+            out.append(struct.pack("<HH", 2, 2))
+        out.append(struct.pack("<HHi", 6, 1, max(-2 ** 31, min(2 ** 31 - 1, level + r.randrange(-300, 300)))))
+    return out
+
+
+def mutated(r, data):
+    data = bytearray(data)
+    for _ in range(r.choice([1, 1, 2, 5])):
+        way, at = r.randrange(7), r.randrange(len(data) + 1)
+        if way == 0 and at < len(data):
+            data[at] ^= 1 << r.randrange(8)
+        elif way == 1:
+            del data[at:]
+        elif way == 2:
+            data[at:at] = r.randbytes(r.randrange(1, 9))
+        elif way == 3:
+            del data[at:at + r.randrange(1, 9)]
+        elif way == 4:
+            data += settings(r)
+        elif way == 5:
+            data += struct.pack("<HH", 2, 2) * r.choice([1, 10, 1100])
+        elif at < len(data):
+            data[at] = r.getrandbits(8)
+    return bytes(data)
+
+
+def made(seed):
+    r = random.Random(seed)
+    kind = r.random()
+    if kind < 0.1:
+        return r.randbytes(r.choice([0, 1, 3, 4, r.randrange(200), 4096, 4097, 5000]))
+    data = settings(r) + b"".join(hours(r))
+    return data if kind < 0.6 else mutated(r, data)
+
+
+def one(job):
+    seed, program = job
+    data = made(seed)
+    try:
+        return seed, fault(data, subprocess.run([program], input=data, capture_output=True, timeout=10))
+    except subprocess.TimeoutExpired:
+        return seed, "no end within ten seconds"
+
+
+def main():
+    count = int(sys.argv[1]) if len(sys.argv) > 1 else 100_000
+    first = int(sys.argv[2]) if len(sys.argv) > 2 else 1
+    program = sys.argv[3] if len(sys.argv) > 3 else "target/bin/weektrend"
+    wrong = 0
+    with multiprocessing.Pool() as pool:
+        for seed, what in pool.imap_unordered(one, ((s, program) for s in range(first, first + count)), 200):
+            if what:
+                wrong += 1
+                print(f"input {seed}: {what}")
+    print(f"{count - wrong} of {count} inputs: a listing or a refusal, as document 01 has it")
+    sys.exit(1 if wrong else 0)
+
+
+if __name__ == "__main__":
+    main()
