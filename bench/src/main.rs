@@ -5,23 +5,11 @@ mod flat;
 
 use flat::Ws;
 use oracle::cases::lam_max_of;
+use oracle::port::trend_filter_fit;
 use oracle::random::Random;
 use oracle::trend_filter::{l1_trend_filter, Penalty, TrendFilterOptions};
 use std::hint::black_box;
 use std::time::Instant;
-
-extern "C" {
-    fn trend_filter_fit(
-        y: *const f64, y_len: usize,
-        lam: f64, tol: f64, max_iter: u64, order: u32, penalty: u32,
-        trend: *mut f64, trend_len: usize,
-        cycle: *mut f64, cycle_len: usize,
-        knots: *mut u32, knots_len: usize,
-        work: *mut f64, work_len: usize,
-        marks: *mut u32, marks_len: usize,
-        numbers: *mut [f64; 5], counts: *mut [u64; 4],
-    ) -> u32;
-}
 
 struct Buffers {
     trend: Vec<f64>,

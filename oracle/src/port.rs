@@ -1,7 +1,8 @@
 //! The proved port, called through its C entry with buffers that have room beyond what it may write.
 
 extern "C" {
-    fn trend_filter_fit(
+    /// The C entry: see bindings/c/trend_filter.h.
+    pub fn trend_filter_fit(
         y: *const f64, y_len: usize,
         lam: f64, tol: f64, max_iter: u64, order: u32, penalty: u32,
         trend: *mut f64, trend_len: usize,
