@@ -1,5 +1,6 @@
 //! Times the port, the Rust original and flat loops with the same bits, side by side in one run. `bench` prints the table;
-//! `bench port K N` and `bench flat K N` run one search of order K and N places 20 times over, for callgrind.
+//! `bench port K N` and `bench flat K N` run one search of order K and N places 20 times over: the table's last lines count their
+//! instructions, where valgrind is at hand.
 //! The port's and the flat loops' buffers are taken once and not cleared between fits; the Rust takes its own memory in each fit.
 mod flat;
 
@@ -120,6 +121,20 @@ fn iteration(order: u32, n: usize, rounds: usize) -> f64 {
     p / n as f64
 }
 
+/// Instructions of one iteration, by callgrind on this program's own `WHO K 168`; what a fit does once is in it too.
+fn instructions(who: &str, order: u32) -> Option<f64> {
+    let me = std::env::current_exe().ok()?;
+    let k = order.to_string();
+    let words = ["--tool=callgrind", "--callgrind-out-file=/dev/null", me.to_str()?, who, &k, "168"];
+    let run = std::process::Command::new("valgrind").args(words).output().ok()?;
+    let number = |text: &str, mark: &str| -> Option<f64> {
+        let line = text.lines().find(|l| l.contains(mark))?;
+        line.split_whitespace().filter_map(|w| w.parse().ok()).last()
+    };
+    let steps = number(&String::from_utf8_lossy(&run.stdout), "iterations")?;
+    Some(number(&String::from_utf8_lossy(&run.stderr), "Collected")? / steps)
+}
+
 fn main() {
     let word: Vec<String> = std::env::args().skip(1).collect();
     if let [who, k, n] = &word[..] {
@@ -156,5 +171,11 @@ fn main() {
         let lams = vec![lam_max_of(&ys[0], 2) * 0.01];
         fits(&format!("L1, order 2, n {n}"), &ys, &lams, 2, 1, 2);
         fits(&format!("L2, order 2, n {n}"), &ys, &[1600.0], 2, 2, 5);
+    }
+    for order in 1..3 {
+        match (instructions("port", order), instructions("flat", order)) {
+            (Some(p), Some(f)) => println!("instructions an iteration, order {order}, n 168: port {p:.0}, flat {f:.0}, a place {:.0} and {:.0}", p / 168.0, f / 168.0),
+            _ => println!("instructions an iteration, order {order}: no valgrind"),
+        }
     }
 }
