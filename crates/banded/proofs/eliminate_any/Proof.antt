@@ -8,12 +8,6 @@ use Rattle.banded.proofs.Elimination.{eliminated}
 use borrow.Author.Needs.{needs}
 use Rattle.banded.proofs.eliminate_any.Statement.{statement}
 use Rattle.banded.proofs.eliminate_any.Tie as tie
-use Rattle.banded.proofs.eliminate_any.Reads as reads
-use Rattle.banded.proofs.eliminate_any.Lts as lts
-use Rattle.banded.proofs.factor_row.Reads as factor-row-reads
-use Rattle.banded.proofs.forward_at.Reads as forward-at-reads
-use Rattle.banded.proofs.get.Reads as get-reads
-use Rattle.banded.proofs.is_good.Reads as is-good-reads
 
 factor-row-requires : tie.Need-factor-row-requires
 factor-row-requires c κs = let a = c .before .before .args in
@@ -32,28 +26,10 @@ add-b : tie.Need-add-b
 add-b c = let a = c .before .before .before .before .before .before .before .args in
     omega (arith, rows-fit (a .k) (a .r) (a .m) (length (a .s .now)) (omega arith) (omega arith))
 
-mul-b : tie.Need-mul-b
-mul-b c = search needs
-
 forward-at-requires : tie.Need-forward-at-requires
 forward-at-requires c κs = let a = c .before .before .before .before .before .before .before .before .args in
     let kept = c .before .before .before .before .before .factor-row .kept .0 in
     (rows-fit (a .k) (a .r) (a .m) _ (omega arith) (omega arith), omega arith)
-
-add-s : tie.Need-add-s
-add-s c = search needs
-
-mul-s : tie.Need-mul-s
-mul-s c = search needs
-
-slice-write-s : tie.Need-slice-write-s
-slice-write-s c = search needs
-
-is-good-requires : tie.Need-is-good-requires
-is-good-requires c κs = search needs
-
-same-length : tie.Need-same-length
-same-length c = search needs
 
 returns : tie.Need-returns
 returns c = let a = c .before .before .before .before .before .before .before .before .before .before .args in
@@ -63,16 +39,5 @@ returns c = let a = c .before .before .before .before .before .before .before .b
 pub eliminate-any-spec : {M : Type 1} → statement M
 eliminate-any-spec =
     tie.close
-    (tie.spec
-    factor-row-requires
-    add-get
-    get-requires
-    add-b
-    mul-b
-    forward-at-requires
-    add-s
-    mul-s
-    slice-write-s
-    is-good-requires
-    same-length
-    returns)
+    (tie.spec factor-row-requires add-get get-requires add-b (λ c. search needs) forward-at-requires
+    (λ c. search needs) (λ c. search needs) (λ c. search needs) (λ c κs. search needs) (λ c. search needs) returns)

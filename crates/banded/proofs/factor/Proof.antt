@@ -15,9 +15,6 @@ use Rattle.banded.proofs.Laws.{kept-after, holds-of, of-holds, shape-ma
 use Rattle.banded.proofs.Elimination.{Reached, Ahead, reached-none, ahead-none, ahead-more, factor-more, factor-bad, length-forward}
 use Rattle.banded.proofs.factor.Statement.{statement}
 use Rattle.banded.proofs.factor.Tie as tie
-use Rattle.banded.proofs.factor.Reads as reads
-use Rattle.banded.proofs.factor.Lts as lts
-use Rattle.banded.proofs.eliminate.Reads as eliminate-reads
 
 abbrev Inv-loop : tie.InvT-loop
 Inv-loop s₀ k m r₀ s r = (r ≤ m) × (length s ≡ length s₀) × Ahead k m r s₀ s
@@ -29,12 +26,6 @@ abbrev μ-loop : tie.MeasureT-loop
 loop-holds : tie.Need-loop-holds Inv-loop μ-loop
 loop-holds c = let a = c .before .args in
     (search needs, refl, ahead-none, λ x v h st l. reached-none (a .k) (a .m) x v _)
-
-eliminate-requires : tie.Need-eliminate-requires Inv-loop μ-loop
-eliminate-requires c κs = search needs
-
-same-length : tie.Need-same-length Inv-loop μ-loop
-same-length c = search needs
 
 returns : tie.Need-returns Inv-loop μ-loop
 returns c = let a = c .before .before .before .before .before .before .before .before .args in
@@ -53,20 +44,11 @@ returns c = let a = c .before .before .before .before .before .before .before .b
           (sym no, λ t. let z : _≡_ {A = ℕ} 0 1 = cc in absurd (omega arith)),
     )
 
-add-r : tie.Need-add-r Inv-loop μ-loop
-add-r c = search needs
-
-loop-less : tie.Need-loop-less Inv-loop μ-loop
-loop-less c = search needs
-
 loop-again : tie.Need-loop-again Inv-loop μ-loop
 loop-again c = let at-loop = c .before .before .before .before .before .before in
     let inv = at-loop .loop .inv in
     let e = c .before .before .before .eliminate .ensures in
     (search needs, e .size ∙ inv .1, ahead-more (inv .2) e, λ x v h st l. factor-more (inv .2) e (omega arith) x v h st l (inv .3 x v h st l) (not-false _ (c .if1 .left)))
-
-same-length-2 : tie.Need-same-length-2 Inv-loop μ-loop
-same-length-2 c = search needs
 
 returns-2 : tie.Need-returns-2 Inv-loop μ-loop
 returns-2 c = let a = c .before .before .before .args in
@@ -88,15 +70,5 @@ returns-2 c = let a = c .before .before .before .args in
 pub factor-spec : {M : Type 1} → statement M
 factor-spec =
     tie.close
-    (tie.spec
-    Inv-loop
-    μ-loop
-    loop-holds
-    eliminate-requires
-    same-length
-    returns
-    add-r
-    loop-less
-    loop-again
-    same-length-2
-    returns-2)
+    (tie.spec Inv-loop μ-loop loop-holds (λ c κs. search needs) (λ c. search needs) returns (λ c. search needs)
+    (λ c. search needs) loop-again (λ c. search needs) returns-2)

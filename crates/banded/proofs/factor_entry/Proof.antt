@@ -10,10 +10,6 @@ use Rattle.banded.specs.Run.{flat}
 use Rattle.banded.proofs.Laws.{within, wide}
 use Rattle.banded.proofs.factor_entry.Statement.{statement}
 use Rattle.banded.proofs.factor_entry.Tie as tie
-use Rattle.banded.proofs.factor_entry.Reads as reads
-use Rattle.banded.proofs.factor_entry.Lts as lts
-use Rattle.banded.proofs.first.Reads as first-reads
-use Rattle.banded.proofs.get.Reads as get-reads
 
 abbrev Inv-loop : tie.InvT-loop
 Inv-loop s k r c w v₀ t₀ v t = (k - r ≤ t) × (t ≤ c) × (v ≡ less (flat k s r c) (λ n. taken k (flat k s) r c (k - r + n)) (t - (k - r)))
@@ -28,56 +24,23 @@ returns : tie.Need-returns Inv-loop μ-loop
 unfolding entry
 returns c = simp (lt-ltb _ _ (c .if1 .taken))
 
-add-w : tie.Need-add-w Inv-loop μ-loop
-add-w c = search needs
-
 get-requires : tie.Need-get-requires Inv-loop μ-loop
 get-requires c κs = let a = c .before .before .args in
     within (a .k) (a .r) (a .r) (a .c) _ (c .before .before .pre .0) (omega arith) (omega arith)
 
-first-requires : tie.Need-first-requires Inv-loop μ-loop
-first-requires c κs = search needs
-
 loop-holds : tie.Need-loop-holds Inv-loop μ-loop
 unfolding less
 loop-holds c = (search needs, search needs, rw (c .first .ensures, sub-self) (c .before .get .ensures))
-
-get-requires-2 : tie.Need-get-requires-2 Inv-loop μ-loop
-get-requires-2 c κs = search needs
-
-add-get : tie.Need-add-get Inv-loop μ-loop
-add-get c = search needs
-
-sub-get : tie.Need-sub-get Inv-loop μ-loop
-sub-get c = search needs
-
-add-get-2 : tie.Need-add-get-2 Inv-loop μ-loop
-add-get-2 c = search needs
-
-sub-get-2 : tie.Need-sub-get-2 Inv-loop μ-loop
-sub-get-2 c = search needs
 
 get-requires-3 : tie.Need-get-requires-3 Inv-loop μ-loop
 get-requires-3 c κs = let a = c .before .before .before .before .before .before .before .args in
     let pre = c .before .before .before .before .before .before .before .pre in
     within (a .k) (a .r) (a .r + a .c - a .k) (c .before .before .loop .t + a .k - a .c) _ (pre .0) (omega arith) (omega arith)
 
-add-get-3 : tie.Need-add-get-3 Inv-loop μ-loop
-add-get-3 c = search needs
-
-sub-get-3 : tie.Need-sub-get-3 Inv-loop μ-loop
-sub-get-3 c = search needs
-
 get-requires-4 : tie.Need-get-requires-4 Inv-loop μ-loop
 get-requires-4 c κs = let a = c .before .before .before .before .before .before .before .before .args in
     let pre = c .before .before .before .before .before .before .before .before .pre in
     within (a .k) (a .r) (a .r + c .before .before .before .loop .t - a .k) (a .k) _ (pre .0) (omega arith) (omega arith)
-
-add-t : tie.Need-add-t Inv-loop μ-loop
-add-t c = search needs
-
-loop-less : tie.Need-loop-less Inv-loop μ-loop
-loop-less c = search needs
 
 loop-again : tie.Need-loop-again Inv-loop μ-loop
 unfolding less taken
@@ -86,12 +49,6 @@ loop-again c = let a = c .before .before .before .before .before .before .before
     let e : t + 1 - (a .k - a .r) ≡ suc (t - (a .k - a .r)) = omega arith in
     let f : a .k - a .r + (t - (a .k - a .r)) ≡ t = omega arith in
     (search needs, search needs, rw (e, f) (cc))
-
-add-get-4 : tie.Need-add-get-4 Inv-loop μ-loop
-add-get-4 c = search needs
-
-sub-get-4 : tie.Need-sub-get-4 Inv-loop μ-loop
-sub-get-4 c = search needs
 
 get-requires-5 : tie.Need-get-requires-5 Inv-loop μ-loop
 get-requires-5 c κs = let a = c .before .before .before .before .before .before .before .args in
@@ -113,29 +70,7 @@ returns-3 c = let a = c .before .before .before .before .before .before .before 
 pub factor-entry-spec : {M : Type 1} → statement M
 factor-entry-spec =
     tie.close
-    (tie.spec
-    Inv-loop
-    μ-loop
-    add-if1
-    returns
-    add-w
-    get-requires
-    first-requires
-    loop-holds
-    get-requires-2
-    add-get
-    sub-get
-    add-get-2
-    sub-get-2
-    get-requires-3
-    add-get-3
-    sub-get-3
-    get-requires-4
-    add-t
-    loop-less
-    loop-again
-    add-get-4
-    sub-get-4
-    get-requires-5
-    returns-2
-    returns-3)
+    (tie.spec Inv-loop μ-loop add-if1 returns (λ c. search needs) get-requires (λ c κs. search needs) loop-holds
+    (λ c κs. search needs) (λ c. search needs) (λ c. search needs) (λ c. search needs) (λ c. search needs)
+    get-requires-3 (λ c. search needs) (λ c. search needs) get-requires-4 (λ c. search needs) (λ c. search needs)
+    loop-again (λ c. search needs) (λ c. search needs) get-requires-5 returns-2 returns-3)

@@ -13,20 +13,6 @@ use Rattle.certificate.proofs.Laws.{room, dual-part, squares-part, cert
 use borrow.Author.Needs.{needs}
 use Rattle.certificate.proofs.certify_l1.Statement.{statement}
 use Rattle.certificate.proofs.certify_l1.Tie as tie
-use Rattle.certificate.proofs.certify_l1.Reads as reads
-use Rattle.certificate.proofs.certify_l1.Lts as lts
-use Rattle.certificate.proofs.add_up.Reads as add-up-reads
-use Rattle.certificate.proofs.dual_of.Reads as dual-of-reads
-use Rattle.certificate.proofs.trend_into.Reads as trend-into-reads
-
-sub-e : tie.Need-sub-e
-sub-e c = search needs
-
-add-e : tie.Need-add-e
-add-e c = search needs
-
-trend-into-requires : tie.Need-trend-into-requires
-trend-into-requires c κs = search needs
 
 add-up-requires : tie.Need-add-up-requires
 add-up-requires c κs = let start = c .before .before .before .before .before .before .before .before in
@@ -35,18 +21,6 @@ add-up-requires c κs = let start = c .before .before .before .before .before .b
     let size = c .before .before .before .trend-into .ensures .kept .size in
     let r : length y - k ≤ length (start .args .dy .now) = room (start .args .dy .now) (diffK k y) (length y - k) (start .pre .1 .1 .1 .1) (length-diffK k y) in
     (search needs, (search needs, (search needs, (omega (arith, size), r))))
-
-mul-dual-of : tie.Need-mul-dual-of
-mul-dual-of c = search needs
-
-sub-dual-of : tie.Need-sub-dual-of
-sub-dual-of c = search needs
-
-part-dual-of-start : tie.Need-part-dual-of-start
-part-dual-of-start c = search needs
-
-part-dual-of-end : tie.Need-part-dual-of-end
-part-dual-of-end c = search needs
 
 dual-of-requires : tie.Need-dual-of-requires
 dual-of-requires c κs = let start = c .before .before .before .before .before .before .before .before .before .before .before .before in
@@ -72,9 +46,6 @@ dual-of-requires c κs = let start = c .before .before .before .before .before .
       ),
     )
 
-same-length : tie.Need-same-length
-same-length c = search needs
-
 returns : tie.Need-returns
 returns c = let start = c .before .before .before .before .before .before .before .before .before .before .before .before .before in
     let y = start .args .y .now in
@@ -90,15 +61,5 @@ returns c = let start = c .before .before .before .before .before .before .befor
 pub certify-l1-spec : {M : Type 1} → statement M
 certify-l1-spec =
     tie.close
-    (tie.spec
-    sub-e
-    add-e
-    trend-into-requires
-    add-up-requires
-    mul-dual-of
-    sub-dual-of
-    part-dual-of-start
-    part-dual-of-end
-    dual-of-requires
-    same-length
-    returns)
+    (tie.spec (λ c. search needs) (λ c. search needs) (λ c κs. search needs) add-up-requires (λ c. search needs)
+    (λ c. search needs) (λ c. search needs) (λ c. search needs) dual-of-requires (λ c. search needs) returns)

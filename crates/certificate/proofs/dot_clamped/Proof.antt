@@ -12,9 +12,6 @@ use Rattle.certificate.proofs.Laws.{length-clamped, at-clamped}
 use borrow.Author.Needs.{needs}
 use Rattle.certificate.proofs.dot_clamped.Statement.{statement}
 use Rattle.certificate.proofs.dot_clamped.Tie as tie
-use Rattle.certificate.proofs.dot_clamped.Reads as reads
-use Rattle.certificate.proofs.dot_clamped.Lts as lts
-use Rattle.float64.proofs.clamp.Reads as clamp-reads
 
 abbrev Inv-loop : tie.InvT-loop
 Inv-loop z dy lam a₀ i₀ a i = (i ≤ length z) × (a ≡ sumTo (λ j. at (clamped lam z) j ⊗ at dy j) i)
@@ -25,27 +22,6 @@ abbrev μ-loop : tie.MeasureT-loop
 loop-holds : tie.Need-loop-holds Inv-loop μ-loop
 unfolding sumTo
 loop-holds c = (search needs, refl)
-
-mul-clamp : tie.Need-mul-clamp Inv-loop μ-loop
-mul-clamp c = search needs
-
-shared-slice-read-clamp : tie.Need-shared-slice-read-clamp Inv-loop μ-loop
-shared-slice-read-clamp c = search needs
-
-clamp-requires : tie.Need-clamp-requires Inv-loop μ-loop
-clamp-requires c κs = search needs
-
-mul-a : tie.Need-mul-a Inv-loop μ-loop
-mul-a c = search needs
-
-shared-slice-read-a : tie.Need-shared-slice-read-a Inv-loop μ-loop
-shared-slice-read-a c = search needs
-
-add-i : tie.Need-add-i Inv-loop μ-loop
-add-i c = search needs
-
-loop-less : tie.Need-loop-less Inv-loop μ-loop
-loop-less c = search needs
 
 loop-again : tie.Need-loop-again Inv-loop μ-loop
 loop-again c = let l = c .before .before .before .before .loop in
@@ -63,16 +39,5 @@ returns c = let l = c .before .loop in
 pub dot-clamped-spec : {M : Type 1} → statement M
 dot-clamped-spec =
     tie.close
-    (tie.spec
-    Inv-loop
-    μ-loop
-    loop-holds
-    mul-clamp
-    shared-slice-read-clamp
-    clamp-requires
-    mul-a
-    shared-slice-read-a
-    add-i
-    loop-less
-    loop-again
-    returns)
+    (tie.spec Inv-loop μ-loop loop-holds (λ c. search needs) (λ c. search needs) (λ c κs. search needs)
+    (λ c. search needs) (λ c. search needs) (λ c. search needs) (λ c. search needs) loop-again returns)

@@ -10,29 +10,14 @@ use Rattle.certificate.proofs.Laws.{edge-in, edge-past, fall-edges}
 use borrow.Author.Needs.{needs}
 use Rattle.certificate.proofs.fall_before.Statement.{statement}
 use Rattle.certificate.proofs.fall_before.Tie as tie
-use Rattle.certificate.proofs.fall_before.Reads as reads
-use Rattle.certificate.proofs.fall_before.Lts as lts
-use Rattle.certificate.proofs.clamped_before.Reads as clamped-before-reads
 
 returns : tie.Need-returns
 returns c = rw (c .if1 .taken)
-
-add-if2 : tie.Need-add-if2
-add-if2 c = search needs
 
 returns-2 : tie.Need-returns-2
 returns-2 c = let a = c .before .before .before .args in
     let m = length (a .z .now) in
     sym (edge-past (m + 1) (fall m (at (clamped (a .lam) (a .z .now)))) (a .j) (omega arith))
-
-sub-clamped-before : tie.Need-sub-clamped-before
-sub-clamped-before c = search needs
-
-clamped-before-requires : tie.Need-clamped-before-requires
-clamped-before-requires c κs = search needs
-
-clamped-before-requires-2 : tie.Need-clamped-before-requires-2
-clamped-before-requires-2 c κs = search needs
 
 returns-3 : tie.Need-returns-3
 returns-3 c = let a = c .before .before .before .before .before .args in
@@ -45,11 +30,5 @@ returns-3 c = let a = c .before .before .before .before .before .args in
 pub fall-before-spec : {M : Type 1} → statement M
 fall-before-spec =
     tie.close
-    (tie.spec
-    returns
-    add-if2
-    returns-2
-    sub-clamped-before
-    clamped-before-requires
-    clamped-before-requires-2
-    returns-3)
+    (tie.spec returns (λ c. search needs) returns-2 (λ c. search needs) (λ c κs. search needs)
+    (λ c κs. search needs) returns-3)

@@ -10,8 +10,6 @@ use Rattle.certificate.proofs.Laws.{length-minus, at-minus}
 use borrow.Author.Needs.{needs}
 use Rattle.certificate.proofs.minus_into.Statement.{statement}
 use Rattle.certificate.proofs.minus_into.Tie as tie
-use Rattle.certificate.proofs.minus_into.Reads as reads
-use Rattle.certificate.proofs.minus_into.Lts as lts
 
 abbrev Inv-loop : tie.InvT-loop
 Inv-loop c₀ y x i₀ c i = (i ≤ length y) × Written 0 i (λ j. at y j ⊖ at x j) c₀ c
@@ -22,37 +20,10 @@ abbrev μ-loop : tie.MeasureT-loop
 loop-holds : tie.Need-loop-holds Inv-loop μ-loop
 loop-holds c = (search needs, none)
 
-mul-c : tie.Need-mul-c Inv-loop μ-loop
-mul-c c = search needs
-
-shared-slice-read-c : tie.Need-shared-slice-read-c Inv-loop μ-loop
-shared-slice-read-c c = search needs
-
-mul-c-2 : tie.Need-mul-c-2 Inv-loop μ-loop
-mul-c-2 c = search needs
-
-shared-slice-read-c-2 : tie.Need-shared-slice-read-c-2 Inv-loop μ-loop
-shared-slice-read-c-2 c = search needs
-
-mul-c-3 : tie.Need-mul-c-3 Inv-loop μ-loop
-mul-c-3 c = search needs
-
-slice-write-c : tie.Need-slice-write-c Inv-loop μ-loop
-slice-write-c c = search needs
-
-add-i : tie.Need-add-i Inv-loop μ-loop
-add-i c = search needs
-
-loop-less : tie.Need-loop-less Inv-loop μ-loop
-loop-less c = search needs
-
 loop-again : tie.Need-loop-again Inv-loop μ-loop
 loop-again c = let w = c .before .before .before .loop .inv .1 in
     let size = w .size in
     (search needs, up w (omega arith) (omega arith) refl)
-
-same-length : tie.Need-same-length Inv-loop μ-loop
-same-length c = search needs
 
 returns : tie.Need-returns Inv-loop μ-loop
 returns c = let a = c .before .before .args in
@@ -64,18 +35,6 @@ returns c = let a = c .before .before .args in
 pub minus-into-spec : {M : Type 1} → statement M
 minus-into-spec =
     tie.close
-    (tie.spec
-    Inv-loop
-    μ-loop
-    loop-holds
-    mul-c
-    shared-slice-read-c
-    mul-c-2
-    shared-slice-read-c-2
-    mul-c-3
-    slice-write-c
-    add-i
-    loop-less
-    loop-again
-    same-length
-    returns)
+    (tie.spec Inv-loop μ-loop loop-holds (λ c. search needs) (λ c. search needs) (λ c. search needs)
+    (λ c. search needs) (λ c. search needs) (λ c. search needs) (λ c. search needs) (λ c. search needs) loop-again
+    (λ c. search needs) returns)

@@ -14,9 +14,6 @@ use Rattle.certificate.proofs.Laws.{length-clamped}
 use borrow.Author.Needs.{needs}
 use Rattle.certificate.proofs.sum_clamped.Statement.{statement}
 use Rattle.certificate.proofs.sum_clamped.Tie as tie
-use Rattle.certificate.proofs.sum_clamped.Reads as reads
-use Rattle.certificate.proofs.sum_clamped.Lts as lts
-use Rattle.certificate.proofs.clamped_at.Reads as clamped-at-reads
 
 abbrev Inv-loop : tie.InvT-loop
 Inv-loop z lam k n a₀ j₀ a j = (j ≤ length z + k) × (a ≡ sumTo (λ i. at (diffKT k (clamped lam z)) i ⊗ at (diffKT k (clamped lam z)) i) j)
@@ -24,21 +21,9 @@ Inv-loop z lam k n a₀ j₀ a j = (j ≤ length z + k) × (a ≡ sumTo (λ i. a
 abbrev μ-loop : tie.MeasureT-loop
 μ-loop z lam k n a₀ j₀ a j = length z + k - j
 
-add-n : tie.Need-add-n Inv-loop μ-loop
-add-n c = search needs
-
 loop-holds : tie.Need-loop-holds Inv-loop μ-loop
 unfolding sumTo
 loop-holds c = (search needs, refl)
-
-clamped-at-requires : tie.Need-clamped-at-requires Inv-loop μ-loop
-clamped-at-requires c κs = search needs
-
-add-j : tie.Need-add-j Inv-loop μ-loop
-add-j c = search needs
-
-loop-less : tie.Need-loop-less Inv-loop μ-loop
-loop-less c = search needs
 
 loop-again : tie.Need-loop-again Inv-loop μ-loop
 loop-again c = let l = c .before .before .loop in
@@ -58,13 +43,5 @@ returns c = let l = c .before .loop in
 pub sum-clamped-spec : {M : Type 1} → statement M
 sum-clamped-spec =
     tie.close
-    (tie.spec
-    Inv-loop
-    μ-loop
-    add-n
-    loop-holds
-    clamped-at-requires
-    add-j
-    loop-less
-    loop-again
-    returns)
+    (tie.spec Inv-loop μ-loop (λ c. search needs) loop-holds (λ c κs. search needs) (λ c. search needs)
+    (λ c. search needs) loop-again returns)

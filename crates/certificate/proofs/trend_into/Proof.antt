@@ -18,9 +18,6 @@ use Rattle.certificate.proofs.Laws.{behind}
 use borrow.Author.Needs.{needs}
 use Rattle.certificate.proofs.trend_into.Statement.{statement}
 use Rattle.certificate.proofs.trend_into.Tie as tie
-use Rattle.certificate.proofs.trend_into.Reads as reads
-use Rattle.certificate.proofs.trend_into.Lts as lts
-use Rattle.differences.proofs.diff_t_at.Reads as diff-t-at-reads
 
 abbrev Inv-loop : tie.InvT-loop
 Inv-loop s₀ y k n e a₀ j₀ s a j = (j ≤ length y) × Written 0 j (λ i. at y i ⊖ at (diffKT k (dualOf k y s₀)) i) s₀ s
@@ -29,48 +26,9 @@ Inv-loop s₀ y k n e a₀ j₀ s a j = (j ≤ length y) × Written 0 j (λ i. a
 abbrev μ-loop : tie.MeasureT-loop
 μ-loop s₀ y k n e a₀ j₀ s a j = length y - j
 
-sub-e : tie.Need-sub-e Inv-loop μ-loop
-sub-e c = search needs
-
-add-e : tie.Need-add-e Inv-loop μ-loop
-add-e c = search needs
-
 loop-holds : tie.Need-loop-holds Inv-loop μ-loop
 unfolding sumTo
 loop-holds c = (search needs, none, refl)
-
-mul-diff-t-at : tie.Need-mul-diff-t-at Inv-loop μ-loop
-mul-diff-t-at c = search needs
-
-sub-diff-t-at : tie.Need-sub-diff-t-at Inv-loop μ-loop
-sub-diff-t-at c = search needs
-
-part-diff-t-at-start : tie.Need-part-diff-t-at-start Inv-loop μ-loop
-part-diff-t-at-start c = search needs
-
-part-diff-t-at-end : tie.Need-part-diff-t-at-end Inv-loop μ-loop
-part-diff-t-at-end c = search needs
-
-diff-t-at-requires : tie.Need-diff-t-at-requires Inv-loop μ-loop
-diff-t-at-requires c κs = search needs
-
-mul-s : tie.Need-mul-s Inv-loop μ-loop
-mul-s c = search needs
-
-shared-slice-read-s : tie.Need-shared-slice-read-s Inv-loop μ-loop
-shared-slice-read-s c = search needs
-
-mul-s-2 : tie.Need-mul-s-2 Inv-loop μ-loop
-mul-s-2 c = search needs
-
-slice-write-s : tie.Need-slice-write-s Inv-loop μ-loop
-slice-write-s c = search needs
-
-add-j : tie.Need-add-j Inv-loop μ-loop
-add-j c = search needs
-
-loop-less : tie.Need-loop-less Inv-loop μ-loop
-loop-less c = search needs
 
 loop-again : tie.Need-loop-again Inv-loop μ-loop
 loop-again c = let l = c .before .before .before .before .before .loop in
@@ -87,9 +45,6 @@ loop-again c = let l = c .before .before .before .before .before .loop in
       up w (omega arith) (omega arith) (ap (λ (x : Float). at y (l .j) ⊖ x) r),
       sum-more (λ i. at v i ⊗ at v i) (l .j) (l .a) _ (l .inv .2) (ap (λ (x : Float). x ⊗ x) r),
     )
-
-same-length : tie.Need-same-length Inv-loop μ-loop
-same-length c = search needs
 
 returns : tie.Need-returns Inv-loop μ-loop
 unfolding minus norm2Sq
@@ -112,23 +67,7 @@ returns c = let l = c .before .loop in
 pub trend-into-spec : {M : Type 1} → statement M
 trend-into-spec =
     tie.close
-    (tie.spec
-    Inv-loop
-    μ-loop
-    sub-e
-    add-e
-    loop-holds
-    mul-diff-t-at
-    sub-diff-t-at
-    part-diff-t-at-start
-    part-diff-t-at-end
-    diff-t-at-requires
-    mul-s
-    shared-slice-read-s
-    mul-s-2
-    slice-write-s
-    add-j
-    loop-less
-    loop-again
-    same-length
-    returns)
+    (tie.spec Inv-loop μ-loop (λ c. search needs) (λ c. search needs) loop-holds (λ c. search needs)
+    (λ c. search needs) (λ c. search needs) (λ c. search needs) (λ c κs. search needs) (λ c. search needs)
+    (λ c. search needs) (λ c. search needs) (λ c. search needs) (λ c. search needs) (λ c. search needs) loop-again
+    (λ c. search needs) returns)

@@ -8,10 +8,6 @@ use Rattle.vectors.proofs.Laws.{none, down}
 use Rattle.differences.specs.Diff.{fall}
 use Rattle.differences.proofs.diff_1_transpose.Statement.{statement}
 use Rattle.differences.proofs.diff_1_transpose.Tie as tie
-use Rattle.differences.proofs.diff_1_transpose.Reads as reads
-use Rattle.differences.proofs.diff_1_transpose.Lts as lts
-use Rattle.differences.proofs.before.Reads as before-reads
-use Rattle.differences.proofs.here.Reads as here-reads
 
 abbrev Inv-loop : tie.InvT-loop
 Inv-loop v₀ m j₀ v j = (j ≤ length v₀) × Written j (length v₀) (fall m (at v₀)) v₀ v
@@ -19,29 +15,8 @@ Inv-loop v₀ m j₀ v j = (j ≤ length v₀) × Written j (length v₀) (fall 
 abbrev μ-loop : tie.MeasureT-loop
 μ-loop v₀ m j₀ v j = j
 
-sub-m : tie.Need-sub-m Inv-loop μ-loop
-sub-m c = search needs
-
 loop-holds : tie.Need-loop-holds Inv-loop μ-loop
 loop-holds c = (search needs, none)
-
-sub-j : tie.Need-sub-j Inv-loop μ-loop
-sub-j c = search needs
-
-before-requires : tie.Need-before-requires Inv-loop μ-loop
-before-requires c κs = search needs
-
-here-requires : tie.Need-here-requires Inv-loop μ-loop
-here-requires c κs = search needs
-
-mul-v : tie.Need-mul-v Inv-loop μ-loop
-mul-v c = search needs
-
-slice-write-v : tie.Need-slice-write-v Inv-loop μ-loop
-slice-write-v c = search needs
-
-loop-less : tie.Need-loop-less Inv-loop μ-loop
-loop-less c = search needs
 
 loop-again : tie.Need-loop-again Inv-loop μ-loop
 loop-again c = let at-loop = c .before .before .before .before .before in
@@ -52,9 +27,6 @@ loop-again c = let at-loop = c .before .before .before .before .before in
           (simp (c .before .before .before2 .ensures, c .here .ensures, w .below (j - 1) (omega arith), w .below j (omega arith))),
     )
 
-same-length : tie.Need-same-length Inv-loop μ-loop
-same-length c = search needs
-
 returns : tie.Need-returns Inv-loop μ-loop
 returns c = let e : c .before .loop .j ≡ 0 = omega arith in
     rw e at (c .before .loop .inv .1)
@@ -62,17 +34,6 @@ returns c = let e : c .before .loop .j ≡ 0 = omega arith in
 pub diff-1-transpose-spec : {M : Type 1} → statement M
 diff-1-transpose-spec =
     tie.close
-    (tie.spec
-    Inv-loop
-    μ-loop
-    sub-m
-    loop-holds
-    sub-j
-    before-requires
-    here-requires
-    mul-v
-    slice-write-v
-    loop-less
-    loop-again
-    same-length
-    returns)
+    (tie.spec Inv-loop μ-loop (λ c. search needs) loop-holds (λ c. search needs) (λ c κs. search needs)
+    (λ c κs. search needs) (λ c. search needs) (λ c. search needs) (λ c. search needs) loop-again
+    (λ c. search needs) returns)

@@ -9,9 +9,6 @@ use Rattle.differences.proofs.Laws.{length-diffK}
 use borrow.Author.Needs.{needs}
 use Rattle.differences.proofs.diff_into.Statement.{statement}
 use Rattle.differences.proofs.diff_into.Tie as tie
-use Rattle.differences.proofs.diff_into.Reads as reads
-use Rattle.differences.proofs.diff_into.Lts as lts
-use Rattle.differences.proofs.diff_at.Reads as diff-at-reads
 
 abbrev Inv-loop : tie.InvT-loop
 Inv-loop d₀ y k m i₀ d i = (i ≤ m) × Written 0 i (at (diffK k y)) d₀ d
@@ -19,35 +16,14 @@ Inv-loop d₀ y k m i₀ d i = (i ≤ m) × Written 0 i (at (diffK k y)) d₀ d
 abbrev μ-loop : tie.MeasureT-loop
 μ-loop d₀ y k m i₀ d i = m - i
 
-sub-m : tie.Need-sub-m Inv-loop μ-loop
-sub-m c = search needs
-
 loop-holds : tie.Need-loop-holds Inv-loop μ-loop
 loop-holds c = (search needs, none)
-
-diff-at-requires : tie.Need-diff-at-requires Inv-loop μ-loop
-diff-at-requires c κs = search needs
-
-mul-d : tie.Need-mul-d Inv-loop μ-loop
-mul-d c = search needs
-
-slice-write-d : tie.Need-slice-write-d Inv-loop μ-loop
-slice-write-d c = search needs
-
-add-i : tie.Need-add-i Inv-loop μ-loop
-add-i c = search needs
-
-loop-less : tie.Need-loop-less Inv-loop μ-loop
-loop-less c = search needs
 
 loop-again : tie.Need-loop-again Inv-loop μ-loop
 loop-again c = let l = c .before .before .loop in
     let w = l .inv .1 in
     let size = w .size in
     (search needs, up w (omega arith) (omega arith) (c .diff-at .ensures))
-
-same-length : tie.Need-same-length Inv-loop μ-loop
-same-length c = search needs
 
 returns : tie.Need-returns Inv-loop μ-loop
 returns c = let a = c .before .before .before .before .args in
@@ -60,16 +36,5 @@ returns c = let a = c .before .before .before .before .args in
 pub diff-into-spec : {M : Type 1} → statement M
 diff-into-spec =
     tie.close
-    (tie.spec
-    Inv-loop
-    μ-loop
-    sub-m
-    loop-holds
-    diff-at-requires
-    mul-d
-    slice-write-d
-    add-i
-    loop-less
-    loop-again
-    same-length
-    returns)
+    (tie.spec Inv-loop μ-loop (λ c. search needs) loop-holds (λ c κs. search needs) (λ c. search needs)
+    (λ c. search needs) (λ c. search needs) (λ c. search needs) loop-again (λ c. search needs) returns)

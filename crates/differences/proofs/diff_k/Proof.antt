@@ -14,9 +14,6 @@ use Rattle.differences.specs.Diff.{rise, diff, diffK, trail}
 use Rattle.differences.proofs.Laws.{length-diffK}
 use Rattle.differences.proofs.diff_k.Statement.{statement}
 use Rattle.differences.proofs.diff_k.Tie as tie
-use Rattle.differences.proofs.diff_k.Reads as reads
-use Rattle.differences.proofs.diff_k.Lts as lts
-use Rattle.differences.proofs.diff_1.Reads as diff-1-reads
 
 -- one pass over the part leaves its differences and its last place
 pass : (part last : List Float) (m : ℕ) → Written 0 (length part - 1) (rise part) part last → length part ≡ suc m → last ≡ diff part ++ (at part m ∷ [])
@@ -38,27 +35,6 @@ loop-holds : tie.Need-loop-holds Inv-loop μ-loop
 unfolding diffK trail
 loop-holds c = (search needs, search needs, sym (append-nil (c .before .args .v .now)))
 
-sub-e : tie.Need-sub-e Inv-loop μ-loop
-sub-e c = search needs
-
-sub-diff-1 : tie.Need-sub-diff-1 Inv-loop μ-loop
-sub-diff-1 c = search needs
-
-part-diff-1-start : tie.Need-part-diff-1-start Inv-loop μ-loop
-part-diff-1-start c = search needs
-
-part-diff-1-end : tie.Need-part-diff-1-end Inv-loop μ-loop
-part-diff-1-end c = search needs
-
-diff-1-requires : tie.Need-diff-1-requires Inv-loop μ-loop
-diff-1-requires c κs = search needs
-
-add-j : tie.Need-add-j Inv-loop μ-loop
-add-j c = search needs
-
-loop-less : tie.Need-loop-less Inv-loop μ-loop
-loop-less c = search needs
-
 loop-again : tie.Need-loop-again Inv-loop μ-loop
 unfolding diffK trail
 loop-again c = let call = c .before .before in
@@ -74,9 +50,6 @@ loop-again c = let call = c .before .before in
     let p : last ≡ diff (diffK j v₀) ++ (at (diffK j v₀) (n - suc j) ∷ []) = pass (diffK j v₀) last (n - suc j) (rw d at (call .diff-1 .ensures)) (omega arith) in
     (search needs, same-len-mid 0 (n - j - 0) v last (call .diff-1 .kept .0) ∙ at-loop .loop .inv .1, rw (add-one j, p, t) (append-assoc (diff (diffK j v₀)) (at (diffK j v₀) (n - suc j) ∷ []) (trail j v₀)))
 
-same-length : tie.Need-same-length Inv-loop μ-loop
-same-length c = search needs
-
 returns : tie.Need-returns Inv-loop μ-loop
 returns c = let e : c .before .loop .j ≡ c .before .before .before .args .k = omega arith in
     rw e at (c .before .loop .inv .2)
@@ -84,17 +57,6 @@ returns c = let e : c .before .loop .j ≡ c .before .before .before .args .k = 
 pub diff-k-spec : {M : Type 1} → statement M
 diff-k-spec =
     tie.close
-    (tie.spec
-    Inv-loop
-    μ-loop
-    loop-holds
-    sub-e
-    sub-diff-1
-    part-diff-1-start
-    part-diff-1-end
-    diff-1-requires
-    add-j
-    loop-less
-    loop-again
-    same-length
-    returns)
+    (tie.spec Inv-loop μ-loop loop-holds (λ c. search needs) (λ c. search needs) (λ c. search needs)
+    (λ c. search needs) (λ c κs. search needs) (λ c. search needs) (λ c. search needs) loop-again
+    (λ c. search needs) returns)

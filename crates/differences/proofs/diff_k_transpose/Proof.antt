@@ -16,9 +16,6 @@ use Rattle.vectors.proofs.Laws.{front, list-ext, cond-cong}
 use Rattle.differences.specs.Diff.{before, here, fall, diffT, diffKT}
 use Rattle.differences.proofs.diff_k_transpose.Statement.{statement}
 use Rattle.differences.proofs.diff_k_transpose.Tie as tie
-use Rattle.differences.proofs.diff_k_transpose.Reads as reads
-use Rattle.differences.proofs.diff_k_transpose.Lts as lts
-use Rattle.differences.proofs.diff_1_transpose.Reads as diff-1-transpose-reads
 
 -- only the first m places are read
 fall-take : (m : ℕ) (v : List Float) (j : ℕ) → j < m + 1 → fall m (at v) j ≡ fall m (at (take m v)) j
@@ -44,36 +41,9 @@ Inv-loop v₀ k m j₀ v j = (j ≤ k) × (length v ≡ length v₀) × (take (m
 abbrev μ-loop : tie.MeasureT-loop
 μ-loop v₀ k m j₀ v j = k - j
 
-sub-m : tie.Need-sub-m Inv-loop μ-loop
-sub-m c = search needs
-
 loop-holds : tie.Need-loop-holds Inv-loop μ-loop
 unfolding diffKT
 loop-holds c = (search needs, search needs, rw add-zero)
-
-add-e : tie.Need-add-e Inv-loop μ-loop
-add-e c = search needs
-
-add-e-2 : tie.Need-add-e-2 Inv-loop μ-loop
-add-e-2 c = search needs
-
-sub-diff-1-transpose : tie.Need-sub-diff-1-transpose Inv-loop μ-loop
-sub-diff-1-transpose c = search needs
-
-part-diff-1-transpose-start : tie.Need-part-diff-1-transpose-start Inv-loop μ-loop
-part-diff-1-transpose-start c = search needs
-
-part-diff-1-transpose-end : tie.Need-part-diff-1-transpose-end Inv-loop μ-loop
-part-diff-1-transpose-end c = search needs
-
-diff-1-transpose-requires : tie.Need-diff-1-transpose-requires Inv-loop μ-loop
-diff-1-transpose-requires c κs = search needs
-
-add-j : tie.Need-add-j Inv-loop μ-loop
-add-j c = search needs
-
-loop-less : tie.Need-loop-less Inv-loop μ-loop
-loop-less c = search needs
 
 loop-again : tie.Need-loop-again Inv-loop μ-loop
 unfolding diffKT
@@ -95,9 +65,6 @@ loop-again c = let call = c .before .before in
       take-at last (postOf 0 (m + j + 1 - 0) v) (m + (j + 1)) (omega arith) ∙ now-held ∙ rw (held, add-one j),
     )
 
-same-length : tie.Need-same-length Inv-loop μ-loop
-same-length c = search needs
-
 returns : tie.Need-returns Inv-loop μ-loop
 returns c = let at-loop = c .before in
     let args = at-loop .before .before .args in
@@ -109,19 +76,6 @@ returns c = let at-loop = c .before in
 pub diff-k-transpose-spec : {M : Type 1} → statement M
 diff-k-transpose-spec =
     tie.close
-    (tie.spec
-    Inv-loop
-    μ-loop
-    sub-m
-    loop-holds
-    add-e
-    add-e-2
-    sub-diff-1-transpose
-    part-diff-1-transpose-start
-    part-diff-1-transpose-end
-    diff-1-transpose-requires
-    add-j
-    loop-less
-    loop-again
-    same-length
-    returns)
+    (tie.spec Inv-loop μ-loop (λ c. search needs) loop-holds (λ c. search needs) (λ c. search needs)
+    (λ c. search needs) (λ c. search needs) (λ c. search needs) (λ c κs. search needs) (λ c. search needs)
+    (λ c. search needs) loop-again (λ c. search needs) returns)

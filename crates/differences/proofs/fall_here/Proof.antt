@@ -8,12 +8,6 @@ use lib.ListN.{length}
 use borrow.Author.Needs.{needs}
 use Rattle.differences.proofs.fall_here.Statement.{statement}
 use Rattle.differences.proofs.fall_here.Tie as tie
-use Rattle.differences.proofs.fall_here.Reads as reads
-use Rattle.differences.proofs.fall_here.Lts as lts
-use Rattle.differences.proofs.fall_at.Reads as fall-at-reads
-
-fall-at-requires : tie.Need-fall-at-requires
-fall-at-requires c κs = search needs
 
 returns : tie.Need-returns
 returns c = let a = c .before .before .before .args in
@@ -26,4 +20,4 @@ returns-2 c = let a = c .before .before .args in
     simp t
 
 pub fall-here-spec : {M : Type 1} → statement M
-fall-here-spec = tie.close (tie.spec fall-at-requires returns returns-2)
+fall-here-spec = tie.close (tie.spec (λ c κs. search needs) returns returns-2)

@@ -17,18 +17,6 @@ abbrev μ-loop : tie.MeasureT-loop
 again : (t m s : ℕ) → m ≡ t * 2 ^ s → m * 2 ≡ t * 2 ^ (s + 1)
 again t m s e = rw (add-one s, pow-suc 2 s) (omega arith)
 
-loop-holds : tie.Need-loop-holds Inv-loop μ-loop
-loop-holds c = omega arith
-
-mul-m : tie.Need-mul-m Inv-loop μ-loop
-mul-m c = omega arith
-
-add-s : tie.Need-add-s Inv-loop μ-loop
-add-s c = omega arith
-
-loop-less : tie.Need-loop-less Inv-loop μ-loop
-loop-less c = omega arith
-
 loop-again : tie.Need-loop-again Inv-loop μ-loop
 loop-again c =
     let l = c .before .loop in
@@ -38,9 +26,8 @@ loop-again c =
     let z : l .s + 1 < 53 = zeros-lt t (l .m * 2) (l .s + 1) 53 (c .before .before .pre .0) n b in
     (n, b, omega arith)
 
-returns : tie.Need-returns Inv-loop μ-loop
-returns c = omega arith
-
 pub places-spec : {M : Type 1} → statement M
 places-spec =
-    tie.close (tie.spec Inv-loop μ-loop loop-holds mul-m add-s loop-less loop-again returns)
+    tie.close
+    (tie.spec Inv-loop μ-loop (λ c. omega arith) (λ c. omega arith) (λ c. omega arith) (λ c. omega arith) loop-again
+    (λ c. omega arith))

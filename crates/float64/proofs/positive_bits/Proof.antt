@@ -11,27 +11,6 @@ use Rattle.float64.proofs.Joined.{small-root, large-root}
 use Rattle.float64.proofs.positive_bits.Statement.{statement}
 use Rattle.float64.proofs.positive_bits.Tie as tie
 
-places-requires : tie.Need-places-requires
-places-requires c κs = search needs
-
-shl-root-bits : tie.Need-shl-root-bits
-shl-root-bits c = search needs
-
-sub-root-bits : tie.Need-sub-root-bits
-sub-root-bits c = search needs
-
-root-bits-requires : tie.Need-root-bits-requires
-root-bits-requires c κs = search needs
-
-add-root-bits : tie.Need-add-root-bits
-add-root-bits c = search needs
-
-add-root-bits-2 : tie.Need-add-root-bits-2
-add-root-bits-2 c = search needs
-
-root-bits-requires-2 : tie.Need-root-bits-requires-2
-root-bits-requires-2 c κs = search needs
-
 returns : tie.Need-returns
 returns c =
     let b = c .before .before .before .args .b in
@@ -50,13 +29,5 @@ returns-2 c =
 pub positive-bits-spec : {M : Type 1} → statement M
 positive-bits-spec =
     tie.close
-    (tie.spec
-    places-requires
-    shl-root-bits
-    sub-root-bits
-    root-bits-requires
-    add-root-bits
-    add-root-bits-2
-    root-bits-requires-2
-    returns
-    returns-2)
+    (tie.spec (λ c κs. search needs) (λ c. search needs) (λ c. search needs) (λ c κs. search needs)
+    (λ c. search needs) (λ c. search needs) (λ c κs. search needs) returns returns-2)

@@ -10,31 +10,10 @@ use Rattle.float64.proofs.Rounded.{rounded-lt}
 use Rattle.float64.proofs.root_bits.Statement.{statement}
 use Rattle.float64.proofs.root_bits.Tie as tie
 
-sub-result : tie.Need-sub-result
-sub-result c = search needs
-
-mul-result : tie.Need-mul-result
-mul-result c = search needs
-
-rooted-requires : tie.Need-rooted-requires
-rooted-requires c κs = search needs
-
 add-result : tie.Need-add-result
 add-result c =
     let a = c .before .before .args in
     omega (arith, rounded-lt (a .m) (omega arith) (omega arith), c .rooted .ensures)
-
-sub-result-2 : tie.Need-sub-result-2
-sub-result-2 c = search needs
-
-mul-result-2 : tie.Need-mul-result-2
-mul-result-2 c = search needs
-
-mul-rooted : tie.Need-mul-rooted
-mul-rooted c = search needs
-
-rooted-requires-2 : tie.Need-rooted-requires-2
-rooted-requires-2 c κs = search needs
 
 add-result-2 : tie.Need-add-result-2
 add-result-2 c =
@@ -60,15 +39,5 @@ returns-2 c =
 pub root-bits-spec : {M : Type 1} → statement M
 root-bits-spec =
     tie.close
-    (tie.spec
-    sub-result
-    mul-result
-    rooted-requires
-    add-result
-    sub-result-2
-    mul-result-2
-    mul-rooted
-    rooted-requires-2
-    add-result-2
-    returns
-    returns-2)
+    (tie.spec (λ c. search needs) (λ c. search needs) (λ c κs. search needs) add-result (λ c. search needs)
+    (λ c. search needs) (λ c. search needs) (λ c κs. search needs) add-result-2 returns returns-2)

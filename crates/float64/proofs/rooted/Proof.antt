@@ -8,9 +8,6 @@ use Rattle.float64.proofs.Newton.{Ranges, ranges, last-up, last-stays}
 use Rattle.float64.proofs.rooted.Statement.{statement}
 use Rattle.float64.proofs.rooted.Tie as tie
 
-whole-root-requires : tie.Need-whole-root-requires
-whole-root-requires c κs = search needs
-
 module _ (c : tie.After-whole-root) where
   abbrev w : ℕ
   w = c .before .args .w
@@ -72,20 +69,5 @@ returns-2 c = let d = c .before in last-stays (w d) (s d) (is-root d) (omega ari
 pub rooted-spec : {M : Type 1} → statement M
 rooted-spec =
     tie.close
-    (tie.spec
-    whole-root-requires
-    mul-t
-    sub-t
-    mul-t-2
-    mul-q
-    div-q
-    mul-v
-    rem-v
-    mul-v-2
-    mul-root
-    add-root
-    mul-if1
-    add-if1
-    add-result
-    returns
-    returns-2)
+    (tie.spec (λ c κs. search needs) mul-t sub-t mul-t-2 mul-q div-q mul-v rem-v mul-v-2 mul-root add-root mul-if1
+    add-if1 add-result returns returns-2)

@@ -31,20 +31,11 @@ tried c = let l = c .before .loop in rw (weight c) (tried-le (c .before .before 
 loop-holds : tie.Need-loop-holds Inv-loop μ-loop
 loop-holds c = (omega arith, start (c .args .h) (omega arith))
 
-sub-j : tie.Need-sub-j Inv-loop μ-loop
-sub-j c = omega arith
-
-shl-t : tie.Need-shl-t Inv-loop μ-loop
-shl-t c = omega arith
-
 add-t : tie.Need-add-t Inv-loop μ-loop
 add-t c = omega (arith, tried c)
 
 mul-if1 : tie.Need-mul-if1 Inv-loop μ-loop
 mul-if1 c = omega (arith, mul-le-mul (tried c) (tried c))
-
-loop-less : tie.Need-loop-less Inv-loop μ-loop
-loop-less c = omega arith
 
 loop-again : tie.Need-loop-again Inv-loop μ-loop
 loop-again c =
@@ -54,9 +45,6 @@ loop-again c =
       omega arith,
       rw w (one h (l .root) (l .j - 1) (turn (c .before)) (rw w at (c .if1 .taken))),
     )
-
-loop-less-2 : tie.Need-loop-less-2 Inv-loop μ-loop
-loop-less-2 c = omega arith
 
 loop-again-2 : tie.Need-loop-again-2 Inv-loop μ-loop
 loop-again-2 c =
@@ -73,16 +61,5 @@ returns c =
 pub short-root-spec : {M : Type 1} → statement M
 short-root-spec =
     tie.close
-    (tie.spec
-    Inv-loop
-    μ-loop
-    loop-holds
-    sub-j
-    shl-t
-    add-t
-    mul-if1
-    loop-less
-    loop-again
-    loop-less-2
-    loop-again-2
-    returns)
+    (tie.spec Inv-loop μ-loop loop-holds (λ c. omega arith) (λ c. omega arith) add-t mul-if1 (λ c. omega arith)
+    loop-again (λ c. omega arith) loop-again-2 returns)

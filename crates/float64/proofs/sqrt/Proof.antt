@@ -51,9 +51,6 @@ returns-5 c =
     let s = c .before .before .before .before .before in
     fixed (s .args .x) (toBits binary64 (s .args .x)) (back s) refl (top-root (toBits binary64 (s .args .x)) (omega arith) (omega arith))
 
-positive-bits-requires : tie.Need-positive-bits-requires
-positive-bits-requires c κs = search needs
-
 float-from-bits-result : tie.Need-float-from-bits-result
 float-from-bits-result c =
     let r = c .positive-bits .result in
@@ -67,13 +64,5 @@ returns-6 c = c .positive-bits .ensures .value ∙ ap sqrtOf (sym (back (c .befo
 pub sqrt-spec : {M : Type 1} → statement M
 sqrt-spec =
     tie.close
-    (tie.spec
-    returns
-    float-to-bits-b
-    returns-2
-    returns-3
-    returns-4
-    returns-5
-    positive-bits-requires
-    float-from-bits-result
-    returns-6)
+    (tie.spec returns float-to-bits-b returns-2 returns-3 returns-4 returns-5 (λ c κs. search needs)
+    float-from-bits-result returns-6)

@@ -7,9 +7,6 @@ use Rattle.float64.proofs.Newton.{from-ge, from-lt, step-lt, too-high, 
 use Rattle.float64.proofs.whole_root.Statement.{statement}
 use Rattle.float64.proofs.whole_root.Tie as tie
 
-short-root-requires : tie.Need-short-root-requires
-short-root-requires c κs = search needs
-
 module _ (c : tie.After-short-root) where
   abbrev h : ℕ
   h = c .before .args .h
@@ -48,5 +45,4 @@ returns-2 : tie.Need-returns-2
 returns-2 c = let d = c .before in just-right (h d) (s d) (d .short-root .ensures) (d .before .pre .0) (d .before .pre .1) (c .if1 .left)
 
 pub whole-root-spec : {M : Type 1} → statement M
-whole-root-spec =
-    tie.close (tie.spec short-root-requires mul-x div-y add-y mul-if1 sub-result returns returns-2)
+whole-root-spec = tie.close (tie.spec (λ c κs. search needs) mul-x div-y add-y mul-if1 sub-result returns returns-2)

@@ -4,9 +4,6 @@ use borrow.Author.Tests.{le-ltb, lt-ltb}
 use Rattle.interior_point.proofs.going.Statement.{statement}
 use Rattle.interior_point.proofs.going.Tie as tie
 
-returns : tie.Need-returns
-returns c = search needs
-
 returns-2 : tie.Need-returns-2
 returns-2 c = rw (c .before .before .before .if1 .left, c .if2 .taken)
 
@@ -17,4 +14,4 @@ returns-4 : tie.Need-returns-4
 returns-4 c = rw (c .before .before .before .before .before .before .if1 .left, c .before .before .before .if2 .left, lt-ltb _ _ (c .before .if3 .left))
 
 pub going-spec : {M : Type 1} → statement M
-going-spec = tie.close (tie.spec returns returns-2 returns-3 returns-4)
+going-spec = tie.close (tie.spec (λ c. search needs) returns-2 returns-3 returns-4)

@@ -14,9 +14,6 @@ Inv-loop work₀ y dy lam tol max-iter k g r₀ work r = Looping k g y lam tol m
 abbrev μ-loop : tie.MeasureT-loop
 μ-loop work₀ y dy lam tol max-iter k g r₀ work r = max-iter - r .«n_iter»
 
-gram-offsets-requires : tie.Need-gram-offsets-requires Inv-loop μ-loop
-gram-offsets-requires c κs = search needs
-
 start-requires : tie.Need-start-requires Inv-loop μ-loop
 start-requires c κs = let p = c .before .before .before .before .before .pre in
     (p .0, (p .1 .0, (p .1 .1 .0, (p .1 .1 .1 .1 .0, p .1 .1 .1 .1 .1))))
@@ -27,9 +24,6 @@ loop-holds c = let a = c .before .before .before .before .before .before .before
     let st = c .before .before .start in
     loop-starts (a .k) (c .before .before .before .before .gram-offsets .result) (a .y .now) (a .lam) (a .tol) (a .max-iter) n (n - a .k) (st .last .0) (st .last .0) (st .result)
     (st .ensures .0 (c .before .before .before .before .gram-offsets .result)) (st .ensures .1 .0) (st .ensures .1 .1 .0) (st .ensures .1 .1 .1 .0)
-
-going-requires : tie.Need-going-requires Inv-loop μ-loop
-going-requires c κs = search needs
 
 iterate-requires : tie.Need-iterate-requires Inv-loop μ-loop
 iterate-requires c κs = let p = c .before .before .before .before .before .before .before .before .before .before .before .before .pre in
@@ -69,15 +63,5 @@ returns c = let a = c .before .before .before .before .before .before .before .b
 pub ipm-l1-spec : {M : Type 1} → statement M
 ipm-l1-spec =
     tie.close
-    (tie.spec
-    Inv-loop
-    μ-loop
-    gram-offsets-requires
-    start-requires
-    loop-holds
-    going-requires
-    iterate-requires
-    loop-less
-    loop-again
-    same-length
-    returns)
+    (tie.spec Inv-loop μ-loop (λ c κs. search needs) start-requires loop-holds (λ c κs. search needs)
+    iterate-requires loop-less loop-again same-length returns)

@@ -8,27 +8,9 @@ use Rattle.interior_point.proofs.Turns.{turned-lost, turned-moved}
 use Rattle.interior_point.proofs.iterate.Statement.{statement}
 use Rattle.interior_point.proofs.iterate.Tie as tie
 
-sub-next-t : tie.Need-sub-next-t
-sub-next-t c = search needs
-
-next-t-requires : tie.Need-next-t-requires
-next-t-requires c κs = search needs
-
 step-at-requires : tie.Need-step-at-requires
 step-at-requires c κs = let a = c .before .before .before .before .before .args in
     (search needs, (search needs, (search needs, (search needs, dy-long (a .k) (a .y .now) (a .dy .now) (c .before .before .before .before .before .pre .1 .1 .1 .1 .1 .0)))))
-
-enum-known-w : tie.Need-enum-known-w
-enum-known-w c = search needs
-
-enum-told : tie.Need-enum-told
-enum-told c = search needs
-
-pivot-lost-requires : tie.Need-pivot-lost-requires
-pivot-lost-requires c κs = search needs
-
-same-length : tie.Need-same-length
-same-length c = search needs
 
 returns : tie.Need-returns
 returns c = let a = c .before .before .before .before .before .before .before .before .before .before .before .args in
@@ -49,9 +31,6 @@ settled-requires : tie.Need-settled-requires
 settled-requires c κs = let p = c .before .before .before .before .before .before .before .before .before .before .before .before .before .before .before .pre in
     (p .1 .1 .1 .1 .1 .1 .0, (p .1 .1 .1 .1 .1 .1 .1 .0, p .1 .1 .1 .1 .1 .1 .1 .1 .0))
 
-same-length-2 : tie.Need-same-length-2
-same-length-2 c = search needs
-
 returns-2 : tie.Need-returns-2
 returns-2 c = let a = c .before .before .before .before .before .before .before .before .before .before .before .before .before .before .before .before .args in
     let pre = c .before .before .before .before .before .before .before .before .before .before .before .before .before .before .before .before .pre in
@@ -68,16 +47,6 @@ returns-2 c = let a = c .before .before .before .before .before .before .before 
 pub iterate-spec : {M : Type 1} → statement M
 iterate-spec =
     tie.close
-    (tie.spec
-    sub-next-t
-    next-t-requires
-    step-at-requires
-    enum-known-w
-    enum-told
-    pivot-lost-requires
-    same-length
-    returns
-    certify-at-requires
-    settled-requires
-    same-length-2
+    (tie.spec (λ c. search needs) (λ c κs. search needs) step-at-requires (λ c. search needs) (λ c. search needs)
+    (λ c κs. search needs) (λ c. search needs) returns certify-at-requires settled-requires (λ c. search needs)
     returns-2)

@@ -11,9 +11,6 @@ int-to-float-max : tie.Need-int-to-float-max
 unfolding inFloat
 int-to-float-max c = le→leb (c .before .before .args .m) (2 ^ 53) (omega arith)
 
-max-requires : tie.Need-max-requires
-max-requires c κs = search needs
-
 returns : tie.Need-returns
 unfolding nextT
 returns c = λ p. rw (c .before .before .if1 .taken) (c .max .ensures)
@@ -23,4 +20,4 @@ unfolding nextT
 returns-2 c = λ p. rw (c .if1 .left)
 
 pub next-t-spec : {M : Type 1} → statement M
-next-t-spec = tie.close (tie.spec int-to-float-max max-requires returns returns-2)
+next-t-spec = tie.close (tie.spec int-to-float-max (λ c κs. search needs) returns returns-2)

@@ -8,21 +8,9 @@ use Rattle.interior_point.proofs.Places.{rows-small, stepped-at, first-
 use Rattle.interior_point.proofs.step_at.Statement.{statement}
 use Rattle.interior_point.proofs.step_at.Tie as tie
 
-sub-m : tie.Need-sub-m
-sub-m c = search needs
-
-mul-e : tie.Need-mul-e
-mul-e c = search needs
-
-add-e : tie.Need-add-e
-add-e c = search needs
-
 mul-e-2 : tie.Need-mul-e-2
 mul-e-2 c = let h = rows-small (c .before .before .args .k) (c .before .before .args .n - c .before .before .args .k) (c .before .before .pre .1 .0) in
     omega (arith, h)
-
-mul-e-3 : tie.Need-mul-e-3
-mul-e-3 c = search needs
 
 add-e-2 : tie.Need-add-e-2
 add-e-2 c = let h = rows-small (c .before .before .args .k) (c .before .before .args .n - c .before .before .args .k) (c .before .before .pre .1 .0) in
@@ -36,33 +24,9 @@ add-e-4 : tie.Need-add-e-4
 add-e-4 c = let h = rows-small (c .before .before .args .k) (c .before .before .args .n - c .before .before .args .k) (c .before .before .pre .1 .0) in
     omega (arith, h)
 
-mul-newton-step : tie.Need-mul-newton-step
-mul-newton-step c = search needs
-
-sub-newton-step : tie.Need-sub-newton-step
-sub-newton-step c = search needs
-
-part-newton-step-start : tie.Need-part-newton-step-start
-part-newton-step-start c = search needs
-
 part-newton-step-end : tie.Need-part-newton-step-end
 part-newton-step-end c = let h = rows-small (c .before .before .args .k) (c .before .before .args .n - c .before .before .args .k) (c .before .before .pre .1 .0) in
     omega (arith, h)
-
-sub-newton-step-2 : tie.Need-sub-newton-step-2
-sub-newton-step-2 c = search needs
-
-part-newton-step-start-2 : tie.Need-part-newton-step-start-2
-part-newton-step-start-2 c = search needs
-
-part-newton-step-end-2 : tie.Need-part-newton-step-end-2
-part-newton-step-end-2 c = search needs
-
-newton-step-requires : tie.Need-newton-step-requires
-newton-step-requires c κs = search needs
-
-same-length : tie.Need-same-length
-same-length c = search needs
 
 returns : tie.Need-returns
 returns c = let a = c .before .before .before .before .before .before .before .args in
@@ -79,22 +43,6 @@ returns c = let a = c .before .before .before .before .before .before .before .a
 pub step-at-spec : {M : Type 1} → statement M
 step-at-spec =
     tie.close
-    (tie.spec
-    sub-m
-    mul-e
-    add-e
-    mul-e-2
-    mul-e-3
-    add-e-2
-    add-e-3
-    add-e-4
-    mul-newton-step
-    sub-newton-step
-    part-newton-step-start
-    part-newton-step-end
-    sub-newton-step-2
-    part-newton-step-start-2
-    part-newton-step-end-2
-    newton-step-requires
-    same-length
-    returns)
+    (tie.spec (λ c. search needs) (λ c. search needs) (λ c. search needs) mul-e-2 (λ c. search needs) add-e-2
+    add-e-3 add-e-4 (λ c. search needs) (λ c. search needs) (λ c. search needs) part-newton-step-end
+    (λ c. search needs) (λ c. search needs) (λ c. search needs) (λ c κs. search needs) (λ c. search needs) returns)

@@ -33,33 +33,6 @@ held k n lam s₀ s w =
     let e : length d ≡ n - k = length-diffK k (part 0 n s₀) ∙ ap (λ (m : ℕ). m - k) (length-part 0 n s₀) in
     store-done nan n (n - k) (λ i. lam ⊗ at d i) s₀ s w ∙ sym (ap (λ (m : ℕ). list m (λ i. lam ⊗ at d i)) e)
 
-sub-residual-squares : tie.Need-sub-residual-squares
-sub-residual-squares c = search needs
-
-part-residual-squares-start : tie.Need-part-residual-squares-start
-part-residual-squares-start c = search needs
-
-part-residual-squares-end : tie.Need-part-residual-squares-end
-part-residual-squares-end c = search needs
-
-residual-squares-requires : tie.Need-residual-squares-requires
-residual-squares-requires c κs = search needs
-
-sub-diff-squares : tie.Need-sub-diff-squares
-sub-diff-squares c = search needs
-
-part-diff-squares-start : tie.Need-part-diff-squares-start
-part-diff-squares-start c = search needs
-
-part-diff-squares-end : tie.Need-part-diff-squares-end
-part-diff-squares-end c = search needs
-
-diff-squares-requires : tie.Need-diff-squares-requires
-diff-squares-requires c κs = search needs
-
-same-length : tie.Need-same-length
-same-length c = search needs
-
 returns : tie.Need-returns
 unfolding gapL2
 returns c = let q = c .before .before .before .before .before .before .before .before .before in
@@ -75,33 +48,6 @@ returns c = let q = c .before .before .before .before .before .before .before .b
       gap = rw (not-true (lt c0 (p .lam)) (c .if1 .taken));
       kept = kept-none n n s;
     }
-
-scale-diff-requires : tie.Need-scale-diff-requires
-scale-diff-requires c κs = search needs
-
-sub-e : tie.Need-sub-e
-sub-e c = search needs
-
-add-e : tie.Need-add-e
-add-e c = search needs
-
-mul-dual-l2 : tie.Need-mul-dual-l2
-mul-dual-l2 c = search needs
-
-sub-dual-l2 : tie.Need-sub-dual-l2
-sub-dual-l2 c = search needs
-
-part-dual-l2-start : tie.Need-part-dual-l2-start
-part-dual-l2-start c = search needs
-
-part-dual-l2-end : tie.Need-part-dual-l2-end
-part-dual-l2-end c = search needs
-
-dual-l2-requires : tie.Need-dual-l2-requires
-dual-l2-requires c κs = search needs
-
-same-length-2 : tie.Need-same-length-2
-same-length-2 c = search needs
 
 returns-2 : tie.Need-returns-2
 unfolding gapL2
@@ -130,24 +76,7 @@ returns-2 c = let q = c .before .before .before .before .before .before .before 
 pub objectives-spec : {M : Type 1} → statement M
 objectives-spec =
     tie.close
-    (tie.spec
-    sub-residual-squares
-    part-residual-squares-start
-    part-residual-squares-end
-    residual-squares-requires
-    sub-diff-squares
-    part-diff-squares-start
-    part-diff-squares-end
-    diff-squares-requires
-    same-length
-    returns
-    scale-diff-requires
-    sub-e
-    add-e
-    mul-dual-l2
-    sub-dual-l2
-    part-dual-l2-start
-    part-dual-l2-end
-    dual-l2-requires
-    same-length-2
-    returns-2)
+    (tie.spec (λ c. search needs) (λ c. search needs) (λ c. search needs) (λ c κs. search needs) (λ c. search needs)
+    (λ c. search needs) (λ c. search needs) (λ c κs. search needs) (λ c. search needs) returns
+    (λ c κs. search needs) (λ c. search needs) (λ c. search needs) (λ c. search needs) (λ c. search needs)
+    (λ c. search needs) (λ c. search needs) (λ c κs. search needs) (λ c. search needs) returns-2)

@@ -12,42 +12,6 @@ use Rattle.l2.proofs.System.{l2-done}
 use Rattle.l2.proofs.solve_l2.Statement.{statement}
 use Rattle.l2.proofs.solve_l2.Tie as tie
 
-stencil-requires : tie.Need-stencil-requires
-stencil-requires c κs = search needs
-
-fill-ridge-requires : tie.Need-fill-ridge-requires
-fill-ridge-requires c κs = search needs
-
-add-b : tie.Need-add-b
-add-b c = search needs
-
-mul-b : tie.Need-mul-b
-mul-b c = search needs
-
-add-e : tie.Need-add-e
-add-e c = search needs
-
-mul-copy : tie.Need-mul-copy
-mul-copy c = search needs
-
-sub-copy : tie.Need-sub-copy
-sub-copy c = search needs
-
-part-copy-start : tie.Need-part-copy-start
-part-copy-start c = search needs
-
-part-copy-end : tie.Need-part-copy-end
-part-copy-end c = search needs
-
-copy-requires : tie.Need-copy-requires
-copy-requires c κs = search needs
-
-factor-solve-requires : tie.Need-factor-solve-requires
-factor-solve-requires c κs = search needs
-
-same-length : tie.Need-same-length
-same-length c = search needs
-
 returns : tie.Need-returns
 returns c = let q = c .before .before .before .before .before .before .before .before .before .before .before .before .before .before .before in
     let p = q .args in
@@ -68,17 +32,6 @@ returns c = let q = c .before .before .before .before .before .before .before .b
 pub solve-l2-spec : {M : Type 1} → statement M
 solve-l2-spec =
     tie.close
-    (tie.spec
-    stencil-requires
-    fill-ridge-requires
-    add-b
-    mul-b
-    add-e
-    mul-copy
-    sub-copy
-    part-copy-start
-    part-copy-end
-    copy-requires
-    factor-solve-requires
-    same-length
-    returns)
+    (tie.spec (λ c κs. search needs) (λ c κs. search needs) (λ c. search needs) (λ c. search needs)
+    (λ c. search needs) (λ c. search needs) (λ c. search needs) (λ c. search needs) (λ c. search needs)
+    (λ c κs. search needs) (λ c κs. search needs) (λ c. search needs) returns)

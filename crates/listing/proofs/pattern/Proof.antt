@@ -4,8 +4,6 @@ use Rattle.float64.proofs.Helpers.{is-nan, no-nan}
 use borrow.Author.Needs.{needs}
 use Rattle.listing.proofs.pattern.Statement.{statement}
 use Rattle.listing.proofs.pattern.Tie as tie
-use Rattle.listing.proofs.pattern.Reads as reads
-use Rattle.listing.proofs.pattern.Lts as lts
 
 -- what the listing prints for any NaN
 nan-shown : toBits binary64 nan ≡ 0x7ff8_0000_0000_0000
@@ -18,8 +16,5 @@ float-to-bits-result c = no-nan (c .before .args .x) (c .if1 .left)
 returns : tie.Need-returns
 returns c = sym (ap (toBits binary64) (is-nan (c .before .args .x) (c .if1 .taken)) ∙ nan-shown)
 
-returns-2 : tie.Need-returns-2
-returns-2 c = search needs
-
 pub pattern-spec : {M : Type 1} → statement M
-pattern-spec = tie.close (tie.spec float-to-bits-result returns returns-2)
+pattern-spec = tie.close (tie.spec float-to-bits-result returns (λ c. search needs))

@@ -7,10 +7,6 @@ use native.Mathlib.Omega.{arith}
 use borrow.Author.Needs.{needs}
 use Rattle.listing.proofs.put_decimal.Statement.{statement}
 use Rattle.listing.proofs.put_decimal.Tie as tie
-use Rattle.listing.proofs.put_decimal.Reads as reads
-use Rattle.listing.proofs.put_decimal.Lts as lts
-use Rattle.io.proofs.decimal.Reads as decimal-reads
-use Rattle.listing.proofs.put_all.Reads as put-all-reads
 
 -- pre{
 -- twenty digits hold it
@@ -19,21 +15,9 @@ few c = fewest-le 10 1 (c .before .before .before .args .n) _ 20 (lit< tt) (lit�
 
 -- }pre
 
-decimal-requires : tie.Need-decimal-requires
-decimal-requires c κs = search needs
-
-array-share-prefix-text : tie.Need-array-share-prefix-text
-array-share-prefix-text c = search needs
-
-slice-aggregate-put-all : tie.Need-slice-aggregate-put-all
-slice-aggregate-put-all c = search needs
-
 put-all-requires : tie.Need-put-all-requires
 put-all-requires c κs = let d = c .before .before in
     omega (arith, d .decimal .ensures .0 .1, few d)
-
-same-length : tie.Need-same-length
-same-length c = search needs
 
 returns : tie.Need-returns
 unfolding decimal
@@ -47,10 +31,5 @@ returns c = let p = c .before .before in
 pub put-decimal-spec : {M : Type 1} → statement M
 put-decimal-spec =
     tie.close
-    (tie.spec
-    decimal-requires
-    array-share-prefix-text
-    slice-aggregate-put-all
-    put-all-requires
-    same-length
+    (tie.spec (λ c κs. search needs) (λ c. search needs) (λ c. search needs) put-all-requires (λ c. search needs)
     returns)

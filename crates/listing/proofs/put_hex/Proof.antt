@@ -8,11 +8,6 @@ use Rattle.listing.proofs.Decimals.{fewest-le}
 use borrow.Author.Needs.{needs}
 use Rattle.listing.proofs.put_hex.Statement.{statement}
 use Rattle.listing.proofs.put_hex.Tie as tie
-use Rattle.listing.proofs.put_hex.Reads as reads
-use Rattle.listing.proofs.put_hex.Lts as lts
-use Rattle.io.proofs.hex.Reads as hex-reads
-use Rattle.listing.proofs.pattern.Reads as pattern-reads
-use Rattle.listing.proofs.put_all.Reads as put-all-reads
 
 -- pre{
 -- sixteen digits
@@ -23,24 +18,9 @@ few c =
 
 -- }pre
 
-pattern-requires : tie.Need-pattern-requires
-pattern-requires c κs = search needs
-
-hex-requires : tie.Need-hex-requires
-hex-requires c κs = search needs
-
-array-share-prefix-text : tie.Need-array-share-prefix-text
-array-share-prefix-text c = search needs
-
-slice-aggregate-put-all : tie.Need-slice-aggregate-put-all
-slice-aggregate-put-all c = search needs
-
 put-all-requires : tie.Need-put-all-requires
 put-all-requires c κs = let d = c .before .before in
     omega (arith, d .hex .ensures .0 .1, few d)
-
-same-length : tie.Need-same-length
-same-length c = search needs
 
 returns : tie.Need-returns
 unfolding hexOf
@@ -53,11 +33,5 @@ returns c = let p = c .before .before in
 pub put-hex-spec : {M : Type 1} → statement M
 put-hex-spec =
     tie.close
-    (tie.spec
-    pattern-requires
-    hex-requires
-    array-share-prefix-text
-    slice-aggregate-put-all
-    put-all-requires
-    same-length
-    returns)
+    (tie.spec (λ c κs. search needs) (λ c κs. search needs) (λ c. search needs) (λ c. search needs) put-all-requires
+    (λ c. search needs) returns)

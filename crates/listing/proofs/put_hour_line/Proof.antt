@@ -4,29 +4,6 @@ use Rattle.vectors.proofs.Texts.{wrote-then}
 use borrow.Author.Needs.{needs}
 use Rattle.listing.proofs.put_hour_line.Statement.{statement}
 use Rattle.listing.proofs.put_hour_line.Tie as tie
-use Rattle.listing.proofs.put_hour_line.Reads as reads
-use Rattle.listing.proofs.put_hour_line.Lts as lts
-use Rattle.listing.proofs.put_byte.Reads as put-byte-reads
-use Rattle.listing.proofs.put_field.Reads as put-field-reads
-use Rattle.listing.proofs.put_hex_field.Reads as put-hex-field-reads
-
-put-byte-requires : tie.Need-put-byte-requires
-put-byte-requires c κs = search needs
-
-put-field-requires : tie.Need-put-field-requires
-put-field-requires c κs = search needs
-
-put-hex-field-requires : tie.Need-put-hex-field-requires
-put-hex-field-requires c κs = search needs
-
-put-hex-field-requires-2 : tie.Need-put-hex-field-requires-2
-put-hex-field-requires-2 c κs = search needs
-
-put-byte-requires-2 : tie.Need-put-byte-requires-2
-put-byte-requires-2 c κs = search needs
-
-same-length : tie.Need-same-length
-same-length c = search needs
 
 returns : tie.Need-returns
 unfolding hourLine
@@ -42,11 +19,5 @@ returns c = let w5 = c .before .before in
 pub put-hour-line-spec : {M : Type 1} → statement M
 put-hour-line-spec =
     tie.close
-    (tie.spec
-    put-byte-requires
-    put-field-requires
-    put-hex-field-requires
-    put-hex-field-requires-2
-    put-byte-requires-2
-    same-length
-    returns)
+    (tie.spec (λ c κs. search needs) (λ c κs. search needs) (λ c κs. search needs) (λ c κs. search needs)
+    (λ c κs. search needs) (λ c. search needs) returns)

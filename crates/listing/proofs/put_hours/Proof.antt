@@ -10,9 +10,6 @@ use Rattle.listing.proofs.Lines.{hours-none, hours-more}
 use denote.Ref.{now}
 use Rattle.listing.proofs.put_hours.Statement.{statement}
 use Rattle.listing.proofs.put_hours.Tie as tie
-use Rattle.listing.proofs.put_hours.Reads as reads
-use Rattle.listing.proofs.put_hours.Lts as lts
-use Rattle.listing.proofs.put_hour_line.Reads as put-hour-line-reads
 
 abbrev Inv-loop : tie.InvT-loop
 Inv-loop out₀ at trend cycle n i₀ pos₀ out i pos = (i ≤ n) × (length out ≡ length out₀) × (pos ≤ at + 57 * i) × Wrote out₀ at (hourLines trend cycle i) out pos
@@ -22,27 +19,6 @@ abbrev μ-loop : tie.MeasureT-loop
 
 loop-holds : tie.Need-loop-holds Inv-loop μ-loop
 loop-holds c = (search needs, search needs, search needs, hours-none _ _ (now (c .before .before .before .args .trend)) (now (c .before .before .before .args .cycle)) (omega arith))
-
-mul-put-hour-line : tie.Need-mul-put-hour-line Inv-loop μ-loop
-mul-put-hour-line c = search needs
-
-shared-slice-read-put-hour-line : tie.Need-shared-slice-read-put-hour-line Inv-loop μ-loop
-shared-slice-read-put-hour-line c = search needs
-
-mul-put-hour-line-2 : tie.Need-mul-put-hour-line-2 Inv-loop μ-loop
-mul-put-hour-line-2 c = search needs
-
-shared-slice-read-put-hour-line-2 : tie.Need-shared-slice-read-put-hour-line-2 Inv-loop μ-loop
-shared-slice-read-put-hour-line-2 c = search needs
-
-put-hour-line-requires : tie.Need-put-hour-line-requires Inv-loop μ-loop
-put-hour-line-requires c κs = search needs
-
-add-i : tie.Need-add-i Inv-loop μ-loop
-add-i c = search needs
-
-loop-less : tie.Need-loop-less Inv-loop μ-loop
-loop-less c = search needs
 
 loop-again : tie.Need-loop-again Inv-loop μ-loop
 loop-again c = let p = c .before .before in
@@ -61,17 +37,6 @@ returns c = let e : c .before .loop .i ≡ c .before .before .before .before .be
 pub put-hours-spec : {M : Type 1} → statement M
 put-hours-spec =
     tie.close
-    (tie.spec
-    Inv-loop
-    μ-loop
-    loop-holds
-    mul-put-hour-line
-    shared-slice-read-put-hour-line
-    mul-put-hour-line-2
-    shared-slice-read-put-hour-line-2
-    put-hour-line-requires
-    add-i
-    loop-less
-    loop-again
-    same-length
+    (tie.spec Inv-loop μ-loop loop-holds (λ c. search needs) (λ c. search needs) (λ c. search needs)
+    (λ c. search needs) (λ c κs. search needs) (λ c. search needs) (λ c. search needs) loop-again same-length
     returns)

@@ -10,10 +10,6 @@ use Rattle.listing.proofs.Lines.{knots-none, knots-more}
 use denote.Ref.{now}
 use Rattle.listing.proofs.put_knots.Statement.{statement}
 use Rattle.listing.proofs.put_knots.Tie as tie
-use Rattle.listing.proofs.put_knots.Reads as reads
-use Rattle.listing.proofs.put_knots.Lts as lts
-use Rattle.listing.proofs.put_knot_line.Reads as put-knot-line-reads
-use Rattle.listing.proofs.wide.Reads as wide-reads
 
 abbrev Inv-loop : tie.InvT-loop
 Inv-loop out₀ at knots n i₀ pos₀ out i pos = (i ≤ n) × (length out ≡ length out₀) × (pos ≤ at + 26 * i) × Wrote out₀ at (knotLines knots i) out pos
@@ -23,24 +19,6 @@ abbrev μ-loop : tie.MeasureT-loop
 
 loop-holds : tie.Need-loop-holds Inv-loop μ-loop
 loop-holds c = (search needs, search needs, search needs, knots-none _ _ (now (c .before .before .args .knots)) (omega arith))
-
-mul-wide : tie.Need-mul-wide Inv-loop μ-loop
-mul-wide c = search needs
-
-shared-slice-read-wide : tie.Need-shared-slice-read-wide Inv-loop μ-loop
-shared-slice-read-wide c = search needs
-
-wide-requires : tie.Need-wide-requires Inv-loop μ-loop
-wide-requires c κs = search needs
-
-put-knot-line-requires : tie.Need-put-knot-line-requires Inv-loop μ-loop
-put-knot-line-requires c κs = search needs
-
-add-i : tie.Need-add-i Inv-loop μ-loop
-add-i c = search needs
-
-loop-less : tie.Need-loop-less Inv-loop μ-loop
-loop-less c = search needs
 
 loop-again : tie.Need-loop-again Inv-loop μ-loop
 loop-again c = let p = c .before .before in
@@ -58,16 +36,5 @@ returns c = let e : c .before .loop .i ≡ c .before .before .before .before .ar
 pub put-knots-spec : {M : Type 1} → statement M
 put-knots-spec =
     tie.close
-    (tie.spec
-    Inv-loop
-    μ-loop
-    loop-holds
-    mul-wide
-    shared-slice-read-wide
-    wide-requires
-    put-knot-line-requires
-    add-i
-    loop-less
-    loop-again
-    same-length
-    returns)
+    (tie.spec Inv-loop μ-loop loop-holds (λ c. search needs) (λ c. search needs) (λ c κs. search needs)
+    (λ c κs. search needs) (λ c. search needs) (λ c. search needs) loop-again same-length returns)

@@ -9,9 +9,6 @@ use Rattle.matrices.specs.Layout.{Laid}
 use borrow.Author.Needs.{needs}
 use Rattle.matrices.proofs.fill_gram.Statement.{statement}
 use Rattle.matrices.proofs.fill_gram.Tie as tie
-use Rattle.matrices.proofs.fill_gram.Reads as reads
-use Rattle.matrices.proofs.fill_gram.Lts as lts
-use Rattle.matrices.proofs.gram_row.Reads as gram-row-reads
 
 abbrev Inv-loop : tie.InvT-loop
 Inv-loop s₀ g k m r₀ s r = (r ≤ m) × Laid k r (gram k g) s₀ s
@@ -29,12 +26,6 @@ gram-row-requires c κs = let a = c .before .before .before .before .args in
     let size = l .inv .1 .kept .size in
     (omega arith, rows-fit (a .k) (l .r) (a .m) _ (omega arith) (omega arith))
 
-add-r : tie.Need-add-r Inv-loop μ-loop
-add-r c = search needs
-
-loop-less : tie.Need-loop-less Inv-loop μ-loop
-loop-less c = search needs
-
 loop-again : tie.Need-loop-again Inv-loop μ-loop
 loop-again c = (search needs, laid-more (c .before .before .before .before .before .loop .inv .1) (c .before .before .gram-row .ensures))
 
@@ -51,13 +42,5 @@ returns c = let a = c .before .before .before .args in
 pub fill-gram-spec : {M : Type 1} → statement M
 fill-gram-spec =
     tie.close
-    (tie.spec
-    Inv-loop
-    μ-loop
-    loop-holds
-    gram-row-requires
-    add-r
-    loop-less
-    loop-again
-    same-length
-    returns)
+    (tie.spec Inv-loop μ-loop loop-holds gram-row-requires (λ c. search needs) (λ c. search needs) loop-again
+    same-length returns)

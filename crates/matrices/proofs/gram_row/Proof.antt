@@ -10,18 +10,12 @@ use Rattle.matrices.specs.Gram.{gram}
 use borrow.Author.Needs.{needs}
 use Rattle.matrices.proofs.gram_row.Statement.{statement}
 use Rattle.matrices.proofs.gram_row.Tie as tie
-use Rattle.matrices.proofs.gram_row.Reads as reads
-use Rattle.matrices.proofs.gram_row.Lts as lts
-use Rattle.matrices.proofs.gram_at.Reads as gram-at-reads
 
 abbrev Inv-loop : tie.InvT-loop
 Inv-loop s₀ g k r p c₀ s c = (c ≤ k + 1) × Written (r * (k + 1)) (r * (k + 1) + c) (λ j. gram k g r (j - r * (k + 1))) s₀ s
 
 abbrev μ-loop : tie.MeasureT-loop
 μ-loop s₀ g k r p c₀ s c = k + 1 - c
-
-add-p : tie.Need-add-p Inv-loop μ-loop
-add-p c = search needs
 
 mul-p : tie.Need-mul-p Inv-loop μ-loop
 mul-p c = let a = c .before .args in
@@ -39,28 +33,16 @@ add-s c = let a = c .before .before .before .before .args in
     let size = c .before .before .loop .inv .1 .size in
     omega (arith, one-row (a .k) (a .r))
 
-mul-s : tie.Need-mul-s Inv-loop μ-loop
-mul-s c = search needs
-
 slice-write-s : tie.Need-slice-write-s Inv-loop μ-loop
 slice-write-s c = let a = c .before .before .before .before .args in
     let size = c .before .before .loop .inv .1 .size in
     omega (arith, one-row (a .k) (a .r))
-
-add-c : tie.Need-add-c Inv-loop μ-loop
-add-c c = search needs
-
-loop-less : tie.Need-loop-less Inv-loop μ-loop
-loop-less c = search needs
 
 loop-again : tie.Need-loop-again Inv-loop μ-loop
 loop-again c = let a = c .before .before .before .before .args in
     let l = c .before .before .loop in
     let size = l .inv .1 .size in
     (search needs, store-more (a .r * (a .k + 1)) (l .c) (gram (a .k) (a .g) (a .r)) (a .s .now) (l .s) _ (l .inv .1) (omega (arith, one-row (a .k) (a .r))) (c .gram-at .ensures))
-
-same-length : tie.Need-same-length Inv-loop μ-loop
-same-length c = search needs
 
 returns : tie.Need-returns Inv-loop μ-loop
 returns c = let e : c .before .loop .c ≡ c .before .before .before .args .k + 1 = omega arith in
@@ -69,18 +51,5 @@ returns c = let e : c .before .loop .c ≡ c .before .before .before .args .k + 
 pub gram-row-spec : {M : Type 1} → statement M
 gram-row-spec =
     tie.close
-    (tie.spec
-    Inv-loop
-    μ-loop
-    add-p
-    mul-p
-    loop-holds
-    gram-at-requires
-    add-s
-    mul-s
-    slice-write-s
-    add-c
-    loop-less
-    loop-again
-    same-length
-    returns)
+    (tie.spec Inv-loop μ-loop (λ c. search needs) mul-p loop-holds gram-at-requires add-s (λ c. search needs)
+    slice-write-s (λ c. search needs) (λ c. search needs) loop-again (λ c. search needs) returns)

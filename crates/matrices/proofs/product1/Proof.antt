@@ -4,41 +4,6 @@ use Rattle.matrices.proofs.Filling.{product-1}
 use borrow.Author.Needs.{needs}
 use Rattle.matrices.proofs.product1.Statement.{statement}
 use Rattle.matrices.proofs.product1.Tie as tie
-use Rattle.matrices.proofs.product1.Reads as reads
-use Rattle.matrices.proofs.product1.Lts as lts
-
-array-read-result : tie.Need-array-read-result
-array-read-result c = search needs
-
-sub-result : tie.Need-sub-result
-sub-result c = search needs
-
-mul-result : tie.Need-mul-result
-mul-result c = search needs
-
-shared-slice-read-result : tie.Need-shared-slice-read-result
-shared-slice-read-result c = search needs
-
-array-read-result-2 : tie.Need-array-read-result-2
-array-read-result-2 c = search needs
-
-mul-result-2 : tie.Need-mul-result-2
-mul-result-2 c = search needs
-
-shared-slice-read-result-2 : tie.Need-shared-slice-read-result-2
-shared-slice-read-result-2 c = search needs
-
-array-read-result-3 : tie.Need-array-read-result-3
-array-read-result-3 c = search needs
-
-add-result : tie.Need-add-result
-add-result c = search needs
-
-mul-result-3 : tie.Need-mul-result-3
-mul-result-3 c = search needs
-
-shared-slice-read-result-3 : tie.Need-shared-slice-read-result-3
-shared-slice-read-result-3 c = search needs
 
 returns : tie.Need-returns
 returns c = let a = c .before .before .before .args in
@@ -47,16 +12,6 @@ returns c = let a = c .before .before .before .args in
 pub product1-spec : {M : Type 1} → statement M
 product1-spec =
     tie.close
-    (tie.spec
-    array-read-result
-    sub-result
-    mul-result
-    shared-slice-read-result
-    array-read-result-2
-    mul-result-2
-    shared-slice-read-result-2
-    array-read-result-3
-    add-result
-    mul-result-3
-    shared-slice-read-result-3
-    returns)
+    (tie.spec (λ c. search needs) (λ c. search needs) (λ c. search needs) (λ c. search needs) (λ c. search needs)
+    (λ c. search needs) (λ c. search needs) (λ c. search needs) (λ c. search needs) (λ c. search needs)
+    (λ c. search needs) returns)

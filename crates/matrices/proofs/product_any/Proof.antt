@@ -9,11 +9,6 @@ use Rattle.vectors.specs.Vec.{at}
 use Rattle.matrices.specs.Gram.{more, apart, product}
 use Rattle.matrices.proofs.product_any.Statement.{statement}
 use Rattle.matrices.proofs.product_any.Tie as tie
-use Rattle.matrices.proofs.product_any.Reads as reads
-use Rattle.matrices.proofs.product_any.Lts as lts
-use Rattle.matrices.proofs.apart.Reads as apart-reads
-use Rattle.matrices.proofs.over.Reads as over-reads
-use Rattle.matrices.proofs.smaller.Reads as smaller-reads
 
 abbrev Inv-loop : tie.InvT-loop
 Inv-loop z k i g lo hi v₀ j₀ v j = (lo ≤ j) × (j ≤ hi) × (v ≡ more (ofBits binary64 0) (λ t. mul binary64 (at g (apart i (lo + t))) (at z (lo + t))) (j - lo))
@@ -21,42 +16,15 @@ Inv-loop z k i g lo hi v₀ j₀ v j = (lo ≤ j) × (j ≤ hi) × (v ≡ more (
 abbrev μ-loop : tie.MeasureT-loop
 μ-loop z k i g lo hi v₀ j₀ v j = hi - j
 
-over-requires : tie.Need-over-requires Inv-loop μ-loop
-over-requires c κs = search needs
-
-add-smaller : tie.Need-add-smaller Inv-loop μ-loop
-add-smaller c = search needs
-
-add-smaller-2 : tie.Need-add-smaller-2 Inv-loop μ-loop
-add-smaller-2 c = search needs
-
-smaller-requires : tie.Need-smaller-requires Inv-loop μ-loop
-smaller-requires c κs = search needs
-
 loop-holds : tie.Need-loop-holds Inv-loop μ-loop
 unfolding more
 loop-holds c = (search needs, omega arith, rw sub-self)
-
-apart-requires : tie.Need-apart-requires Inv-loop μ-loop
-apart-requires c κs = search needs
 
 mul-v : tie.Need-mul-v Inv-loop μ-loop
 mul-v c = omega (arith, c .apart .ensures)
 
 array-read-v : tie.Need-array-read-v Inv-loop μ-loop
 array-read-v c = omega (arith, c .apart .ensures)
-
-mul-v-2 : tie.Need-mul-v-2 Inv-loop μ-loop
-mul-v-2 c = search needs
-
-shared-slice-read-v : tie.Need-shared-slice-read-v Inv-loop μ-loop
-shared-slice-read-v c = search needs
-
-add-j : tie.Need-add-j Inv-loop μ-loop
-add-j c = search needs
-
-loop-less : tie.Need-loop-less Inv-loop μ-loop
-loop-less c = search needs
 
 loop-again : tie.Need-loop-again Inv-loop μ-loop
 unfolding more
@@ -76,20 +44,6 @@ returns c = let l = c .before in
 pub product-any-spec : {M : Type 1} → statement M
 product-any-spec =
     tie.close
-    (tie.spec
-    Inv-loop
-    μ-loop
-    over-requires
-    add-smaller
-    add-smaller-2
-    smaller-requires
-    loop-holds
-    apart-requires
-    mul-v
-    array-read-v
-    mul-v-2
-    shared-slice-read-v
-    add-j
-    loop-less
-    loop-again
-    returns)
+    (tie.spec Inv-loop μ-loop (λ c κs. search needs) (λ c. search needs) (λ c. search needs) (λ c κs. search needs)
+    loop-holds (λ c κs. search needs) mul-v array-read-v (λ c. search needs) (λ c. search needs) (λ c. search needs)
+    (λ c. search needs) loop-again returns)

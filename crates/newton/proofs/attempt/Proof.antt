@@ -12,51 +12,6 @@ use Rattle.newton.proofs.Lines.{point-range, accept-yes, accept-no}
 use Rattle.newton.proofs.attempt.Statement.{statement}
 use Rattle.newton.proofs.attempt.Tie as tie
 
-mul-c : tie.Need-mul-c
-mul-c c = search needs
-
-add-d : tie.Need-add-d
-add-d c = search needs
-
-add-e : tie.Need-add-e
-add-e c = search needs
-
-move-to-requires : tie.Need-move-to-requires
-move-to-requires c κs = search needs
-
-mul-inside : tie.Need-mul-inside
-mul-inside c = search needs
-
-sub-inside : tie.Need-sub-inside
-sub-inside c = search needs
-
-part-inside-start : tie.Need-part-inside-start
-part-inside-start c = search needs
-
-part-inside-end : tie.Need-part-inside-end
-part-inside-end c = search needs
-
-inside-requires : tie.Need-inside-requires
-inside-requires c κs = search needs
-
-mul-low-enough : tie.Need-mul-low-enough
-mul-low-enough c = search needs
-
-sub-low-enough : tie.Need-sub-low-enough
-sub-low-enough c = search needs
-
-part-low-enough-start : tie.Need-part-low-enough-start
-part-low-enough-start c = search needs
-
-part-low-enough-end : tie.Need-part-low-enough-end
-part-low-enough-end c = search needs
-
-low-enough-requires : tie.Need-low-enough-requires
-low-enough-requires c κs = search needs
-
-same-length : tie.Need-same-length
-same-length c = search needs
-
 returns : tie.Need-returns
 returns c = let a = c .before .before .before .before .before .before .before .before .before .before .before .before .before .args in
     let v = c .before .before .before .before .before .before .before .before .before .move-to .ensures in
@@ -75,9 +30,6 @@ returns c = let a = c .before .before .before .before .before .before .before .b
       ),
     )
 
-same-length-2 : tie.Need-same-length-2
-same-length-2 c = search needs
-
 returns-2 : tie.Need-returns-2
 returns-2 c = let a = c .before .before .before .before .before .before .before .before .before .before .args in
     let v = c .before .before .before .before .before .before .move-to .ensures in
@@ -89,22 +41,7 @@ returns-2 c = let a = c .before .before .before .before .before .before .before 
 pub attempt-spec : {M : Type 1} → statement M
 attempt-spec =
     tie.close
-    (tie.spec
-    mul-c
-    add-d
-    add-e
-    move-to-requires
-    mul-inside
-    sub-inside
-    part-inside-start
-    part-inside-end
-    inside-requires
-    mul-low-enough
-    sub-low-enough
-    part-low-enough-start
-    part-low-enough-end
-    low-enough-requires
-    same-length
-    returns
-    same-length-2
-    returns-2)
+    (tie.spec (λ c. search needs) (λ c. search needs) (λ c. search needs) (λ c κs. search needs) (λ c. search needs)
+    (λ c. search needs) (λ c. search needs) (λ c. search needs) (λ c κs. search needs) (λ c. search needs)
+    (λ c. search needs) (λ c. search needs) (λ c. search needs) (λ c κs. search needs) (λ c. search needs) returns
+    (λ c. search needs) returns-2)

@@ -20,66 +20,6 @@ loop-holds : tie.Need-loop-holds Inv-loop μ-loop
 unfolding capTo
 loop-holds c = (search needs, (refl, one-number))
 
-add-cap-of : tie.Need-add-cap-of Inv-loop μ-loop
-add-cap-of c = search needs
-
-mul-cap-of : tie.Need-mul-cap-of Inv-loop μ-loop
-mul-cap-of c = search needs
-
-shared-slice-read-cap-of : tie.Need-shared-slice-read-cap-of Inv-loop μ-loop
-shared-slice-read-cap-of c = search needs
-
-add-cap-of-2 : tie.Need-add-cap-of-2 Inv-loop μ-loop
-add-cap-of-2 c = search needs
-
-add-cap-of-3 : tie.Need-add-cap-of-3 Inv-loop μ-loop
-add-cap-of-3 c = search needs
-
-mul-cap-of-2 : tie.Need-mul-cap-of-2 Inv-loop μ-loop
-mul-cap-of-2 c = search needs
-
-shared-slice-read-cap-of-2 : tie.Need-shared-slice-read-cap-of-2 Inv-loop μ-loop
-shared-slice-read-cap-of-2 c = search needs
-
-cap-of-requires : tie.Need-cap-of-requires Inv-loop μ-loop
-cap-of-requires c κs = search needs
-
-add-cap-of-4 : tie.Need-add-cap-of-4 Inv-loop μ-loop
-add-cap-of-4 c = search needs
-
-add-cap-of-5 : tie.Need-add-cap-of-5 Inv-loop μ-loop
-add-cap-of-5 c = search needs
-
-mul-cap-of-3 : tie.Need-mul-cap-of-3 Inv-loop μ-loop
-mul-cap-of-3 c = search needs
-
-shared-slice-read-cap-of-3 : tie.Need-shared-slice-read-cap-of-3 Inv-loop μ-loop
-shared-slice-read-cap-of-3 c = search needs
-
-add-cap-of-6 : tie.Need-add-cap-of-6 Inv-loop μ-loop
-add-cap-of-6 c = search needs
-
-add-cap-of-7 : tie.Need-add-cap-of-7 Inv-loop μ-loop
-add-cap-of-7 c = search needs
-
-add-cap-of-8 : tie.Need-add-cap-of-8 Inv-loop μ-loop
-add-cap-of-8 c = search needs
-
-mul-cap-of-4 : tie.Need-mul-cap-of-4 Inv-loop μ-loop
-mul-cap-of-4 c = search needs
-
-shared-slice-read-cap-of-4 : tie.Need-shared-slice-read-cap-of-4 Inv-loop μ-loop
-shared-slice-read-cap-of-4 c = search needs
-
-cap-of-requires-2 : tie.Need-cap-of-requires-2 Inv-loop μ-loop
-cap-of-requires-2 c κs = search needs
-
-add-i : tie.Need-add-i Inv-loop μ-loop
-add-i c = search needs
-
-loop-less : tie.Need-loop-less Inv-loop μ-loop
-loop-less c = search needs
-
 loop-again : tie.Need-loop-again Inv-loop μ-loop
 loop-again c = let l = c .before .before .before .before .before .before .before .loop in
     let a = c .before .before .before .before .before .before .before .before .before .args in (
@@ -95,29 +35,8 @@ returns c = let l = c .before .loop in
 pub cap-spec : {M : Type 1} → statement M
 cap-spec =
     tie.close
-    (tie.spec
-    Inv-loop
-    μ-loop
-    loop-holds
-    add-cap-of
-    mul-cap-of
-    shared-slice-read-cap-of
-    add-cap-of-2
-    add-cap-of-3
-    mul-cap-of-2
-    shared-slice-read-cap-of-2
-    cap-of-requires
-    add-cap-of-4
-    add-cap-of-5
-    mul-cap-of-3
-    shared-slice-read-cap-of-3
-    add-cap-of-6
-    add-cap-of-7
-    add-cap-of-8
-    mul-cap-of-4
-    shared-slice-read-cap-of-4
-    cap-of-requires-2
-    add-i
-    loop-less
-    loop-again
-    returns)
+    (tie.spec Inv-loop μ-loop loop-holds (λ c. search needs) (λ c. search needs) (λ c. search needs)
+    (λ c. search needs) (λ c. search needs) (λ c. search needs) (λ c. search needs) (λ c κs. search needs)
+    (λ c. search needs) (λ c. search needs) (λ c. search needs) (λ c. search needs) (λ c. search needs)
+    (λ c. search needs) (λ c. search needs) (λ c. search needs) (λ c. search needs) (λ c κs. search needs)
+    (λ c. search needs) (λ c. search needs) loop-again returns)

@@ -8,18 +8,6 @@ use borrow.Author.Needs.{needs}
 use Rattle.newton.proofs.directions.Statement.{statement}
 use Rattle.newton.proofs.directions.Tie as tie
 
-fill-dmu1-requires : tie.Need-fill-dmu1-requires
-fill-dmu1-requires c κs = search needs
-
-fill-dmu2-requires : tie.Need-fill-dmu2-requires
-fill-dmu2-requires c κs = search needs
-
-cap-requires : tie.Need-cap-requires
-cap-requires c κs = search needs
-
-same-length : tie.Need-same-length
-same-length c = search needs
-
 returns : tie.Need-returns
 returns c = let a = c .before .before .before .before .before .before .before .before .before .before .before .args in
     let x = c .before .before .before .before .before .before .before .before .fill-dmu1 .ensures in
@@ -30,4 +18,5 @@ returns c = let a = c .before .before .before .before .before .before .before .b
 
 pub directions-spec : {M : Type 1} → statement M
 directions-spec =
-    tie.close (tie.spec fill-dmu1-requires fill-dmu2-requires cap-requires same-length returns)
+    tie.close
+    (tie.spec (λ c κs. search needs) (λ c κs. search needs) (λ c κs. search needs) (λ c. search needs) returns)

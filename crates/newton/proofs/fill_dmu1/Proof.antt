@@ -25,51 +25,6 @@ abbrev μ-loop : tie.MeasureT-loop
 loop-holds : tie.Need-loop-holds Inv-loop μ-loop
 loop-holds c = (search needs, rw add-zero none)
 
-mul-dmu1-at : tie.Need-mul-dmu1-at Inv-loop μ-loop
-mul-dmu1-at c = search needs
-
-slice-read-dmu1-at : tie.Need-slice-read-dmu1-at Inv-loop μ-loop
-slice-read-dmu1-at c = search needs
-
-add-dmu1-at : tie.Need-add-dmu1-at Inv-loop μ-loop
-add-dmu1-at c = search needs
-
-mul-dmu1-at-2 : tie.Need-mul-dmu1-at-2 Inv-loop μ-loop
-mul-dmu1-at-2 c = search needs
-
-slice-read-dmu1-at-2 : tie.Need-slice-read-dmu1-at-2 Inv-loop μ-loop
-slice-read-dmu1-at-2 c = search needs
-
-add-dmu1-at-2 : tie.Need-add-dmu1-at-2 Inv-loop μ-loop
-add-dmu1-at-2 c = search needs
-
-mul-dmu1-at-3 : tie.Need-mul-dmu1-at-3 Inv-loop μ-loop
-mul-dmu1-at-3 c = search needs
-
-slice-read-dmu1-at-3 : tie.Need-slice-read-dmu1-at-3 Inv-loop μ-loop
-slice-read-dmu1-at-3 c = search needs
-
-dmu1-at-requires : tie.Need-dmu1-at-requires Inv-loop μ-loop
-dmu1-at-requires c κs = search needs
-
-add-s : tie.Need-add-s Inv-loop μ-loop
-add-s c = search needs
-
-add-s-2 : tie.Need-add-s-2 Inv-loop μ-loop
-add-s-2 c = search needs
-
-mul-s : tie.Need-mul-s Inv-loop μ-loop
-mul-s c = search needs
-
-slice-write-s : tie.Need-slice-write-s Inv-loop μ-loop
-slice-write-s c = search needs
-
-add-i : tie.Need-add-i Inv-loop μ-loop
-add-i c = search needs
-
-loop-less : tie.Need-loop-less Inv-loop μ-loop
-loop-less c = search needs
-
 loop-again : tie.Need-loop-again Inv-loop μ-loop
 loop-again c = let l = c .before .before .before .before .before .loop in
     let a = c .before .before .before .before .before .before .before .args in
@@ -78,9 +33,6 @@ loop-again c = let l = c .before .before .before .before .before .loop in
       store-more (a .b + a .m) (l .i) (falling (a .b) (a .m) (a .lam) (a .u) (a .s .now)) (a .s .now) (l .s) (c .dmu1-at .result) w (omega (arith, w .size))
           (c .dmu1-at .ensures ∙ rw (w .below (l .i) (omega arith), w .below (a .m + l .i) (omega arith), w .below (a .b + l .i) (omega arith))),
     )
-
-same-length : tie.Need-same-length Inv-loop μ-loop
-same-length c = search needs
 
 returns : tie.Need-returns Inv-loop μ-loop
 returns c = let l = c .before .loop in
@@ -92,25 +44,7 @@ returns c = let l = c .before .loop in
 pub fill-dmu1-spec : {M : Type 1} → statement M
 fill-dmu1-spec =
     tie.close
-    (tie.spec
-    Inv-loop
-    μ-loop
-    loop-holds
-    mul-dmu1-at
-    slice-read-dmu1-at
-    add-dmu1-at
-    mul-dmu1-at-2
-    slice-read-dmu1-at-2
-    add-dmu1-at-2
-    mul-dmu1-at-3
-    slice-read-dmu1-at-3
-    dmu1-at-requires
-    add-s
-    add-s-2
-    mul-s
-    slice-write-s
-    add-i
-    loop-less
-    loop-again
-    same-length
-    returns)
+    (tie.spec Inv-loop μ-loop loop-holds (λ c. search needs) (λ c. search needs) (λ c. search needs)
+    (λ c. search needs) (λ c. search needs) (λ c. search needs) (λ c. search needs) (λ c. search needs)
+    (λ c κs. search needs) (λ c. search needs) (λ c. search needs) (λ c. search needs) (λ c. search needs)
+    (λ c. search needs) (λ c. search needs) loop-again (λ c. search needs) returns)

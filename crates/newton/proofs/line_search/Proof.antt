@@ -35,12 +35,6 @@ returns c = let l = c .before .before .before .before .before .before .loop in
     let e : accepted (a .k) (a .g) (a .dy .now) (a .lam) (a .u) (a .old) (point (3 * a .m) (a .m) s) (l .step) ≡ true = sym (v .1 .1 .1) ∙ c .if1 .taken in
     stops (a .k) (a .g) (a .dy .now) (a .lam) (a .u) (a .m) (a .b) (a .cap) (a .old) (a .s .now) (l .s) s (l .step) (l .last) (l .i) (l .inv) (omega arith) (omega (arith, l .inv .some)) (v .0) (v .1 .0) (accepted-inside (a .k) (a .g) (a .dy .now) (a .lam) (a .u) (a .old) (l .step) (point (3 * a .m) (a .m) s) e) e
 
-add-i : tie.Need-add-i Inv-loop μ-loop
-add-i c = search needs
-
-loop-less : tie.Need-loop-less Inv-loop μ-loop
-loop-less c = search needs
-
 loop-again : tie.Need-loop-again Inv-loop μ-loop
 loop-again c = let l = c .before .before .before .before .before .before .loop in
     let a = c .before .before .before .before .before .before .before .before .before .args in
@@ -61,15 +55,5 @@ returns-2 c = let l = c .before .loop in
 pub line-search-spec : {M : Type 1} → statement M
 line-search-spec =
     tie.close
-    (tie.spec
-    Inv-loop
-    μ-loop
-    loop-holds
-    attempt-requires
-    same-length
-    returns
-    add-i
-    loop-less
-    loop-again
-    same-length-2
-    returns-2)
+    (tie.spec Inv-loop μ-loop loop-holds attempt-requires same-length returns (λ c. search needs)
+    (λ c. search needs) loop-again same-length-2 returns-2)

@@ -4,15 +4,9 @@ use Rattle.newton.specs.Newton.{norm}
 use Rattle.newton.proofs.low_enough.Statement.{statement}
 use Rattle.newton.proofs.low_enough.Tie as tie
 
-residual-requires : tie.Need-residual-requires
-residual-requires c κs = search needs
-
-sqrt-requires : tie.Need-sqrt-requires
-sqrt-requires c κs = search needs
-
 returns : tie.Need-returns
 unfolding norm
 returns c = simp (c .sqrt .ensures, c .before .residual .ensures)
 
 pub low-enough-spec : {M : Type 1} → statement M
-low-enough-spec = tie.close (tie.spec residual-requires sqrt-requires returns)
+low-enough-spec = tie.close (tie.spec (λ c κs. search needs) (λ c κs. search needs) returns)

@@ -24,60 +24,6 @@ loop-holds : tie.Need-loop-holds Inv-loop μ-loop
 unfolding sumTo
 loop-holds c = (search needs, refl)
 
-sub-product : tie.Need-sub-product Inv-loop μ-loop
-sub-product c = search needs
-
-part-product-start : tie.Need-part-product-start Inv-loop μ-loop
-part-product-start c = search needs
-
-part-product-end : tie.Need-part-product-end Inv-loop μ-loop
-part-product-end c = search needs
-
-product-requires : tie.Need-product-requires Inv-loop μ-loop
-product-requires c κs = search needs
-
-mul-residual-of : tie.Need-mul-residual-of Inv-loop μ-loop
-mul-residual-of c = search needs
-
-shared-slice-read-residual-of : tie.Need-shared-slice-read-residual-of Inv-loop μ-loop
-shared-slice-read-residual-of c = search needs
-
-mul-residual-of-2 : tie.Need-mul-residual-of-2 Inv-loop μ-loop
-mul-residual-of-2 c = search needs
-
-shared-slice-read-residual-of-2 : tie.Need-shared-slice-read-residual-of-2 Inv-loop μ-loop
-shared-slice-read-residual-of-2 c = search needs
-
-add-residual-of : tie.Need-add-residual-of Inv-loop μ-loop
-add-residual-of c = search needs
-
-mul-residual-of-3 : tie.Need-mul-residual-of-3 Inv-loop μ-loop
-mul-residual-of-3 c = search needs
-
-shared-slice-read-residual-of-3 : tie.Need-shared-slice-read-residual-of-3 Inv-loop μ-loop
-shared-slice-read-residual-of-3 c = search needs
-
-add-residual-of-2 : tie.Need-add-residual-of-2 Inv-loop μ-loop
-add-residual-of-2 c = search needs
-
-add-residual-of-3 : tie.Need-add-residual-of-3 Inv-loop μ-loop
-add-residual-of-3 c = search needs
-
-mul-residual-of-4 : tie.Need-mul-residual-of-4 Inv-loop μ-loop
-mul-residual-of-4 c = search needs
-
-shared-slice-read-residual-of-4 : tie.Need-shared-slice-read-residual-of-4 Inv-loop μ-loop
-shared-slice-read-residual-of-4 c = search needs
-
-residual-of-requires : tie.Need-residual-of-requires Inv-loop μ-loop
-residual-of-requires c κs = search needs
-
-add-i : tie.Need-add-i Inv-loop μ-loop
-add-i c = search needs
-
-loop-less : tie.Need-loop-less Inv-loop μ-loop
-loop-less c = search needs
-
 loop-again : tie.Need-loop-again Inv-loop μ-loop
 loop-again c = let l = c .before .before .before .before .before .before .before .before .loop in
     let a = c .before .before .before .before .before .before .before .before .before .before .before .args in
@@ -99,27 +45,8 @@ returns c = let l = c .before in
 pub residual-spec : {M : Type 1} → statement M
 residual-spec =
     tie.close
-    (tie.spec
-    Inv-loop
-    μ-loop
-    loop-holds
-    sub-product
-    part-product-start
-    part-product-end
-    product-requires
-    mul-residual-of
-    shared-slice-read-residual-of
-    mul-residual-of-2
-    shared-slice-read-residual-of-2
-    add-residual-of
-    mul-residual-of-3
-    shared-slice-read-residual-of-3
-    add-residual-of-2
-    add-residual-of-3
-    mul-residual-of-4
-    shared-slice-read-residual-of-4
-    residual-of-requires
-    add-i
-    loop-less
-    loop-again
-    returns)
+    (tie.spec Inv-loop μ-loop loop-holds (λ c. search needs) (λ c. search needs) (λ c. search needs)
+    (λ c κs. search needs) (λ c. search needs) (λ c. search needs) (λ c. search needs) (λ c. search needs)
+    (λ c. search needs) (λ c. search needs) (λ c. search needs) (λ c. search needs) (λ c. search needs)
+    (λ c. search needs) (λ c. search needs) (λ c κs. search needs) (λ c. search needs) (λ c. search needs)
+    loop-again returns)

@@ -8,35 +8,11 @@ use Rattle.newton_step.proofs.Steps.{lost-step, moved-step}
 use Rattle.newton_step.proofs.newton_step.Statement.{statement}
 use Rattle.newton_step.proofs.newton_step.Tie as tie
 
-mul-a : tie.Need-mul-a
-mul-a c = search needs
-
-add-b : tie.Need-add-b
-add-b c = search needs
-
-mul-b : tie.Need-mul-b
-mul-b c = search needs
-
-add-b-2 : tie.Need-add-b-2
-add-b-2 c = search needs
-
-newton-z-requires : tie.Need-newton-z-requires
-newton-z-requires c κs = search needs
-
-same-length : tie.Need-same-length
-same-length c = search needs
-
 returns : tie.Need-returns
 returns c = let a = c .before .before .before .before .before .before .before .before .args in
     let z = c .before .before .before .before .newton-z in
     let n : z .result .good ≡ false = not-true _ (c .if1 .taken) in
     lost-step (a .k) (a .g) (a .dy .now) (a .lam) (a .u) (a .m) (a .m * (a .k + 1)) (a .s .now) (z .last .0) (z .result .good) refl (z .ensures .0) (z .ensures .1 .1) n
-
-directions-requires : tie.Need-directions-requires
-directions-requires c κs = search needs
-
-sqrt-requires : tie.Need-sqrt-requires
-sqrt-requires c κs = search needs
 
 line-search-requires : tie.Need-line-search-requires
 line-search-requires c κs = let z = c .before .before .before .before .before .before .before .before .before .before .newton-z .ensures .1 .1 .size in
@@ -48,9 +24,6 @@ take-trial-requires c κs = let z = c .before .before .before .before .before .b
     let d = c .before .before .before .before .before .before .before .before .directions .ensures .1 .1 .size in
     let l = c .before .before .before .line-search .ensures .kept .size in
     omega (arith, z, d, l, c .before .before .before .before .before .before .before .before .before .before .before .before .before .before .before .before .before .before .pre)
-
-same-length-2 : tie.Need-same-length-2
-same-length-2 c = search needs
 
 returns-2 : tie.Need-returns-2
 returns-2 c = let a = c .before .before .before .before .before .before .before .before .before .before .before .before .before .before .before .before .before .before .before .before .before .args in
@@ -67,17 +40,6 @@ returns-2 c = let a = c .before .before .before .before .before .before .before 
 pub newton-step-spec : {M : Type 1} → statement M
 newton-step-spec =
     tie.close
-    (tie.spec
-    mul-a
-    add-b
-    mul-b
-    add-b-2
-    newton-z-requires
-    same-length
-    returns
-    directions-requires
-    sqrt-requires
-    line-search-requires
-    take-trial-requires
-    same-length-2
-    returns-2)
+    (tie.spec (λ c. search needs) (λ c. search needs) (λ c. search needs) (λ c. search needs) (λ c κs. search needs)
+    (λ c. search needs) returns (λ c κs. search needs) (λ c κs. search needs) line-search-requires
+    take-trial-requires (λ c. search needs) returns-2)

@@ -12,61 +12,6 @@ use Rattle.newton.proofs.Lines.{system-diagonal}
 use Rattle.newton_system.proofs.Sweeps.{right-place}
 use Rattle.newton_system.proofs.row_at.Statement.{statement}
 use Rattle.newton_system.proofs.row_at.Tie as tie
-use Rattle.newton_system.proofs.row_at.Reads as reads
-use Rattle.newton_system.proofs.row_at.Lts as lts
-use Rattle.matrices.proofs.product.Reads as product-reads
-use Rattle.newton_system.proofs.row_of.Reads as row-of-reads
-
-sub-product : tie.Need-sub-product
-sub-product c = search needs
-
-part-product-start : tie.Need-part-product-start
-part-product-start c = search needs
-
-part-product-end : tie.Need-part-product-end
-part-product-end c = search needs
-
-product-requires : tie.Need-product-requires
-product-requires c κs = search needs
-
-mul-row-of : tie.Need-mul-row-of
-mul-row-of c = search needs
-
-shared-slice-read-row-of : tie.Need-shared-slice-read-row-of
-shared-slice-read-row-of c = search needs
-
-mul-row-of-2 : tie.Need-mul-row-of-2
-mul-row-of-2 c = search needs
-
-shared-slice-read-row-of-2 : tie.Need-shared-slice-read-row-of-2
-shared-slice-read-row-of-2 c = search needs
-
-add-row-of : tie.Need-add-row-of
-add-row-of c = search needs
-
-mul-row-of-3 : tie.Need-mul-row-of-3
-mul-row-of-3 c = search needs
-
-shared-slice-read-row-of-3 : tie.Need-shared-slice-read-row-of-3
-shared-slice-read-row-of-3 c = search needs
-
-add-row-of-2 : tie.Need-add-row-of-2
-add-row-of-2 c = search needs
-
-add-row-of-3 : tie.Need-add-row-of-3
-add-row-of-3 c = search needs
-
-mul-row-of-4 : tie.Need-mul-row-of-4
-mul-row-of-4 c = search needs
-
-shared-slice-read-row-of-4 : tie.Need-shared-slice-read-row-of-4
-shared-slice-read-row-of-4 c = search needs
-
-array-read-row-of : tie.Need-array-read-row-of
-array-read-row-of c = search needs
-
-row-of-requires : tie.Need-row-of-requires
-row-of-requires c κs = search needs
 
 returns : tie.Need-returns
 returns c = let a = c .before .before .before .before .before .before .before .before .before .args in
@@ -83,22 +28,7 @@ returns c = let a = c .before .before .before .before .before .before .before .b
 pub row-at-spec : {M : Type 1} → statement M
 row-at-spec =
     tie.close
-    (tie.spec
-    sub-product
-    part-product-start
-    part-product-end
-    product-requires
-    mul-row-of
-    shared-slice-read-row-of
-    mul-row-of-2
-    shared-slice-read-row-of-2
-    add-row-of
-    mul-row-of-3
-    shared-slice-read-row-of-3
-    add-row-of-2
-    add-row-of-3
-    mul-row-of-4
-    shared-slice-read-row-of-4
-    array-read-row-of
-    row-of-requires
-    returns)
+    (tie.spec (λ c. search needs) (λ c. search needs) (λ c. search needs) (λ c κs. search needs) (λ c. search needs)
+    (λ c. search needs) (λ c. search needs) (λ c. search needs) (λ c. search needs) (λ c. search needs)
+    (λ c. search needs) (λ c. search needs) (λ c. search needs) (λ c. search needs) (λ c. search needs)
+    (λ c. search needs) (λ c κs. search needs) returns)

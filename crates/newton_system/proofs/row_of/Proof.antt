@@ -2,8 +2,6 @@ use mathlib.Core.Path.{refl}
 use Rattle.newton.specs.Newton.{barrier, rightAt, squareAt}
 use Rattle.newton_system.proofs.row_of.Statement.{statement}
 use Rattle.newton_system.proofs.row_of.Tie as tie
-use Rattle.newton_system.proofs.row_of.Reads as reads
-use Rattle.newton_system.proofs.row_of.Lts as lts
 
 returns : tie.Need-returns
 unfolding barrier rightAt squareAt

@@ -22,43 +22,10 @@ loop-holds : tie.Need-loop-holds Inv-loop μ-loop
 unfolding freeTo
 loop-holds c = (search needs, (search needs, (refl, rw add-zero none)))
 
-add-h : tie.Need-add-h Inv-loop μ-loop
-add-h c = search needs
-
-mul-h : tie.Need-mul-h Inv-loop μ-loop
-mul-h c = search needs
-
-shared-slice-read-h : tie.Need-shared-slice-read-h Inv-loop μ-loop
-shared-slice-read-h c = search needs
-
-add-candidate-at : tie.Need-add-candidate-at Inv-loop μ-loop
-add-candidate-at c = search needs
-
-candidate-at-requires : tie.Need-candidate-at-requires Inv-loop μ-loop
-candidate-at-requires c κs = search needs
-
-add-s : tie.Need-add-s Inv-loop μ-loop
-add-s c = search needs
-
-mul-s : tie.Need-mul-s Inv-loop μ-loop
-mul-s c = search needs
-
-slice-write-s : tie.Need-slice-write-s Inv-loop μ-loop
-slice-write-s c = search needs
-
-one-if-free-requires : tie.Need-one-if-free-requires Inv-loop μ-loop
-one-if-free-requires c κs = search needs
-
 add-q : tie.Need-add-q Inv-loop μ-loop
 add-q c = let l = c .before .before .before .before .before in
     let a = l .before .before .before .args in
     omega (arith, c .one-if-free .ensures, one-le (isFree (heldBy (a .n) (a .marks .now) (l .loop .i))))
-
-add-i : tie.Need-add-i Inv-loop μ-loop
-add-i c = search needs
-
-loop-less : tie.Need-loop-less Inv-loop μ-loop
-loop-less c = search needs
 
 loop-again : tie.Need-loop-again Inv-loop μ-loop
 loop-again c = let l = c .before .before .before .before .before in
@@ -79,9 +46,6 @@ loop-again c = let l = c .before .before .before .before .before in
       ),
     )
 
-same-length : tie.Need-same-length Inv-loop μ-loop
-same-length c = search needs
-
 returns : tie.Need-returns Inv-loop μ-loop
 returns c = let l = c .before .loop in
     let e : l .i ≡ c .before .before .before .before .args .m = omega arith in
@@ -90,22 +54,6 @@ returns c = let l = c .before .loop in
 pub fill-candidate-spec : {M : Type 1} → statement M
 fill-candidate-spec =
     tie.close
-    (tie.spec
-    Inv-loop
-    μ-loop
-    loop-holds
-    add-h
-    mul-h
-    shared-slice-read-h
-    add-candidate-at
-    candidate-at-requires
-    add-s
-    mul-s
-    slice-write-s
-    one-if-free-requires
-    add-q
-    add-i
-    loop-less
-    loop-again
-    same-length
-    returns)
+    (tie.spec Inv-loop μ-loop loop-holds (λ c. search needs) (λ c. search needs) (λ c. search needs)
+    (λ c. search needs) (λ c κs. search needs) (λ c. search needs) (λ c. search needs) (λ c. search needs)
+    (λ c κs. search needs) add-q (λ c. search needs) (λ c. search needs) loop-again (λ c. search needs) returns)

@@ -17,27 +17,6 @@ use borrow.Author.Tests.{not-true, not-false}
 use Rattle.polish.proofs.make_candidate.Statement.{statement}
 use Rattle.polish.proofs.make_candidate.Tie as tie
 
-sub-m : tie.Need-sub-m
-sub-m c = search needs
-
-mul-c : tie.Need-mul-c
-mul-c c = search needs
-
-mul-e : tie.Need-mul-e
-mul-e c = search needs
-
-mul-settle : tie.Need-mul-settle
-mul-settle c = search needs
-
-sub-settle : tie.Need-sub-settle
-sub-settle c = search needs
-
-part-settle-start : tie.Need-part-settle-start
-part-settle-start c = search needs
-
-part-settle-end : tie.Need-part-settle-end
-part-settle-end c = search needs
-
 settle-requires : tie.Need-settle-requires
 settle-requires c κs = let st = c .before .before .before .before in
     let a = st .args in
@@ -45,9 +24,6 @@ settle-requires c κs = let st = c .before .before .before .before in
     let z = part-size (7 * a .n) l (a .s .now) (take l (drop (7 * a .n) (a .s .now))) (omega arith) refl in
     let r = room (a .k) (a .q) (a .n) (omega arith) (omega arith) in
     (omega arith, (omega arith, (omega arith, (omega arith, (omega arith, st .pre .1 .1 .1 .1 .1 .1)))))
-
-same-length : tie.Need-same-length
-same-length c = search needs
 
 returns : tie.Need-returns
 returns c = let cs = c .before .before .before in
@@ -60,9 +36,6 @@ returns c = let cs = c .before .before .before in
       kept-part (7 * a .n) l (6 * a .n) (a .s .now) x (omega arith) e (omega arith),
     )
 
-add-b : tie.Need-add-b
-add-b c = search needs
-
 mul-b : tie.Need-mul-b
 mul-b c = let a = c .before .before .before .before .before .before .before .before .args in
     record { fits = omega (arith, room (a .k) (a .q) (a .n) (omega arith) (omega arith)) }
@@ -71,16 +44,10 @@ add-b-2 : tie.Need-add-b-2
 add-b-2 c = let a = c .before .before .before .before .before .before .before .before .args in
     record { fits = omega (arith, room (a .k) (a .q) (a .n) (omega arith) (omega arith)) }
 
-mul-a : tie.Need-mul-a
-mul-a c = search needs
-
 fill-candidate-requires : tie.Need-fill-candidate-requires
 fill-candidate-requires c κs = let a = c .before .before .before .before .before .before .before .before .before .args in
     let r = room (a .k) (a .q) (a .n) (omega arith) (omega arith) in
     (omega arith, (omega arith, omega arith))
-
-same-length-2 : tie.Need-same-length-2
-same-length-2 c = search needs
 
 returns-2 : tie.Need-returns-2
 returns-2 c = let cc = c .before .before in
@@ -114,21 +81,6 @@ returns-2 c = let cc = c .before .before in
 pub make-candidate-spec : {M : Type 1} → statement M
 make-candidate-spec =
     tie.close
-    (tie.spec
-    sub-m
-    mul-c
-    mul-e
-    mul-settle
-    sub-settle
-    part-settle-start
-    part-settle-end
-    settle-requires
-    same-length
-    returns
-    add-b
-    mul-b
-    add-b-2
-    mul-a
-    fill-candidate-requires
-    same-length-2
-    returns-2)
+    (tie.spec (λ c. search needs) (λ c. search needs) (λ c. search needs) (λ c. search needs) (λ c. search needs)
+    (λ c. search needs) (λ c. search needs) settle-requires (λ c. search needs) returns (λ c. search needs) mul-b
+    add-b-2 (λ c. search needs) fill-candidate-requires (λ c. search needs) returns-2)

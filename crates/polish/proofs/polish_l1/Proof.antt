@@ -12,12 +12,6 @@ use borrow.Author.Tests.{not-true, not-false}
 use Rattle.polish.proofs.polish_l1.Statement.{statement}
 use Rattle.polish.proofs.polish_l1.Tie as tie
 
-sub-m : tie.Need-sub-m
-sub-m c = search needs
-
-mark-requires : tie.Need-mark-requires
-mark-requires c κs = search needs
-
 make-candidate-requires : tie.Need-make-candidate-requires
 make-candidate-requires c κs = let ck = c .before .before .before .before in
     let st = ck .before .before .before .before .before .before .before in
@@ -33,15 +27,6 @@ make-candidate-requires c κs = let ck = c .before .before .before .before in
     let size = ck .mark .ensures .1 .size in
     let i = marks-in (ck .mark .ensures .0) k (omega arith) refl in
     (st .pre .1 .0, (o, (big, (omega arith, (omega (arith, dy-long k y (a .dy .now) dy), i)))))
-
-none-requires : tie.Need-none-requires
-none-requires c κs = search needs
-
-same-length : tie.Need-same-length
-same-length c = search needs
-
-same-length-2 : tie.Need-same-length-2
-same-length-2 c = search needs
 
 returns : tie.Need-returns
 returns c = let cm = c .before .before .before .before in
@@ -60,27 +45,6 @@ returns c = let cm = c .before .before .before .before in
     ended-none k y (a .lam) (ck .mark .ensures .1) (cm .make-candidate .ensures .1) (c .none .result) (c .none .ensures)
     (polish-is k y (a .dy .now) dy (a .lam) w₀ (cm .make-candidate .ensures .0 h (ck .mark .ensures .0) ∙ rw no))
 
-mul-a : tie.Need-mul-a
-mul-a c = search needs
-
-mul-e : tie.Need-mul-e
-mul-e c = search needs
-
-add-e : tie.Need-add-e
-add-e c = search needs
-
-mul-certify-l1 : tie.Need-mul-certify-l1
-mul-certify-l1 c = search needs
-
-sub-certify-l1 : tie.Need-sub-certify-l1
-sub-certify-l1 c = search needs
-
-part-certify-l1-start : tie.Need-part-certify-l1-start
-part-certify-l1-start c = search needs
-
-part-certify-l1-end : tie.Need-part-certify-l1-end
-part-certify-l1-end c = search needs
-
 certify-l1-requires : tie.Need-certify-l1-requires
 certify-l1-requires c κs = let cm = c .before .before .before .before in
     let st = cm .before .before .before .before .before .before .before .before .before .before .before .before in
@@ -97,12 +61,6 @@ certify-l1-requires c κs = let cm = c .before .before .before .before in
     let s : length w₁ ≡ length w₀ = cm .make-candidate .ensures .1 .size in
     let z = part-size (11 * n) l w₁ (take l (drop (11 * n) w₁)) (omega arith) refl in
     (st .pre .0, (st .pre .1 .0, (o, (omega arith, dy))))
-
-same-length-3 : tie.Need-same-length-3
-same-length-3 c = search needs
-
-same-length-4 : tie.Need-same-length-4
-same-length-4 c = search needs
 
 returns-2 : tie.Need-returns-2
 returns-2 c = let cc = c .before .before .before in
@@ -130,22 +88,7 @@ returns-2 c = let cc = c .before .before .before in
 pub polish-l1-spec : {M : Type 1} → statement M
 polish-l1-spec =
     tie.close
-    (tie.spec
-    sub-m
-    mark-requires
-    make-candidate-requires
-    none-requires
-    same-length
-    same-length-2
-    returns
-    mul-a
-    mul-e
-    add-e
-    mul-certify-l1
-    sub-certify-l1
-    part-certify-l1-start
-    part-certify-l1-end
-    certify-l1-requires
-    same-length-3
-    same-length-4
-    returns-2)
+    (tie.spec (λ c. search needs) (λ c κs. search needs) make-candidate-requires (λ c κs. search needs)
+    (λ c. search needs) (λ c. search needs) returns (λ c. search needs) (λ c. search needs) (λ c. search needs)
+    (λ c. search needs) (λ c. search needs) (λ c. search needs) (λ c. search needs) certify-l1-requires
+    (λ c. search needs) (λ c. search needs) returns-2)

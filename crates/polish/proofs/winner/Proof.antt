@@ -6,36 +6,6 @@ use Prim.Native.Nat.{_*_}
 use Rattle.polish.proofs.winner.Statement.{statement}
 use Rattle.polish.proofs.winner.Tie as tie
 
-mul-a : tie.Need-mul-a
-mul-a c = search needs
-
-mul-e : tie.Need-mul-e
-mul-e c = search needs
-
-sub-either : tie.Need-sub-either
-sub-either c = search needs
-
-part-either-start : tie.Need-part-either-start
-part-either-start c = search needs
-
-part-either-end : tie.Need-part-either-end
-part-either-end c = search needs
-
-mul-either : tie.Need-mul-either
-mul-either c = search needs
-
-sub-either-2 : tie.Need-sub-either-2
-sub-either-2 c = search needs
-
-part-either-start-2 : tie.Need-part-either-start-2
-part-either-start-2 c = search needs
-
-part-either-end-2 : tie.Need-part-either-end-2
-part-either-end-2 c = search needs
-
-either-requires : tie.Need-either-requires
-either-requires c κs = search needs
-
 returns : tie.Need-returns
 returns c = let a = c .before .before .before .before .args in
     let w = a .work .now in
@@ -44,15 +14,5 @@ returns c = let a = c .before .before .before .before .args in
 pub winner-spec : {M : Type 1} → statement M
 winner-spec =
     tie.close
-    (tie.spec
-    mul-a
-    mul-e
-    sub-either
-    part-either-start
-    part-either-end
-    mul-either
-    sub-either-2
-    part-either-start-2
-    part-either-end-2
-    either-requires
-    returns)
+    (tie.spec (λ c. search needs) (λ c. search needs) (λ c. search needs) (λ c. search needs) (λ c. search needs)
+    (λ c. search needs) (λ c. search needs) (λ c. search needs) (λ c. search needs) (λ c κs. search needs) returns)

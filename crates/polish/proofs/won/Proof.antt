@@ -11,9 +11,6 @@ returns c = let q = c .before .before .args .q in
     let e : q .there ≡ false = not-true (q .there) (c .if1 .taken) in
     rw e
 
-is-finite-requires : tie.Need-is-finite-requires
-is-finite-requires c κs = search needs
-
 returns-2 : tie.Need-returns-2
 returns-2 c = let q = c .before .before .before .before .args .q in
     let e : q .there ≡ true = not-false (q .there) (c .before .before .if1 .left) in
@@ -27,4 +24,4 @@ returns-3 c = let q = c .before .before .before .before .before .args .q in
     rw (e, f)
 
 pub won-spec : {M : Type 1} → statement M
-won-spec = tie.close (tie.spec returns is-finite-requires returns-2 returns-3)
+won-spec = tie.close (tie.spec returns (λ c κs. search needs) returns-2 returns-3)

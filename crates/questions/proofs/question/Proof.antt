@@ -6,9 +6,6 @@ use borrow.Author.Needs.{needs}
 use Rattle.questions.proofs.question.Statement.{statement}
 use Rattle.questions.proofs.question.Tie as tie
 
-sizes-requires : tie.Need-sizes-requires
-sizes-requires c κs = search needs
-
 returns : tie.Need-returns
 returns c = let cs = c .before in
     let p = cs .before .before .args in
@@ -18,9 +15,6 @@ returns c = let cs = c .before in
     (cs .sizes .result)
     (cs .sizes .ensures)
     (c .if1 .taken)
-
-values-requires : tie.Need-values-requires
-values-requires c κs = search needs
 
 returns-2 : tie.Need-returns-2
 returns-2 c = let cv = c .before in
@@ -59,4 +53,5 @@ returns-3 c = let cv = c .before .before in
 
 pub question-spec : {M : Type 1} → statement M
 question-spec =
-    tie.close (tie.spec sizes-requires returns values-requires returns-2 room-requires returns-3)
+    tie.close
+    (tie.spec (λ c κs. search needs) returns (λ c κs. search needs) returns-2 room-requires returns-3)

@@ -16,15 +16,9 @@ returns-3 : tie.Need-returns-3
 unfolding room
 returns-3 c = simp (le-ltb _ _ (c .before .before .if1 .left), le-ltb _ _ (c .before .if2 .left), lt-ltb _ _ (c .if3 .taken))
 
-mul-if4 : tie.Need-mul-if4
-mul-if4 c = search needs
-
 returns-4 : tie.Need-returns-4
 unfolding room
 returns-4 c = simp (le-ltb _ _ (c .before .before .before .if1 .left), le-ltb _ _ (c .before .before .if2 .left), le-ltb _ _ (c .before .if3 .left), lt-ltb _ _ (c .if4 .taken))
-
-mul-if5 : tie.Need-mul-if5
-mul-if5 c = search needs
 
 returns-5 : tie.Need-returns-5
 unfolding room
@@ -36,4 +30,5 @@ returns-6 c = simp (le-ltb _ _ (c .before .before .before .before .if1 .left), l
 
 pub room-spec : {M : Type 1} → statement M
 room-spec =
-    tie.close (tie.spec returns returns-2 returns-3 mul-if4 returns-4 mul-if5 returns-5 returns-6)
+    tie.close
+    (tie.spec returns returns-2 returns-3 (λ c. search needs) returns-4 (λ c. search needs) returns-5 returns-6)

@@ -7,15 +7,9 @@ use borrow.Author.Needs.{needs}
 use Rattle.questions.proofs.sizes.Statement.{statement}
 use Rattle.questions.proofs.sizes.Tie as tie
 
-one-or-two-requires : tie.Need-one-or-two-requires
-one-or-two-requires c κs = search needs
-
 returns : tie.Need-returns
 unfolding sizes
 returns c = simp (sym (c .before .one-or-two .ensures) ∙ not-true _ (c .if1 .taken))
-
-one-or-two-requires-2 : tie.Need-one-or-two-requires-2
-one-or-two-requires-2 c κs = search needs
 
 returns-2 : tie.Need-returns-2
 unfolding sizes
@@ -42,11 +36,4 @@ returns-5 c =
 pub sizes-spec : {M : Type 1} → statement M
 sizes-spec =
     tie.close
-    (tie.spec
-    one-or-two-requires
-    returns
-    one-or-two-requires-2
-    returns-2
-    returns-3
-    returns-4
-    returns-5)
+    (tie.spec (λ c κs. search needs) returns (λ c κs. search needs) returns-2 returns-3 returns-4 returns-5)

@@ -5,15 +5,9 @@ use borrow.Author.Needs.{needs}
 use Rattle.questions.proofs.values.Statement.{statement}
 use Rattle.questions.proofs.values.Tie as tie
 
-all-finite-requires : tie.Need-all-finite-requires
-all-finite-requires c κs = search needs
-
 returns : tie.Need-returns
 unfolding values
 returns c = simp (sym (c .before .all-finite .ensures) ∙ not-true _ (c .if1 .taken))
-
-is-finite-requires : tie.Need-is-finite-requires
-is-finite-requires c κs = search needs
 
 returns-2 : tie.Need-returns-2
 unfolding values
@@ -22,9 +16,6 @@ returns-2 c = simp (sym (c .before .before .before .all-finite .ensures) ∙ not
 returns-3 : tie.Need-returns-3
 unfolding values
 returns-3 c = simp (sym (c .before .before .before .before .all-finite .ensures) ∙ not-false _ (c .before .before .before .if1 .left), sym (c .before .before .is-finite .ensures) ∙ not-false _ (c .before .if2 .left), c .if3 .taken)
-
-is-finite-requires-2 : tie.Need-is-finite-requires-2
-is-finite-requires-2 c κs = search needs
 
 returns-4 : tie.Need-returns-4
 unfolding values
@@ -45,14 +36,5 @@ returns-7 c = simp (sym (c .before .before .before .before .before .before .befo
 pub values-spec : {M : Type 1} → statement M
 values-spec =
     tie.close
-    (tie.spec
-    all-finite-requires
-    returns
-    is-finite-requires
-    returns-2
-    returns-3
-    is-finite-requires-2
-    returns-4
-    returns-5
-    returns-6
-    returns-7)
+    (tie.spec (λ c κs. search needs) returns (λ c κs. search needs) returns-2 returns-3 (λ c κs. search needs)
+    returns-4 returns-5 returns-6 returns-7)

@@ -4,8 +4,6 @@ use Rattle.records.proofs.Floats.{not-nan-bits, nan-bits}
 use borrow.Author.Needs.{needs}
 use Rattle.records.proofs.double.Statement.{statement}
 use Rattle.records.proofs.double.Tie as tie
-use Rattle.records.proofs.double.Reads as reads
-use Rattle.records.proofs.double.Lts as lts
 
 -- what the source's 0.0 / 0.0 is
 div-zero : div binary64 (ofBits binary64 0) (ofBits binary64 0) ≡ nan
@@ -18,8 +16,5 @@ float-from-bits-result c = not-nan-bits (c .before .args .b) (c .if1 .left)
 returns : tie.Need-returns
 returns c = div-zero ∙ sym (nan-bits (c .before .args .b) (c .if1 .taken))
 
-returns-2 : tie.Need-returns-2
-returns-2 c = search needs
-
 pub double-spec : {M : Type 1} → statement M
-double-spec = tie.close (tie.spec float-from-bits-result returns returns-2)
+double-spec = tie.close (tie.spec float-from-bits-result returns (λ c. search needs))

@@ -7,10 +7,6 @@ use Rattle.vectors.proofs.Texts.{wrote-length}
 use Rattle.records.proofs.Passing.{passed-end, passed-bad, placed, Filled, filled-none, filled-more, filled-room, hour-inside}
 use Rattle.records.proofs.fill.Statement.{statement}
 use Rattle.records.proofs.fill.Tie as tie
-use Rattle.records.proofs.fill.Reads as reads
-use Rattle.records.proofs.fill.Lts as lts
-use Rattle.records.proofs.head_at.Reads as head-at-reads
-use Rattle.records.proofs.put_hour.Reads as put-hour-reads
 
 abbrev Inv-loop : tie.InvT-loop
 Inv-loop s y₀ at₀ n₀ y at n = (at ≤ length s) × Filled s at y₀ y n
@@ -21,12 +17,6 @@ abbrev μ-loop : tie.MeasureT-loop
 loop-holds : tie.Need-loop-holds Inv-loop μ-loop
 loop-holds c = (search needs, filled-none _ _)
 
-head-at-requires : tie.Need-head-at-requires Inv-loop μ-loop
-head-at-requires c κs = search needs
-
-enum-told : tie.Need-enum-told Inv-loop μ-loop
-enum-told c = search needs
-
 same-length : tie.Need-same-length Inv-loop μ-loop
 same-length c = wrote-length (c .before .before .before .loop .inv .1 .wrote)
 
@@ -34,18 +24,12 @@ returns : tie.Need-returns Inv-loop μ-loop
 returns c = let f = c .before .before .before .loop .inv .1 in
     rw (passed-end (f .passed) (sym (c .enum-told .given .1) ∙ c .before .before .head-at .ensures)) (f .wrote)
 
-enum-told-2 : tie.Need-enum-told-2 Inv-loop μ-loop
-enum-told-2 c = search needs
-
 same-length-2 : tie.Need-same-length-2 Inv-loop μ-loop
 same-length-2 c = wrote-length (c .before .before .before .loop .inv .1 .wrote)
 
 returns-2 : tie.Need-returns-2 Inv-loop μ-loop
 returns-2 c = let b = c .before .before .before in
     absurd (b .before .before .before .pre .0 (passed-bad (b .loop .inv .1 .passed) (sym (c .enum-told2 .given .1) ∙ c .before .before .head-at .ensures)))
-
-enum-known-kind : tie.Need-enum-known-kind Inv-loop μ-loop
-enum-known-kind c = search needs
 
 put-hour-requires : tie.Need-put-hour-requires Inv-loop μ-loop
 put-hour-requires c κs = let k = c .before .before in
@@ -67,18 +51,5 @@ loop-again c = let k = c .before .before .before .before .before in
 pub fill-spec : {M : Type 1} → statement M
 fill-spec =
     tie.close
-    (tie.spec
-    Inv-loop
-    μ-loop
-    loop-holds
-    head-at-requires
-    enum-told
-    same-length
-    returns
-    enum-told-2
-    same-length-2
-    returns-2
-    enum-known-kind
-    put-hour-requires
-    loop-less
-    loop-again)
+    (tie.spec Inv-loop μ-loop loop-holds (λ c κs. search needs) (λ c. search needs) same-length returns
+    (λ c. search needs) same-length-2 returns-2 (λ c. search needs) put-hour-requires loop-less loop-again)

@@ -2,38 +2,6 @@ use Rattle.records.specs.Week.{settingsAt}
 use borrow.Author.Needs.{needs}
 use Rattle.records.proofs.first_settings.Statement.{statement}
 use Rattle.records.proofs.first_settings.Tie as tie
-use Rattle.records.proofs.first_settings.Reads as reads
-use Rattle.records.proofs.first_settings.Lts as lts
-use Rattle.records.proofs.double.Reads as double-reads
-use Rattle.records.proofs.eight.Reads as eight-reads
-use Rattle.records.proofs.number.Reads as number-reads
-
-eight-requires : tie.Need-eight-requires
-eight-requires c κs = search needs
-
-double-requires : tie.Need-double-requires
-double-requires c κs = search needs
-
-eight-requires-2 : tie.Need-eight-requires-2
-eight-requires-2 c κs = search needs
-
-double-requires-2 : tie.Need-double-requires-2
-double-requires-2 c κs = search needs
-
-eight-requires-3 : tie.Need-eight-requires-3
-eight-requires-3 c κs = search needs
-
-shared-slice-read-number : tie.Need-shared-slice-read-number
-shared-slice-read-number c = search needs
-
-number-requires : tie.Need-number-requires
-number-requires c κs = search needs
-
-shared-slice-read-number-2 : tie.Need-shared-slice-read-number-2
-shared-slice-read-number-2 c = search needs
-
-number-requires-2 : tie.Need-number-requires-2
-number-requires-2 c κs = search needs
 
 returns : tie.Need-returns
 unfolding settingsAt
@@ -48,14 +16,6 @@ returns c = let n1 = c .before .before in
 pub first-settings-spec : {M : Type 1} → statement M
 first-settings-spec =
     tie.close
-    (tie.spec
-    eight-requires
-    double-requires
-    eight-requires-2
-    double-requires-2
-    eight-requires-3
-    shared-slice-read-number
-    number-requires
-    shared-slice-read-number-2
-    number-requires-2
+    (tie.spec (λ c κs. search needs) (λ c κs. search needs) (λ c κs. search needs) (λ c κs. search needs)
+    (λ c κs. search needs) (λ c. search needs) (λ c κs. search needs) (λ c. search needs) (λ c κs. search needs)
     returns)

@@ -5,37 +5,18 @@ use Rattle.records.specs.Records.{headAt}
 use borrow.Author.Needs.{needs}
 use Rattle.records.proofs.head_at.Statement.{statement}
 use Rattle.records.proofs.head_at.Tie as tie
-use Rattle.records.proofs.head_at.Reads as reads
-use Rattle.records.proofs.head_at.Lts as lts
-use Rattle.records.proofs.length_of.Reads as length-of-reads
-use Rattle.records.proofs.two.Reads as two-reads
 
 returns : tie.Need-returns
 unfolding headAt
 returns c = simp (le-leb _ _ (c .if1 .taken))
 
-sub-left : tie.Need-sub-left
-sub-left c = search needs
-
 returns-2 : tie.Need-returns-2
 unfolding headAt
 returns-2 c = simp (lt-leb _ _ (c .before .if1 .left), lt-ltb _ _ (c .if2 .taken))
 
-two-requires : tie.Need-two-requires
-two-requires c κs = search needs
-
-add-two : tie.Need-add-two
-add-two c = search needs
-
-two-requires-2 : tie.Need-two-requires-2
-two-requires-2 c κs = search needs
-
 returns-3 : tie.Need-returns-3
 returns-3 c = let w = c .before .before in
     head-empty _ _ _ (c .before .two2 .result) (w .two .ensures .0) (c .before .two2 .ensures .0) (w .before .before .if1 .left) (w .before .if2 .left) (c .if3 .taken)
-
-length-of-requires : tie.Need-length-of-requires
-length-of-requires c κs = search needs
 
 returns-4 : tie.Need-returns-4
 returns-4 c = let v = c .before .before .before in
@@ -43,20 +24,11 @@ returns-4 c = let v = c .before .before .before in
     let n = c .before .length-of .ensures .0 in
     head-other _ _ _ _ (w .two .ensures .0) (v .two2 .ensures .0) (w .before .before .if1 .left) (w .before .if2 .left) (c .before .before .if3 .left) (λ e. c .if4 .taken (e ∙ sym n))
 
-add-size : tie.Need-add-size
-add-size c = search needs
-
 returns-5 : tie.Need-returns-5
 returns-5 c = let v = c .before .before .before .before in
     let w = v .before in
     let n = c .before .before .length-of .ensures .0 in
     head-cut _ _ _ _ (w .two .ensures .0) (v .two2 .ensures .0) (w .before .before .if1 .left) (w .before .if2 .left) (c .before .before .before .if3 .left) (c .before .if4 .left ∙ n) (c .if5 .taken)
-
-add-t7 : tie.Need-add-t7
-add-t7 c = search needs
-
-add-t10 : tie.Need-add-t10
-add-t10 c = search needs
 
 returns-6 : tie.Need-returns-6
 returns-6 c = let v = c .before .before .before .before in
@@ -67,18 +39,6 @@ returns-6 c = let v = c .before .before .before .before in
 pub head-at-spec : {M : Type 1} → statement M
 head-at-spec =
     tie.close
-    (tie.spec
-    returns
-    sub-left
-    returns-2
-    two-requires
-    add-two
-    two-requires-2
-    returns-3
-    length-of-requires
-    returns-4
-    add-size
-    returns-5
-    add-t7
-    add-t10
-    returns-6)
+    (tie.spec returns (λ c. search needs) returns-2 (λ c κs. search needs) (λ c. search needs)
+    (λ c κs. search needs) returns-3 (λ c κs. search needs) returns-4 (λ c. search needs) returns-5
+    (λ c. search needs) (λ c. search needs) returns-6)

@@ -3,8 +3,6 @@ use mathlib.Core.Path.{refl}
 use lib.Dec.{lit<}
 use Rattle.records.proofs.length_of.Statement.{statement}
 use Rattle.records.proofs.length_of.Tie as tie
-use Rattle.records.proofs.length_of.Reads as reads
-use Rattle.records.proofs.length_of.Lts as lts
 
 returns : tie.Need-returns
 returns c = simp (eq-eqb _ _ (c .if1 .taken)) (refl, lit< tt)

@@ -3,8 +3,6 @@ use borrow.Author.Tests.{eq-eqb, ne-eqb}
 use lib.Dec.{lit≤}
 use Rattle.records.proofs.one_if.Statement.{statement}
 use Rattle.records.proofs.one_if.Tie as tie
-use Rattle.records.proofs.one_if.Reads as reads
-use Rattle.records.proofs.one_if.Lts as lts
 
 returns : tie.Need-returns
 returns c = simp (eq-eqb _ _ (c .if1 .taken)) (refl, lit≤ tt)

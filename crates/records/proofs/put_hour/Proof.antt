@@ -4,30 +4,14 @@ use Rattle.vectors.proofs.Texts.{wrote-one, wrote-none}
 use borrow.Author.Needs.{needs}
 use Rattle.records.proofs.put_hour.Statement.{statement}
 use Rattle.records.proofs.put_hour.Tie as tie
-use Rattle.records.proofs.put_hour.Reads as reads
-use Rattle.records.proofs.put_hour.Lts as lts
-use Rattle.records.proofs.four.Reads as four-reads
-use Rattle.records.proofs.signed.Reads as signed-reads
 
 four-requires : tie.Need-four-requires
 four-requires c κs = c .before .before .before .pre .0 (c .if1 .taken)
-
-signed-requires : tie.Need-signed-requires
-signed-requires c κs = search needs
-
-mul-y : tie.Need-mul-y
-mul-y c = search needs
 
 slice-write-y : tie.Need-slice-write-y
 slice-write-y c = let b = c .before .before in
     let a = b .before .before .before in
     omega (arith, simp (eq-eqb _ _ (b .if1 .taken)) at (a .pre .1))
-
-add-result : tie.Need-add-result
-add-result c = search needs
-
-same-length : tie.Need-same-length
-same-length c = search needs
 
 returns : tie.Need-returns
 returns c = let b = c .before .before in
@@ -41,12 +25,5 @@ returns-2 c = let a = c .before .before .before in
 pub put-hour-spec : {M : Type 1} → statement M
 put-hour-spec =
     tie.close
-    (tie.spec
-    four-requires
-    signed-requires
-    mul-y
-    slice-write-y
-    add-result
-    same-length
-    returns
-    returns-2)
+    (tie.spec four-requires (λ c κs. search needs) (λ c. search needs) slice-write-y (λ c. search needs)
+    (λ c. search needs) returns returns-2)

@@ -10,12 +10,6 @@ use Rattle.records.proofs.Asking.{walked, broken, settings-inside, week
 use borrow.Author.Needs.{needs}
 use Rattle.records.proofs.read_week.Statement.{statement}
 use Rattle.records.proofs.read_week.Tie as tie
-use Rattle.records.proofs.read_week.Reads as reads
-use Rattle.records.proofs.read_week.Lts as lts
-use Rattle.records.proofs.fill.Reads as fill-reads
-use Rattle.records.proofs.first_kind.Reads as first-kind-reads
-use Rattle.records.proofs.first_settings.Reads as first-settings-reads
-use Rattle.records.proofs.walk.Reads as walk-reads
 
 -- pre{
 -- the records that the walk found
@@ -27,20 +21,8 @@ found c = walked _ _ (sym (c .before .settings .given .1) ∙ c .before .before 
 returns : tie.Need-returns
 returns c = said _ _ (week-long _ (c .if1 .taken))
 
-walk-requires : tie.Need-walk-requires
-walk-requires c κs = search needs
-
-enum-known-settings : tie.Need-enum-known-settings
-enum-known-settings c = search needs
-
-enum-told : tie.Need-enum-told
-enum-told c = search needs
-
 returns-2 : tie.Need-returns-2
 returns-2 c = said _ _ (week-broken _ (c .before .before .before .if1 .left) (broken _ _ (sym (c .enum-told .given .1) ∙ c .before .before .walk .ensures)))
-
-first-kind-requires : tie.Need-first-kind-requires
-first-kind-requires c κs = search needs
 
 returns-3 : tie.Need-returns-3
 returns-3 c = let k = c .before .before in
@@ -80,16 +62,5 @@ returns-6 c = let d = c .before .before .before .before in
 pub read-week-spec : {M : Type 1} → statement M
 read-week-spec =
     tie.close
-    (tie.spec
-    returns
-    walk-requires
-    enum-known-settings
-    enum-told
-    returns-2
-    first-kind-requires
-    returns-3
-    returns-4
-    returns-5
-    fill-requires
-    first-settings-requires
-    returns-6)
+    (tie.spec returns (λ c κs. search needs) (λ c. search needs) (λ c. search needs) returns-2
+    (λ c κs. search needs) returns-3 returns-4 returns-5 fill-requires first-settings-requires returns-6)

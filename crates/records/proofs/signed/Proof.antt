@@ -10,15 +10,10 @@ use Rattle.records.proofs.Floats.{leb-T, round-neg}
 use borrow.Author.Needs.{needs}
 use Rattle.records.proofs.signed.Statement.{statement}
 use Rattle.records.proofs.signed.Tie as tie
-use Rattle.records.proofs.signed.Reads as reads
-use Rattle.records.proofs.signed.Lts as lts
 
 int-to-float-result : tie.Need-int-to-float-result
 unfolding inFloat
 int-to-float-result c = leb-T (c .before .before .args .x) (2 ^ 53) (omega arith)
-
-sub-result : tie.Need-sub-result
-sub-result c = search needs
 
 int-to-float-result-2 : tie.Need-int-to-float-result-2
 unfolding inFloat
@@ -36,5 +31,4 @@ returns-2 c = let x = c .before .before .args .x in
     (round-neg binary64 (4294967296 - x) 1 ∙ ap (λ (k : ℕ). round binary64 true k 1) e)
 
 pub signed-spec : {M : Type 1} → statement M
-signed-spec =
-    tie.close (tie.spec int-to-float-result sub-result int-to-float-result-2 returns returns-2)
+signed-spec = tie.close (tie.spec int-to-float-result (λ c. search needs) int-to-float-result-2 returns returns-2)

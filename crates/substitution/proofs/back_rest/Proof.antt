@@ -7,11 +7,6 @@ use Rattle.substitution.proofs.Laws.{more-than}
 use borrow.Author.Needs.{needs}
 use Rattle.substitution.proofs.back_rest.Statement.{statement}
 use Rattle.substitution.proofs.back_rest.Tie as tie
-use Rattle.substitution.proofs.back_rest.Reads as reads
-use Rattle.substitution.proofs.back_rest.Lts as lts
-use Rattle.substitution.proofs.back1.Reads as back1-reads
-use Rattle.substitution.proofs.back2.Reads as back2-reads
-use Rattle.substitution.proofs.back_any.Reads as back-any-reads
 
 returns : tie.Need-returns
 returns c = λ v h. rw (c .if1 .taken) at h
@@ -22,9 +17,6 @@ back1-requires c κs = let st = c .before .before .before .before in
     let e : a .k ≡ 1 = c .before .if2 .taken in
     let p : a .m * 2 + a .m ≤ length (a .s .now) = rw e at (st .pre .1 .0) in
     (omega arith, omega arith)
-
-same-length : tie.Need-same-length
-same-length c = search needs
 
 returns-2 : tie.Need-returns-2
 returns-2 c = let st = c .before .before .before .before .before .before .before in
@@ -41,9 +33,6 @@ back2-requires c κs = let st = c .before .before .before .before .before in
     let l = more-than (a .k) (a .m) (a .n) (st .pre .1 .1) (c .before .before .before .if1 .left) in
     (omega arith, omega arith)
 
-same-length-2 : tie.Need-same-length-2
-same-length-2 c = search needs
-
 returns-3 : tie.Need-returns-3
 returns-3 c = let st = c .before .before .before .before .before .before .before .before in
     let a = st .args in
@@ -59,23 +48,11 @@ back-any-requires c κs = let st = c .before .before .before .before .before in
     let n : a .n ≡ a .k = st .pre .1 .1 ∙ min-eq-left {n = a .k} {m = a .m} (omega arith) in
     search needs
 
-same-length-3 : tie.Need-same-length-3
-same-length-3 c = search needs
-
 returns-4 : tie.Need-returns-4
 returns-4 c = c .before .before .back-any .ensures
 
 pub back-rest-spec : {M : Type 1} → statement M
 back-rest-spec =
     tie.close
-    (tie.spec
-    returns
-    back1-requires
-    same-length
-    returns-2
-    back2-requires
-    same-length-2
-    returns-3
-    back-any-requires
-    same-length-3
-    returns-4)
+    (tie.spec returns back1-requires (λ c. search needs) returns-2 back2-requires (λ c. search needs) returns-3
+    back-any-requires (λ c. search needs) returns-4)

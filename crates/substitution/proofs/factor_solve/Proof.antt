@@ -14,27 +14,11 @@ use lib.Ieee.{Float}
 use borrow.Author.Needs.{needs}
 use Rattle.substitution.proofs.factor_solve.Statement.{statement}
 use Rattle.substitution.proofs.factor_solve.Tie as tie
-use Rattle.substitution.proofs.factor_solve.Reads as reads
-use Rattle.substitution.proofs.factor_solve.Lts as lts
-use Rattle.banded.proofs.factor.Reads as factor-reads
-use Rattle.substitution.proofs.solve.Reads as solve-reads
-
-factor-requires : tie.Need-factor-requires
-factor-requires c κs = search needs
-
-same-length : tie.Need-same-length
-same-length c = search needs
 
 returns : tie.Need-returns
 returns c = let f = c .before .before .before .factor .ensures in
     let no : c .before .before .before .factor .result ≡ false = not-true _ (c .if1 .taken) in
     (f .0, λ a h. (sym no ∙ f .1 a h .0, λ t. let z : _≡_ {A = ℕ} 0 1 = cc in absurd (omega arith)))
-
-solve-requires : tie.Need-solve-requires
-solve-requires c κs = search needs
-
-same-length-2 : tie.Need-same-length-2
-same-length-2 c = search needs
 
 returns-2 : tie.Need-returns-2
 returns-2 c = let st = c .before .before .before .before .before .before .before .before .before .before in
@@ -56,4 +40,6 @@ returns-2 c = let st = c .before .before .before .before .before .before .before
 
 pub factor-solve-spec : {M : Type 1} → statement M
 factor-solve-spec =
-    tie.close (tie.spec factor-requires same-length returns solve-requires same-length-2 returns-2)
+    tie.close
+    (tie.spec (λ c κs. search needs) (λ c. search needs) returns (λ c κs. search needs) (λ c. search needs)
+    returns-2)

@@ -8,41 +8,11 @@ use Rattle.substitution.proofs.Laws.{solved-at}
 use borrow.Author.Needs.{needs}
 use Rattle.substitution.proofs.factor_solve_at.Statement.{statement}
 use Rattle.substitution.proofs.factor_solve_at.Tie as tie
-use Rattle.substitution.proofs.factor_solve_at.Reads as reads
-use Rattle.substitution.proofs.factor_solve_at.Lts as lts
-use Rattle.substitution.proofs.factor_solve.Reads as factor-solve-reads
 
 add-e : tie.Need-add-e
 add-e c = let st = c .before in
     let a = st .args in
     omega (arith, rows-fit (a .k) 0 (a .m) (length (a .s .now)) (omega arith) (omega arith))
-
-mul-e : tie.Need-mul-e
-mul-e c = search needs
-
-add-e-2 : tie.Need-add-e-2
-add-e-2 c = search needs
-
-add-e-3 : tie.Need-add-e-3
-add-e-3 c = search needs
-
-mul-factor-solve : tie.Need-mul-factor-solve
-mul-factor-solve c = search needs
-
-sub-factor-solve : tie.Need-sub-factor-solve
-sub-factor-solve c = search needs
-
-part-factor-solve-start : tie.Need-part-factor-solve-start
-part-factor-solve-start c = search needs
-
-part-factor-solve-end : tie.Need-part-factor-solve-end
-part-factor-solve-end c = search needs
-
-factor-solve-requires : tie.Need-factor-solve-requires
-factor-solve-requires c κs = search needs
-
-same-length : tie.Need-same-length
-same-length c = search needs
 
 returns : tie.Need-returns
 returns c = let st = c .before .before .before .before .before in
@@ -58,15 +28,5 @@ returns c = let st = c .before .before .before .before .before in
 pub factor-solve-at-spec : {M : Type 1} → statement M
 factor-solve-at-spec =
     tie.close
-    (tie.spec
-    add-e
-    mul-e
-    add-e-2
-    add-e-3
-    mul-factor-solve
-    sub-factor-solve
-    part-factor-solve-start
-    part-factor-solve-end
-    factor-solve-requires
-    same-length
-    returns)
+    (tie.spec add-e (λ c. search needs) (λ c. search needs) (λ c. search needs) (λ c. search needs)
+    (λ c. search needs) (λ c. search needs) (λ c. search needs) (λ c κs. search needs) (λ c. search needs) returns)

@@ -10,25 +10,11 @@ use Rattle.substitution.proofs.Laws.{backed-none, length-back, kept-tak
 use borrow.Author.Needs.{needs}
 use Rattle.substitution.proofs.solve.Statement.{statement}
 use Rattle.substitution.proofs.solve.Tie as tie
-use Rattle.substitution.proofs.solve.Reads as reads
-use Rattle.substitution.proofs.solve.Lts as lts
-use Rattle.substitution.proofs.back_any.Reads as back-any-reads
-use Rattle.substitution.proofs.back_rest.Reads as back-rest-reads
-use Rattle.substitution.proofs.smaller.Reads as smaller-reads
-
-smaller-requires : tie.Need-smaller-requires
-smaller-requires c κs = search needs
 
 back-any-requires : tie.Need-back-any-requires
 back-any-requires c κs = let st = c .before .before .before in
     let a = st .args in
     omega (arith, min-le-right (a .k) (a .m), c .before .smaller .ensures)
-
-back-rest-requires : tie.Need-back-rest-requires
-back-rest-requires c κs = search needs
-
-same-length : tie.Need-same-length
-same-length c = search needs
 
 returns : tie.Need-returns
 returns c = let st = c .before .before .before .before .before .before .before .before .before .before in
@@ -53,4 +39,5 @@ returns c = let st = c .before .before .before .before .before .before .before .
 
 pub solve-spec : {M : Type 1} → statement M
 solve-spec =
-    tie.close (tie.spec smaller-requires back-any-requires back-rest-requires same-length returns)
+    tie.close
+    (tie.spec (λ c κs. search needs) back-any-requires (λ c κs. search needs) (λ c. search needs) returns)

@@ -7,9 +7,6 @@ use Rattle.substitution.specs.Solved.{Room}
 use borrow.Author.Needs.{needs}
 use Rattle.substitution.proofs.substitution_factor_solve.Statement.{statement}
 use Rattle.substitution.proofs.substitution_factor_solve.Tie as tie
-use Rattle.substitution.proofs.substitution_factor_solve.Reads as reads
-use Rattle.substitution.proofs.substitution_factor_solve.Lts as lts
-use Rattle.substitution.proofs.factor_solve_at.Reads as factor-solve-at-reads
 
 returns : tie.Need-returns
 returns c = let a = c .before .before .args in
@@ -27,9 +24,6 @@ returns-4 : tie.Need-returns-4
 returns-4 c = let a = c .before .before .before .before .before .args in
     (λ (room : Room (a .k) (a .m) (length (a .s .now))). absurd (omega arith), λ no. (refl, refl))
 
-add-if5 : tie.Need-add-if5
-add-if5 c = search needs
-
 mul-if5 : tie.Need-mul-if5
 mul-if5 c = let a = c .before .before .before .before .before .args in
     let w : a .k + 1 ≤ 3 = omega arith in
@@ -46,19 +40,10 @@ returns-5 : tie.Need-returns-5
 returns-5 c = let a = c .before .before .before .before .before .before .args in
     (λ (room : Room (a .k) (a .m) (length (a .s .now))). absurd (omega arith), λ no. (refl, refl))
 
-factor-solve-at-requires : tie.Need-factor-solve-at-requires
-factor-solve-at-requires c κs = search needs
-
-same-length : tie.Need-same-length
-same-length c = search needs
-
 returns-6 : tie.Need-returns-6
 returns-6 c = let a = c .before .before .before .before .before .before .before .before .before .before .before .args in
     let room : Room (a .k) (a .m) (length (a .s .now)) = record { least = omega arith; most = omega arith; some = omega arith; few = omega arith; places = omega arith } in
     (λ r. rw (c .if6 .taken) at (c .before .before .before .factor-solve-at .ensures), λ no. absurd (no room))
-
-same-length-2 : tie.Need-same-length-2
-same-length-2 c = search needs
 
 returns-7 : tie.Need-returns-7
 returns-7 c = let a = c .before .before .before .before .before .before .before .before .before .before .before .args in
@@ -68,17 +53,5 @@ returns-7 c = let a = c .before .before .before .before .before .before .before 
 pub substitution-factor-solve-spec : {M : Type 1} → statement M
 substitution-factor-solve-spec =
     tie.close
-    (tie.spec
-    returns
-    returns-2
-    returns-3
-    returns-4
-    add-if5
-    mul-if5
-    add-if5-2
-    returns-5
-    factor-solve-at-requires
-    same-length
-    returns-6
-    same-length-2
-    returns-7)
+    (tie.spec returns returns-2 returns-3 returns-4 (λ c. search needs) mul-if5 add-if5-2 returns-5
+    (λ c κs. search needs) (λ c. search needs) returns-6 (λ c. search needs) returns-7)

@@ -11,9 +11,6 @@ use Rattle.trend_filter.proofs.Laws.{gives-refused, gives-same, sound-f
 use Rattle.trend_filter.proofs.fit_asked.Statement.{statement}
 use Rattle.trend_filter.proofs.fit_asked.Tie as tie
 
-cast-k : tie.Need-cast-k
-cast-k c = search needs
-
 prepare-requires : tie.Need-prepare-requires
 prepare-requires c κs = let q = c .before .before .before .before .before .before .before .before in
     let p = q .args in
@@ -22,9 +19,6 @@ prepare-requires c κs = let q = c .before .before .before .before .before .befo
     let l = lending (length (p .trend .now)) (length (p .cycle .now)) (length (p .knots .now)) (length (p .work .now)) (length (p .marks .now)) in
     let h = passed a l (q .pre) in
     (h .low, (h .high, (h .long, (h .short, h .work))))
-
-same-length : tie.Need-same-length
-same-length c = search needs
 
 returns : tie.Need-returns
 returns c = let q = c .before .before .before .before .before .before .before .before .before .before .before .before .before in
@@ -51,21 +45,6 @@ fit-by-requires c κs = let q = c .before .before .before .before .before .befor
       (omega (arith, r .ensures .kept .size, h .work), (h .marks, (r .ensures .top yes, r .ensures .star yes))),
     )
 
-same-length-2 : tie.Need-same-length-2
-same-length-2 c = search needs
-
-same-length-3 : tie.Need-same-length-3
-same-length-3 c = search needs
-
-same-length-4 : tie.Need-same-length-4
-same-length-4 c = search needs
-
-same-length-5 : tie.Need-same-length-5
-same-length-5 c = search needs
-
-same-length-6 : tie.Need-same-length-6
-same-length-6 c = search needs
-
 returns-2 : tie.Need-returns-2
 returns-2 c = let q = c .before .before .before .before .before .before .before .before .before .before .before .before .before .before .before .before .before .before .before .before .before .before .before .before .before .before .before .before .before in
     let p = q .args in
@@ -83,15 +62,5 @@ returns-2 c = let q = c .before .before .before .before .before .before .before 
 pub fit-asked-spec : {M : Type 1} → statement M
 fit-asked-spec =
     tie.close
-    (tie.spec
-    cast-k
-    prepare-requires
-    same-length
-    returns
-    fit-by-requires
-    same-length-2
-    same-length-3
-    same-length-4
-    same-length-5
-    same-length-6
-    returns-2)
+    (tie.spec (λ c. search needs) prepare-requires (λ c. search needs) returns fit-by-requires (λ c. search needs)
+    (λ c. search needs) (λ c. search needs) (λ c. search needs) (λ c. search needs) returns-2)

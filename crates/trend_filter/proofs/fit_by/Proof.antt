@@ -8,21 +8,6 @@ use Rattle.trend_filter.proofs.Laws.{gives-fit, gives-same, by-1, by-2}
 use Rattle.trend_filter.proofs.fit_by.Statement.{statement}
 use Rattle.trend_filter.proofs.fit_by.Tie as tie
 
-fit-l2-requires : tie.Need-fit-l2-requires
-fit-l2-requires c κs = search needs
-
-same-length : tie.Need-same-length
-same-length c = search needs
-
-same-length-2 : tie.Need-same-length-2
-same-length-2 c = search needs
-
-same-length-3 : tie.Need-same-length-3
-same-length-3 c = search needs
-
-same-length-4 : tie.Need-same-length-4
-same-length-4 c = search needs
-
 returns : tie.Need-returns
 returns c = let d = c .before .before .before .before .before .before .before .before in
     let q = c .before .before .before .before .before .before .before .before .before .before .before .before .before .before .before .before .before .before .before .before .before in
@@ -37,24 +22,6 @@ returns c = let d = c .before .before .before .before .before .before .before .b
       ),
     )
 
-fit-l1-requires : tie.Need-fit-l1-requires
-fit-l1-requires c κs = search needs
-
-same-length-5 : tie.Need-same-length-5
-same-length-5 c = search needs
-
-same-length-6 : tie.Need-same-length-6
-same-length-6 c = search needs
-
-same-length-7 : tie.Need-same-length-7
-same-length-7 c = search needs
-
-same-length-8 : tie.Need-same-length-8
-same-length-8 c = search needs
-
-same-length-9 : tie.Need-same-length-9
-same-length-9 c = search needs
-
 returns-2 : tie.Need-returns-2
 returns-2 c = let d = c .before .before .before .before .before .before .before .before .before .before in
     let q = c .before .before .before .before .before .before .before .before .before .before .before .before .before .before .before .before .before .before .before .before .before .before .before .before in
@@ -67,17 +34,6 @@ returns-2 c = let d = c .before .before .before .before .before .before .before 
 pub fit-by-spec : {M : Type 1} → statement M
 fit-by-spec =
     tie.close
-    (tie.spec
-    fit-l2-requires
-    same-length
-    same-length-2
-    same-length-3
-    same-length-4
-    returns
-    fit-l1-requires
-    same-length-5
-    same-length-6
-    same-length-7
-    same-length-8
-    same-length-9
-    returns-2)
+    (tie.spec (λ c κs. search needs) (λ c. search needs) (λ c. search needs) (λ c. search needs) (λ c. search needs)
+    returns (λ c κs. search needs) (λ c. search needs) (λ c. search needs) (λ c. search needs) (λ c. search needs)
+    (λ c. search needs) returns-2)

@@ -7,18 +7,6 @@ use Rattle.trend_filter.proofs.Laws.{shows-same, l1-zero, l1-flat, l1-s
 use Rattle.trend_filter.proofs.fit_l1.Statement.{statement}
 use Rattle.trend_filter.proofs.fit_l1.Tie as tie
 
-fit-zero-requires : tie.Need-fit-zero-requires
-fit-zero-requires c κs = search needs
-
-same-length : tie.Need-same-length
-same-length c = search needs
-
-same-length-2 : tie.Need-same-length-2
-same-length-2 c = search needs
-
-same-length-3 : tie.Need-same-length-3
-same-length-3 c = search needs
-
 returns : tie.Need-returns
 returns c = let q = c .before .before .before .before .before .before .before .before .before .before .before .before .before .before .before .before .before in
     let p = q .args in
@@ -26,21 +14,6 @@ returns c = let q = c .before .before .before .before .before .before .before .b
       λ penalty. shows-same (l1-zero (asking (p .y .now) (p .lam) (p .tol) (p .max-iter) (p .k) penalty) (c .before .before .before .before .before .before .before .before .before .before .if1 .taken)) (c .before .before .before .before .before .before .fit-zero .ensures (p .lam) (p .tol) (p .max-iter) penalty),
       (kept-none 0 (40 * n) (p .work .now), kept-none 0 (2 * n) (p .marks .now)),
     )
-
-fit-flat-requires : tie.Need-fit-flat-requires
-fit-flat-requires c κs = search needs
-
-same-length-4 : tie.Need-same-length-4
-same-length-4 c = search needs
-
-same-length-5 : tie.Need-same-length-5
-same-length-5 c = search needs
-
-same-length-6 : tie.Need-same-length-6
-same-length-6 c = search needs
-
-same-length-7 : tie.Need-same-length-7
-same-length-7 c = search needs
 
 returns-2 : tie.Need-returns-2
 returns-2 c = let q = c .before .before .before .before .before .before .before .before .before .before .before .before .before .before .before .before .before .before .before .before .before in
@@ -55,21 +28,6 @@ fit-search-requires : tie.Need-fit-search-requires
 fit-search-requires c κs = let q = c .before .before .before .before .before .before .before .before .before .before .before .before .before in
     (q .pre .0, (q .pre .1 .0, (q .pre .1 .1 .0, q .pre .1 .1 .1 .0)))
 
-same-length-8 : tie.Need-same-length-8
-same-length-8 c = search needs
-
-same-length-9 : tie.Need-same-length-9
-same-length-9 c = search needs
-
-same-length-10 : tie.Need-same-length-10
-same-length-10 c = search needs
-
-same-length-11 : tie.Need-same-length-11
-same-length-11 c = search needs
-
-same-length-12 : tie.Need-same-length-12
-same-length-12 c = search needs
-
 returns-3 : tie.Need-returns-3
 returns-3 c = let q = c .before .before .before .before .before .before .before .before .before .before .before .before .before .before .before .before .before .before .before .before .before .before .before .before in
     let p = q .args in
@@ -81,22 +39,7 @@ returns-3 c = let q = c .before .before .before .before .before .before .before 
 pub fit-l1-spec : {M : Type 1} → statement M
 fit-l1-spec =
     tie.close
-    (tie.spec
-    fit-zero-requires
-    same-length
-    same-length-2
-    same-length-3
-    returns
-    fit-flat-requires
-    same-length-4
-    same-length-5
-    same-length-6
-    same-length-7
-    returns-2
-    fit-search-requires
-    same-length-8
-    same-length-9
-    same-length-10
-    same-length-11
-    same-length-12
-    returns-3)
+    (tie.spec (λ c κs. search needs) (λ c. search needs) (λ c. search needs) (λ c. search needs) returns
+    (λ c κs. search needs) (λ c. search needs) (λ c. search needs) (λ c. search needs) (λ c. search needs) returns-2
+    fit-search-requires (λ c. search needs) (λ c. search needs) (λ c. search needs) (λ c. search needs)
+    (λ c. search needs) returns-3)

@@ -25,9 +25,6 @@ solve-l2-requires c κs = let q = c .before .before .before .before .before .bef
     let top : n * (p .k + 1) ≤ n * 3 = mul-le-mul-left n (omega (arith, h .high)) in
     (h .high, (omega (arith, h .long), (h .short, omega (arith, q .pre .1 .0))))
 
-same-length : tie.Need-same-length
-same-length c = search needs
-
 returns : tie.Need-returns
 returns c = let q = c .before .before .before .before .before .before .before .before .before .before in
     let p = q .args in
@@ -42,60 +39,6 @@ returns c = let q = c .before .before .before .before .before .before .before .b
           (gives-refused 10 (p .trend .now) (p .cycle .now) (p .knots .now)),
       kept-then 0 (16 * n) (so .ensures .kept) (kept-none 0 0 (so .last .0)) (omega arith) (omega arith) (omega arith) (omega arith),
     )
-
-rows-end-requires : tie.Need-rows-end-requires
-rows-end-requires c κs = search needs
-
-add-b : tie.Need-add-b
-add-b c = search needs
-
-add-e : tie.Need-add-e
-add-e c = search needs
-
-mul-objectives : tie.Need-mul-objectives
-mul-objectives c = search needs
-
-sub-objectives : tie.Need-sub-objectives
-sub-objectives c = search needs
-
-part-objectives-start : tie.Need-part-objectives-start
-part-objectives-start c = search needs
-
-part-objectives-end : tie.Need-part-objectives-end
-part-objectives-end c = search needs
-
-objectives-requires : tie.Need-objectives-requires
-objectives-requires c κs = search needs
-
-mul-write-out : tie.Need-mul-write-out
-mul-write-out c = search needs
-
-sub-write-out : tie.Need-sub-write-out
-sub-write-out c = search needs
-
-part-write-out-start : tie.Need-part-write-out-start
-part-write-out-start c = search needs
-
-part-write-out-end : tie.Need-part-write-out-end
-part-write-out-end c = search needs
-
-write-out-requires : tie.Need-write-out-requires
-write-out-requires c κs = search needs
-
-closed-requires : tie.Need-closed-requires
-closed-requires c κs = search needs
-
-same-length-2 : tie.Need-same-length-2
-same-length-2 c = search needs
-
-same-length-3 : tie.Need-same-length-3
-same-length-3 c = search needs
-
-same-length-4 : tie.Need-same-length-4
-same-length-4 c = search needs
-
-same-length-5 : tie.Need-same-length-5
-same-length-5 c = search needs
 
 returns-2 : tie.Need-returns-2
 returns-2 c = let q = c .before .before .before .before .before .before .before .before .before .before .before .before .before .before .before .before .before .before .before .before .before .before .before .before .before .before .before .before in
@@ -135,26 +78,8 @@ returns-2 c = let q = c .before .before .before .before .before .before .before 
 pub fit-l2-spec : {M : Type 1} → statement M
 fit-l2-spec =
     tie.close
-    (tie.spec
-    solve-l2-requires
-    same-length
-    returns
-    rows-end-requires
-    add-b
-    add-e
-    mul-objectives
-    sub-objectives
-    part-objectives-start
-    part-objectives-end
-    objectives-requires
-    mul-write-out
-    sub-write-out
-    part-write-out-start
-    part-write-out-end
-    write-out-requires
-    closed-requires
-    same-length-2
-    same-length-3
-    same-length-4
-    same-length-5
-    returns-2)
+    (tie.spec solve-l2-requires (λ c. search needs) returns (λ c κs. search needs) (λ c. search needs)
+    (λ c. search needs) (λ c. search needs) (λ c. search needs) (λ c. search needs) (λ c. search needs)
+    (λ c κs. search needs) (λ c. search needs) (λ c. search needs) (λ c. search needs) (λ c. search needs)
+    (λ c κs. search needs) (λ c κs. search needs) (λ c. search needs) (λ c. search needs) (λ c. search needs)
+    (λ c. search needs) returns-2)

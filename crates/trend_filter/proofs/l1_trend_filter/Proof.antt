@@ -11,9 +11,6 @@ use Rattle.fit.proofs.Demand3.{bounds}
 use Rattle.trend_filter.proofs.l1_trend_filter.Statement.{statement}
 use Rattle.trend_filter.proofs.l1_trend_filter.Tie as tie
 
-question-requires : tie.Need-question-requires
-question-requires c κs = search needs
-
 returns : tie.Need-returns
 returns c = let d = c .before in
     let p = c .before .before .before .before .before .before .before .before .args in
@@ -35,21 +32,6 @@ fit-asked-requires : tie.Need-fit-asked-requires
 fit-asked-requires c κs = let q = c .before .before .before .before .before .before in
     sym (q .question .ensures) ∙ c .before .before .before .before .before .if1 .left
 
-same-length : tie.Need-same-length
-same-length c = search needs
-
-same-length-2 : tie.Need-same-length-2
-same-length-2 c = search needs
-
-same-length-3 : tie.Need-same-length-3
-same-length-3 c = search needs
-
-same-length-4 : tie.Need-same-length-4
-same-length-4 c = search needs
-
-same-length-5 : tie.Need-same-length-5
-same-length-5 c = search needs
-
 returns-2 : tie.Need-returns-2
 returns-2 c = let d = c .before .before .before .before .before .before .before .before .before .before in
     let q = c .before .before .before .before .before .before .before .before .before .before .before .before .before .before .before .before .before in
@@ -70,13 +52,5 @@ returns-2 c = let d = c .before .before .before .before .before .before .before 
 pub l1-trend-filter-spec : {M : Type 1} → statement M
 l1-trend-filter-spec =
     tie.close
-    (tie.spec
-    question-requires
-    returns
-    fit-asked-requires
-    same-length
-    same-length-2
-    same-length-3
-    same-length-4
-    same-length-5
-    returns-2)
+    (tie.spec (λ c κs. search needs) returns fit-asked-requires (λ c. search needs) (λ c. search needs)
+    (λ c. search needs) (λ c. search needs) (λ c. search needs) returns-2)

@@ -10,21 +10,12 @@ use Rattle.l2.proofs.System.{kept-drop, taken-part}
 use Rattle.trend_filter.proofs.prepare.Statement.{statement}
 use Rattle.trend_filter.proofs.prepare.Tie as tie
 
-sub-m : tie.Need-sub-m
-sub-m c = search needs
-
-gram-offsets-requires : tie.Need-gram-offsets-requires
-gram-offsets-requires c κs = search needs
-
 prepare-requires : tie.Need-prepare-requires
 prepare-requires c κs = let q = c .before .before .before .before in
     let p = q .args in
     let m = length (p .y .now) - p .k in
     let top : m * (p .k + 1) ≤ m * 3 = mul-le-mul-left m (omega (arith, q .pre)) in
     (omega (arith, q .pre), (omega (arith, q .pre), (omega (arith, q .pre), (omega (arith, q .pre), omega (arith, q .pre)))))
-
-same-length : tie.Need-same-length
-same-length c = search needs
 
 returns : tie.Need-returns
 returns c = let q = c .before .before .before .before .before .before .before in
@@ -48,4 +39,5 @@ returns c = let q = c .before .before .before .before .before .before .before in
 
 pub prepare-spec : {M : Type 1} → statement M
 prepare-spec =
-    tie.close (tie.spec sub-m gram-offsets-requires prepare-requires same-length returns)
+    tie.close
+    (tie.spec (λ c. search needs) (λ c κs. search needs) prepare-requires (λ c. search needs) returns)

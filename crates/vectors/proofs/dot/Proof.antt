@@ -9,8 +9,6 @@ use Rattle.vectors.specs.Vec.{at}
 use Rattle.vectors.specs.Sums.{sumTo, dot}
 use Rattle.vectors.proofs.dot.Statement.{statement}
 use Rattle.vectors.proofs.dot.Tie as tie
-use Rattle.vectors.proofs.dot.Reads as reads
-use Rattle.vectors.proofs.dot.Lts as lts
 
 abbrev Inv-loop : tie.InvT-loop
 Inv-loop a b sum₀ i₀ sum i = (i ≤ length a) × (sum ≡ sumTo (λ k. mul binary64 (at a k) (at b k)) i)
@@ -21,24 +19,6 @@ abbrev μ-loop : tie.MeasureT-loop
 loop-holds : tie.Need-loop-holds Inv-loop μ-loop
 unfolding sumTo
 loop-holds c = (search needs, refl)
-
-mul-sum : tie.Need-mul-sum Inv-loop μ-loop
-mul-sum c = search needs
-
-shared-slice-read-sum : tie.Need-shared-slice-read-sum Inv-loop μ-loop
-shared-slice-read-sum c = search needs
-
-mul-sum-2 : tie.Need-mul-sum-2 Inv-loop μ-loop
-mul-sum-2 c = search needs
-
-shared-slice-read-sum-2 : tie.Need-shared-slice-read-sum-2 Inv-loop μ-loop
-shared-slice-read-sum-2 c = search needs
-
-add-i : tie.Need-add-i Inv-loop μ-loop
-add-i c = search needs
-
-loop-less : tie.Need-loop-less Inv-loop μ-loop
-loop-less c = search needs
 
 loop-again : tie.Need-loop-again Inv-loop μ-loop
 unfolding sumTo
@@ -52,15 +32,5 @@ returns c = let e : c .before .loop .i ≡ length (c .before .before .args .a .n
 pub dot-spec : {M : Type 1} → statement M
 dot-spec =
     tie.close
-    (tie.spec
-    Inv-loop
-    μ-loop
-    loop-holds
-    mul-sum
-    shared-slice-read-sum
-    mul-sum-2
-    shared-slice-read-sum-2
-    add-i
-    loop-less
-    loop-again
-    returns)
+    (tie.spec Inv-loop μ-loop loop-holds (λ c. search needs) (λ c. search needs) (λ c. search needs)
+    (λ c. search needs) (λ c. search needs) (λ c. search needs) loop-again returns)

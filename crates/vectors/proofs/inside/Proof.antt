@@ -7,9 +7,6 @@ use Rattle.vectors.specs.Sums.{insideTo}
 use Rattle.vectors.proofs.Sums.{inside-more}
 use Rattle.vectors.proofs.inside.Statement.{statement}
 use Rattle.vectors.proofs.inside.Tie as tie
-use Rattle.vectors.proofs.inside.Reads as reads
-use Rattle.vectors.proofs.inside.Lts as lts
-use Rattle.vectors.proofs.still.Reads as still-reads
 
 abbrev Inv-loop : tie.InvT-loop
 Inv-loop v lam all₀ i₀ all i = (i ≤ length v) × (all ≡ insideTo lam v i)
@@ -20,21 +17,6 @@ abbrev μ-loop : tie.MeasureT-loop
 loop-holds : tie.Need-loop-holds Inv-loop μ-loop
 unfolding insideTo
 loop-holds c = (search needs, refl)
-
-mul-still : tie.Need-mul-still Inv-loop μ-loop
-mul-still c = search needs
-
-shared-slice-read-still : tie.Need-shared-slice-read-still Inv-loop μ-loop
-shared-slice-read-still c = search needs
-
-still-requires : tie.Need-still-requires Inv-loop μ-loop
-still-requires c κs = search needs
-
-add-i : tie.Need-add-i Inv-loop μ-loop
-add-i c = search needs
-
-loop-less : tie.Need-loop-less Inv-loop μ-loop
-loop-less c = search needs
 
 loop-again : tie.Need-loop-again Inv-loop μ-loop
 loop-again c = let l = c .before .before .before .loop in
@@ -49,14 +31,5 @@ returns c = let l = c .before .loop in
 pub inside-spec : {M : Type 1} → statement M
 inside-spec =
     tie.close
-    (tie.spec
-    Inv-loop
-    μ-loop
-    loop-holds
-    mul-still
-    shared-slice-read-still
-    still-requires
-    add-i
-    loop-less
-    loop-again
-    returns)
+    (tie.spec Inv-loop μ-loop loop-holds (λ c. search needs) (λ c. search needs) (λ c κs. search needs)
+    (λ c. search needs) (λ c. search needs) loop-again returns)

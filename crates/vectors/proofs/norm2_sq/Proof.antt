@@ -9,8 +9,6 @@ use Rattle.vectors.specs.Vec.{at}
 use Rattle.vectors.specs.Sums.{sumTo, norm2Sq}
 use Rattle.vectors.proofs.norm2_sq.Statement.{statement}
 use Rattle.vectors.proofs.norm2_sq.Tie as tie
-use Rattle.vectors.proofs.norm2_sq.Reads as reads
-use Rattle.vectors.proofs.norm2_sq.Lts as lts
 
 abbrev Inv-loop : tie.InvT-loop
 Inv-loop v sum₀ i₀ sum i = (i ≤ length v) × (sum ≡ sumTo (λ k. mul binary64 (at v k) (at v k)) i)
@@ -21,18 +19,6 @@ abbrev μ-loop : tie.MeasureT-loop
 loop-holds : tie.Need-loop-holds Inv-loop μ-loop
 unfolding sumTo
 loop-holds c = (search needs, refl)
-
-mul-x : tie.Need-mul-x Inv-loop μ-loop
-mul-x c = search needs
-
-shared-slice-read-x : tie.Need-shared-slice-read-x Inv-loop μ-loop
-shared-slice-read-x c = search needs
-
-add-i : tie.Need-add-i Inv-loop μ-loop
-add-i c = search needs
-
-loop-less : tie.Need-loop-less Inv-loop μ-loop
-loop-less c = search needs
 
 loop-again : tie.Need-loop-again Inv-loop μ-loop
 unfolding sumTo
@@ -46,13 +32,5 @@ returns c = let e : c .before .loop .i ≡ length (c .before .before .args .v .n
 pub norm2-sq-spec : {M : Type 1} → statement M
 norm2-sq-spec =
     tie.close
-    (tie.spec
-    Inv-loop
-    μ-loop
-    loop-holds
-    mul-x
-    shared-slice-read-x
-    add-i
-    loop-less
-    loop-again
-    returns)
+    (tie.spec Inv-loop μ-loop loop-holds (λ c. search needs) (λ c. search needs) (λ c. search needs)
+    (λ c. search needs) loop-again returns)

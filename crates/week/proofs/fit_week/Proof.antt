@@ -7,12 +7,6 @@ use Rattle.week.specs.Printed.{fitText}
 use Rattle.week.proofs.Showing.{Listed, fit-listed, fit-refused, lent-is}
 use Rattle.week.proofs.fit_week.Statement.{statement}
 use Rattle.week.proofs.fit_week.Tie as tie
-use Rattle.week.proofs.fit_week.Reads as reads
-use Rattle.week.proofs.fit_week.Lts as lts
-use Rattle.listing.proofs.put_listing.Reads as put-listing-reads
-use Rattle.week.proofs.shown.Reads as shown-reads
-use Rattle.listing.proofs.put_refused.Reads as put-refused-reads
-use Rattle.trend_filter.proofs.l1_trend_filter.Reads as l1-trend-filter-reads
 
 slice-aggregate-l1-trend-filter : tie.Need-slice-aggregate-l1-trend-filter
 slice-aggregate-l1-trend-filter c = search needs
@@ -44,21 +38,6 @@ listed s =
 
 -- }pre
 
-l1-trend-filter-requires : tie.Need-l1-trend-filter-requires
-l1-trend-filter-requires c κs = search needs
-
-enum-known-number : tie.Need-enum-known-number
-enum-known-number c = search needs
-
-put-refused-requires : tie.Need-put-refused-requires
-put-refused-requires c κs = search needs
-
-enum-known-s : tie.Need-enum-known-s
-enum-known-s c = search needs
-
-shown-requires : tie.Need-shown-requires
-shown-requires c κs = search needs
-
 put-listing-requires : tie.Need-put-listing-requires
 put-listing-requires c κs = let h = c .before .before .before .before in
     let s = h .before .before in
@@ -81,17 +60,6 @@ returns-2 c = let h = c .before .before .before .before .before in
 pub fit-week-spec : {M : Type 1} → statement M
 fit-week-spec =
     tie.close
-    (tie.spec
-    slice-aggregate-l1-trend-filter
-    slice-aggregate-l1-trend-filter-2
-    slice-aggregate-l1-trend-filter-3
-    slice-aggregate-l1-trend-filter-4
-    slice-aggregate-l1-trend-filter-5
-    l1-trend-filter-requires
-    enum-known-number
-    put-refused-requires
-    enum-known-s
-    shown-requires
-    put-listing-requires
-    returns
-    returns-2)
+    (tie.spec slice-aggregate-l1-trend-filter slice-aggregate-l1-trend-filter-2 slice-aggregate-l1-trend-filter-3
+    slice-aggregate-l1-trend-filter-4 slice-aggregate-l1-trend-filter-5 (λ c κs. search needs) (λ c. search needs)
+    (λ c κs. search needs) (λ c. search needs) (λ c κs. search needs) put-listing-requires returns returns-2)

@@ -1,8 +1,6 @@
 use mathlib.Core.Path.{refl}
 use Rattle.week.proofs.shown.Statement.{statement}
 use Rattle.week.proofs.shown.Tie as tie
-use Rattle.week.proofs.shown.Reads as reads
-use Rattle.week.proofs.shown.Lts as lts
 
 returns : tie.Need-returns
 returns c = refl

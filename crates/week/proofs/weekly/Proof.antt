@@ -7,11 +7,6 @@ use Rattle.records.specs.Week.{readWeek}
 use Rattle.week.proofs.Showing.{Taken, taken-week, text-refused, text-taken, wrote-counts}
 use Rattle.week.proofs.weekly.Statement.{statement}
 use Rattle.week.proofs.weekly.Tie as tie
-use Rattle.week.proofs.weekly.Reads as reads
-use Rattle.week.proofs.weekly.Lts as lts
-use Rattle.listing.proofs.put_refused.Reads as put-refused-reads
-use Rattle.records.proofs.read_week.Reads as read-week-reads
-use Rattle.week.proofs.fit_week.Reads as fit-week-reads
 
 -- pre{
 -- what `read_week` took
@@ -21,18 +16,6 @@ week c =
     taken-week _ _ (sym (c .before .settings .given .1) ∙ r .read-week .ensures .0) (r .read-week .ensures .1)
 
 -- }pre
-
-read-week-requires : tie.Need-read-week-requires
-read-week-requires c κs = search needs
-
-enum-known-number : tie.Need-enum-known-number
-enum-known-number c = search needs
-
-put-refused-requires : tie.Need-put-refused-requires
-put-refused-requires c κs = search needs
-
-enum-known-settings : tie.Need-enum-known-settings
-enum-known-settings c = search needs
 
 array-share-prefix-y : tie.Need-array-share-prefix-y
 array-share-prefix-y c = week c .room
@@ -56,13 +39,5 @@ returns-2 c = let w = week (c .before .before .before) in
 pub weekly-spec : {M : Type 1} → statement M
 weekly-spec =
     tie.close
-    (tie.spec
-    read-week-requires
-    enum-known-number
-    put-refused-requires
-    enum-known-settings
-    array-share-prefix-y
-    slice-aggregate-fit-week
-    fit-week-requires
-    returns
-    returns-2)
+    (tie.spec (λ c κs. search needs) (λ c. search needs) (λ c κs. search needs) (λ c. search needs)
+    array-share-prefix-y slice-aggregate-fit-week fit-week-requires returns returns-2)

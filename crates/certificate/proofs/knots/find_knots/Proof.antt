@@ -12,11 +12,6 @@ use Rattle.certificate.proofs.Above.{above-few, above-more}
 use borrow.Author.Needs.{needs}
 use Rattle.certificate.proofs.knots.find_knots.Statement.{statement}
 use Rattle.certificate.proofs.knots.find_knots.Tie as tie
-use Rattle.certificate.proofs.knots.find_knots.Reads as reads
-use Rattle.certificate.proofs.knots.find_knots.Lts as lts
-use Rattle.certificate.proofs.knots.add_knot.Reads as add-knot-reads
-use Rattle.certificate.proofs.knots.threshold.Reads as threshold-reads
-use Rattle.differences.proofs.diff_at.Reads as diff-at-reads
 
 abbrev Inv-loop : tie.InvT-loop
 Inv-loop knots₀ x y k t m n₀ i₀ knots n i = (i ≤ length x - k) × (length knots ≡ length knots₀) × Wrote knots₀ 0 (aboveTo t (diffK k x) i) knots n
@@ -24,38 +19,20 @@ Inv-loop knots₀ x y k t m n₀ i₀ knots n i = (i ≤ length x - k) × (lengt
 abbrev μ-loop : tie.MeasureT-loop
 μ-loop knots₀ x y k t m n₀ i₀ knots n i = length x - k - i
 
-threshold-requires : tie.Need-threshold-requires Inv-loop μ-loop
-threshold-requires c κs = search needs
-
-sub-m : tie.Need-sub-m Inv-loop μ-loop
-sub-m c = search needs
-
 loop-holds : tie.Need-loop-holds Inv-loop μ-loop
 unfolding aboveTo
 loop-holds c = (search needs, search needs, wrote-none _ 0 (search needs))
-
-diff-at-requires : tie.Need-diff-at-requires Inv-loop μ-loop
-diff-at-requires c κs = search needs
 
 add-knot-requires : tie.Need-add-knot-requires Inv-loop μ-loop
 add-knot-requires c κs = let l = c .before .before .before .loop in
     let a = c .before .before .before .before .before .before .before .before .args in
     (omega (arith, l .inv .2 .next, above-few (c .before .before .before .before .threshold .result) (diffK (a .k) (a .x .now)) (l .i)), omega arith)
 
-add-i : tie.Need-add-i Inv-loop μ-loop
-add-i c = search needs
-
-loop-less : tie.Need-loop-less Inv-loop μ-loop
-loop-less c = search needs
-
 loop-again : tie.Need-loop-again Inv-loop μ-loop
 loop-again c = let l = c .before .before .before .before .before .before .loop in
     let start = c .before .before .before .before .before .before .before .before .before .before .before in
     let w = above-more (c .before .before .before .before .before .before .before .threshold .result) (diffK (start .args .k) (start .args .x .now)) (l .i) _ (l .inv .2) (c .before .before .before .before .diff-at .ensures) (c .before .before .add-knot .ensures) in
     (search needs, wrote-length w, w)
-
-same-length : tie.Need-same-length Inv-loop μ-loop
-same-length c = search needs
 
 returns : tie.Need-returns Inv-loop μ-loop
 unfolding knots
@@ -69,16 +46,5 @@ returns c = let l = c .before .loop in
 pub find-knots-spec : {M : Type 1} → statement M
 find-knots-spec =
     tie.close
-    (tie.spec
-    Inv-loop
-    μ-loop
-    threshold-requires
-    sub-m
-    loop-holds
-    diff-at-requires
-    add-knot-requires
-    add-i
-    loop-less
-    loop-again
-    same-length
-    returns)
+    (tie.spec Inv-loop μ-loop (λ c κs. search needs) (λ c. search needs) loop-holds (λ c κs. search needs)
+    add-knot-requires (λ c. search needs) (λ c. search needs) loop-again (λ c. search needs) returns)

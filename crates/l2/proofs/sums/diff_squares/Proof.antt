@@ -18,21 +18,9 @@ Inv-loop x k m sum₀ i₀ sum i = (i ≤ m) × (sum ≡ sumTo (λ j. at (diffK 
 abbrev μ-loop : tie.MeasureT-loop
 μ-loop x k m sum₀ i₀ sum i = m - i
 
-sub-m : tie.Need-sub-m Inv-loop μ-loop
-sub-m c = search needs
-
 loop-holds : tie.Need-loop-holds Inv-loop μ-loop
 unfolding sumTo
 loop-holds c = (search needs, refl)
-
-diff-at-requires : tie.Need-diff-at-requires Inv-loop μ-loop
-diff-at-requires c κs = search needs
-
-add-i : tie.Need-add-i Inv-loop μ-loop
-add-i c = search needs
-
-loop-less : tie.Need-loop-less Inv-loop μ-loop
-loop-less c = search needs
 
 loop-again : tie.Need-loop-again Inv-loop μ-loop
 unfolding sumTo
@@ -47,4 +35,5 @@ returns c = let p = c .before .before .before .args in
 pub diff-squares-spec : {M : Type 1} → statement M
 diff-squares-spec =
     tie.close
-    (tie.spec Inv-loop μ-loop sub-m loop-holds diff-at-requires add-i loop-less loop-again returns)
+    (tie.spec Inv-loop μ-loop (λ c. search needs) loop-holds (λ c κs. search needs) (λ c. search needs)
+    (λ c. search needs) loop-again returns)

@@ -18,21 +18,9 @@ Inv-loop v k n sum₀ j₀ sum j = (j ≤ n) × (sum ≡ sumTo (λ i. at (diffKT
 abbrev μ-loop : tie.MeasureT-loop
 μ-loop v k n sum₀ j₀ sum j = n - j
 
-add-n : tie.Need-add-n Inv-loop μ-loop
-add-n c = search needs
-
 loop-holds : tie.Need-loop-holds Inv-loop μ-loop
 unfolding sumTo
 loop-holds c = (search needs, refl)
-
-diff-t-at-requires : tie.Need-diff-t-at-requires Inv-loop μ-loop
-diff-t-at-requires c κs = search needs
-
-add-j : tie.Need-add-j Inv-loop μ-loop
-add-j c = search needs
-
-loop-less : tie.Need-loop-less Inv-loop μ-loop
-loop-less c = search needs
 
 loop-again : tie.Need-loop-again Inv-loop μ-loop
 unfolding sumTo
@@ -47,13 +35,5 @@ returns c = let p = c .before .before .before .args in
 pub fall-squares-spec : {M : Type 1} → statement M
 fall-squares-spec =
     tie.close
-    (tie.spec
-    Inv-loop
-    μ-loop
-    add-n
-    loop-holds
-    diff-t-at-requires
-    add-j
-    loop-less
-    loop-again
-    returns)
+    (tie.spec Inv-loop μ-loop (λ c. search needs) loop-holds (λ c κs. search needs) (λ c. search needs)
+    (λ c. search needs) loop-again returns)

@@ -22,38 +22,8 @@ Inv-loop s₀ lam k n m i₀ s i = (i ≤ m) × Written n (n + i) (λ j. value l
 abbrev μ-loop : tie.MeasureT-loop
 μ-loop s₀ lam k n m i₀ s i = m - i
 
-sub-m : tie.Need-sub-m Inv-loop μ-loop
-sub-m c = search needs
-
 loop-holds : tie.Need-loop-holds Inv-loop μ-loop
 loop-holds c = (search needs, rw add-zero none)
-
-sub-diff-at : tie.Need-sub-diff-at Inv-loop μ-loop
-sub-diff-at c = search needs
-
-part-diff-at-start : tie.Need-part-diff-at-start Inv-loop μ-loop
-part-diff-at-start c = search needs
-
-part-diff-at-end : tie.Need-part-diff-at-end Inv-loop μ-loop
-part-diff-at-end c = search needs
-
-diff-at-requires : tie.Need-diff-at-requires Inv-loop μ-loop
-diff-at-requires c κs = search needs
-
-add-s : tie.Need-add-s Inv-loop μ-loop
-add-s c = search needs
-
-mul-s : tie.Need-mul-s Inv-loop μ-loop
-mul-s c = search needs
-
-slice-write-s : tie.Need-slice-write-s Inv-loop μ-loop
-slice-write-s c = search needs
-
-add-i : tie.Need-add-i Inv-loop μ-loop
-add-i c = search needs
-
-loop-less : tie.Need-loop-less Inv-loop μ-loop
-loop-less c = search needs
 
 loop-again : tie.Need-loop-again Inv-loop μ-loop
 loop-again c = let l = c .before .before .before .before in
@@ -68,9 +38,6 @@ loop-again c = let l = c .before .before .before .before in
     c .diff-at .ensures ∙ ap (λ (v : List Float). at (diffK (p .k) v) i) (g ∙ e) in
     (search needs, store-more n i (value (p .lam) (p .k) n (p .s .now)) (p .s .now) s (p .lam ⊗ c .diff-at .result) w (omega (arith, w .size)) (ap (λ (d : Float). p .lam ⊗ d) x))
 
-same-length : tie.Need-same-length Inv-loop μ-loop
-same-length c = search needs
-
 returns : tie.Need-returns Inv-loop μ-loop
 returns c = let p = c .before .before .before .args in
     let e : c .before .loop .i ≡ p .n - p .k = omega arith in
@@ -79,20 +46,6 @@ returns c = let p = c .before .before .before .args in
 pub scale-diff-spec : {M : Type 1} → statement M
 scale-diff-spec =
     tie.close
-    (tie.spec
-    Inv-loop
-    μ-loop
-    sub-m
-    loop-holds
-    sub-diff-at
-    part-diff-at-start
-    part-diff-at-end
-    diff-at-requires
-    add-s
-    mul-s
-    slice-write-s
-    add-i
-    loop-less
-    loop-again
-    same-length
-    returns)
+    (tie.spec Inv-loop μ-loop (λ c. search needs) loop-holds (λ c. search needs) (λ c. search needs)
+    (λ c. search needs) (λ c κs. search needs) (λ c. search needs) (λ c. search needs) (λ c. search needs)
+    (λ c. search needs) (λ c. search needs) loop-again (λ c. search needs) returns)

@@ -8,40 +8,15 @@ use Rattle.matrices.proofs.Filling.{laid-none, laid-done}
 use borrow.Author.Needs.{needs}
 use Rattle.matrices.proofs.ridge.fill_ridge.Statement.{statement}
 use Rattle.matrices.proofs.ridge.fill_ridge.Tie as tie
-use Rattle.matrices.proofs.ridge.fill_ridge.Reads as reads
-use Rattle.matrices.proofs.ridge.fill_ridge.Lts as lts
-use Rattle.matrices.proofs.ridge.repeat.Reads as repeat-reads
-use Rattle.matrices.proofs.ridge.ridge_rows.Reads as ridge-rows-reads
-
-add-w : tie.Need-add-w
-add-w c = search needs
-
-add-if1 : tie.Need-add-if1
-add-if1 c = search needs
-
-ridge-rows-requires : tie.Need-ridge-rows-requires
-ridge-rows-requires c κs = search needs
-
-same-length : tie.Need-same-length
-same-length c = search needs
 
 returns : tie.Need-returns
 returns c = let a = c .before .before .before .before .before .before .args in
     let size = c .before .before .ridge-rows .kept .0 in
     laid-done (c .before .before .ridge-rows .ensures (a .s .now) (laid-none (a .k) (ridge (a .k) (a .c) (a .lam) (a .n)) (a .s .now))) (omega arith)
 
-sub-m : tie.Need-sub-m
-sub-m c = search needs
-
-ridge-rows-requires-2 : tie.Need-ridge-rows-requires-2
-ridge-rows-requires-2 c κs = search needs
-
 mul-repeat : tie.Need-mul-repeat
 mul-repeat c = let a = c .before .before .before .before .before .before .before .args in
     omega (arith, rows-room (a .k + 1) (a .n - a .k) (a .n) (length (a .s .now)) (omega arith) (omega arith) (omega arith) (omega arith))
-
-sub-repeat : tie.Need-sub-repeat
-sub-repeat c = search needs
 
 mul-repeat-2 : tie.Need-mul-repeat-2
 mul-repeat-2 c = let a = c .before .before .before .before .before .before .before .args in
@@ -52,12 +27,6 @@ repeat-requires c κs = let a = c .before .before .before .before .before .befor
     let kept = c .before .before .before .ridge-rows2 .kept .0 in
     let f = rows-room (a .k + 1) (a .n - a .k) (a .n) (length (a .s .now)) (omega arith) (omega arith) (omega arith) (omega arith) in
     (omega arith, (f .0, omega arith))
-
-ridge-rows-requires-3 : tie.Need-ridge-rows-requires-3
-ridge-rows-requires-3 c κs = search needs
-
-same-length-2 : tie.Need-same-length-2
-same-length-2 c = search needs
 
 returns-2 : tie.Need-returns-2
 returns-2 c = let a = c .before .before .before .before .before .before .before .before .before .before .before .before .before .before .args in
@@ -76,18 +45,6 @@ returns-2 c = let a = c .before .before .before .before .before .before .before 
 pub fill-ridge-spec : {M : Type 1} → statement M
 fill-ridge-spec =
     tie.close
-    (tie.spec
-    add-w
-    add-if1
-    ridge-rows-requires
-    same-length
-    returns
-    sub-m
-    ridge-rows-requires-2
-    mul-repeat
-    sub-repeat
-    mul-repeat-2
-    repeat-requires
-    ridge-rows-requires-3
-    same-length-2
-    returns-2)
+    (tie.spec (λ c. search needs) (λ c. search needs) (λ c κs. search needs) (λ c. search needs) returns
+    (λ c. search needs) (λ c κs. search needs) mul-repeat (λ c. search needs) mul-repeat-2 repeat-requires
+    (λ c κs. search needs) (λ c. search needs) returns-2)

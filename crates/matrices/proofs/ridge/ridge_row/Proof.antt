@@ -10,18 +10,12 @@ use Rattle.matrices.specs.Ridge.{ridge}
 use borrow.Author.Needs.{needs}
 use Rattle.matrices.proofs.ridge.ridge_row.Statement.{statement}
 use Rattle.matrices.proofs.ridge.ridge_row.Tie as tie
-use Rattle.matrices.proofs.ridge.ridge_row.Reads as reads
-use Rattle.matrices.proofs.ridge.ridge_row.Lts as lts
-use Rattle.matrices.proofs.ridge.ridge_at.Reads as ridge-at-reads
 
 abbrev Inv-loop : tie.InvT-loop
 Inv-loop s₀ c lam k n i b p₀ s p = (p ≤ k + 1) × Written (i * (k + 1)) (i * (k + 1) + p) (λ j. ridge k c lam n i (j - i * (k + 1))) s₀ s
 
 abbrev μ-loop : tie.MeasureT-loop
 μ-loop s₀ c lam k n i b p₀ s p = k + 1 - p
-
-add-b : tie.Need-add-b Inv-loop μ-loop
-add-b c = search needs
 
 mul-b : tie.Need-mul-b Inv-loop μ-loop
 mul-b c = let a = c .before .args in
@@ -54,21 +48,12 @@ slice-write-s c = let a = c .before .before .before .before .args in
     let f = rows-fit (a .k) (a .i) (a .n) (length (a .s .now)) (omega arith) (omega arith) in
     omega (arith, one-row (a .k) (a .i))
 
-add-p : tie.Need-add-p Inv-loop μ-loop
-add-p c = search needs
-
-loop-less : tie.Need-loop-less Inv-loop μ-loop
-loop-less c = search needs
-
 loop-again : tie.Need-loop-again Inv-loop μ-loop
 loop-again c = let a = c .before .before .before .before .args in
     let l = c .before .before .loop in
     let size = l .inv .1 .size in
     let f = rows-fit (a .k) (a .i) (a .n) (length (a .s .now)) (omega arith) (omega arith) in
     (search needs, store-more (a .i * (a .k + 1)) (l .p) (ridge (a .k) (a .c) (a .lam) (a .n) (a .i)) (a .s .now) (l .s) _ (l .inv .1) (omega (arith, one-row (a .k) (a .i))) (c .ridge-at .ensures))
-
-same-length : tie.Need-same-length Inv-loop μ-loop
-same-length c = search needs
 
 returns : tie.Need-returns Inv-loop μ-loop
 returns c = let e : c .before .loop .p ≡ c .before .before .before .args .k + 1 = omega arith in
@@ -77,18 +62,5 @@ returns c = let e : c .before .loop .p ≡ c .before .before .before .args .k + 
 pub ridge-row-spec : {M : Type 1} → statement M
 ridge-row-spec =
     tie.close
-    (tie.spec
-    Inv-loop
-    μ-loop
-    add-b
-    mul-b
-    loop-holds
-    ridge-at-requires
-    add-s
-    mul-s
-    slice-write-s
-    add-p
-    loop-less
-    loop-again
-    same-length
-    returns)
+    (tie.spec Inv-loop μ-loop (λ c. search needs) mul-b loop-holds ridge-at-requires add-s mul-s slice-write-s
+    (λ c. search needs) (λ c. search needs) loop-again (λ c. search needs) returns)

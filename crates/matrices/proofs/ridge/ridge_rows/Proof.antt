@@ -10,9 +10,6 @@ use Rattle.matrices.proofs.Filling.{laid-more}
 use borrow.Author.Needs.{needs}
 use Rattle.matrices.proofs.ridge.ridge_rows.Statement.{statement}
 use Rattle.matrices.proofs.ridge.ridge_rows.Tie as tie
-use Rattle.matrices.proofs.ridge.ridge_rows.Reads as reads
-use Rattle.matrices.proofs.ridge.ridge_rows.Lts as lts
-use Rattle.matrices.proofs.ridge.ridge_row.Reads as ridge-row-reads
 
 abbrev Inv-loop : tie.InvT-loop
 Inv-loop s₀ c lam k n from to i₀ s i = (i ≤ to) × (length s ≡ length s₀) × ((v : List Float) → Laid k from (ridge k c lam n) v s₀ → Laid k i (ridge k c lam n) v s)
@@ -26,18 +23,9 @@ loop-holds c = (search needs, refl, λ v h. h)
 ridge-row-requires : tie.Need-ridge-row-requires Inv-loop μ-loop
 ridge-row-requires c κs = (omega arith, (omega arith, omega arith))
 
-add-i : tie.Need-add-i Inv-loop μ-loop
-add-i c = search needs
-
-loop-less : tie.Need-loop-less Inv-loop μ-loop
-loop-less c = search needs
-
 loop-again : tie.Need-loop-again Inv-loop μ-loop
 loop-again c = let l = c .before .before .before .before .before .loop in
     (search needs, c .before .before .ridge-row .ensures .size ∙ l .inv .1, λ v h. laid-more (l .inv .2 v h) (c .before .before .ridge-row .ensures))
-
-same-length : tie.Need-same-length Inv-loop μ-loop
-same-length c = search needs
 
 returns : tie.Need-returns Inv-loop μ-loop
 returns c = let e : c .before .loop .i ≡ c .before .before .before .args .to = omega arith in
@@ -46,13 +34,5 @@ returns c = let e : c .before .loop .i ≡ c .before .before .before .args .to =
 pub ridge-rows-spec : {M : Type 1} → statement M
 ridge-rows-spec =
     tie.close
-    (tie.spec
-    Inv-loop
-    μ-loop
-    loop-holds
-    ridge-row-requires
-    add-i
-    loop-less
-    loop-again
-    same-length
-    returns)
+    (tie.spec Inv-loop μ-loop loop-holds ridge-row-requires (λ c. search needs) (λ c. search needs) loop-again
+    (λ c. search needs) returns)

@@ -1,8 +1,6 @@
 use borrow.Author.Tests.{lt-ltb, le-ltb}
 use Rattle.matrices.proofs.ridge.start.Statement.{statement}
 use Rattle.matrices.proofs.ridge.start.Tie as tie
-use Rattle.matrices.proofs.ridge.start.Reads as reads
-use Rattle.matrices.proofs.ridge.start.Lts as lts
 
 -- src/ridge.rt:8:1
 returns : tie.Need-returns

@@ -21,40 +21,13 @@ abbrev μ-loop : tie.MeasureT-loop
 loop-holds : tie.Need-loop-holds Inv-loop μ-loop
 loop-holds c = (search needs, (search needs, (marks-none _ _ _, kept-none _ _ _)))
 
-mark-at-requires : tie.Need-mark-at-requires Inv-loop μ-loop
-mark-at-requires c κs = search needs
-
-add-marks : tie.Need-add-marks Inv-loop μ-loop
-add-marks c = search needs
-
-mul-marks : tie.Need-mul-marks Inv-loop μ-loop
-mul-marks c = search needs
-
-slice-write-marks : tie.Need-slice-write-marks Inv-loop μ-loop
-slice-write-marks c = search needs
-
-cast-marks : tie.Need-cast-marks Inv-loop μ-loop
-cast-marks c = search needs
-
-mul-marks-2 : tie.Need-mul-marks-2 Inv-loop μ-loop
-mul-marks-2 c = search needs
-
 slice-write-marks-2 : tie.Need-slice-write-marks-2 Inv-loop μ-loop
 slice-write-marks-2 c = let l = c .before .before .loop in
     let e : l .q < length (l .marks) = omega arith in
     simp length-set e
 
-one-if-free-requires : tie.Need-one-if-free-requires Inv-loop μ-loop
-one-if-free-requires c κs = search needs
-
 add-q : tie.Need-add-q Inv-loop μ-loop
 add-q c = omega (arith, c .one-if-free .ensures, one-le (isFree (holdOf (c .before .mark-at .result))))
-
-add-i : tie.Need-add-i Inv-loop μ-loop
-add-i c = search needs
-
-loop-less : tie.Need-loop-less Inv-loop μ-loop
-loop-less c = search needs
 
 loop-again : tie.Need-loop-again Inv-loop μ-loop
 loop-again c = let l = c .before .before .before .loop in
@@ -69,9 +42,6 @@ loop-again c = let l = c .before .before .before .loop in
       ),
     )
 
-same-length : tie.Need-same-length Inv-loop μ-loop
-same-length c = search needs
-
 returns : tie.Need-returns Inv-loop μ-loop
 returns c = let l = c .before .loop in
     let e : l .i ≡ c .before .before .before .before .args .m = omega arith in
@@ -80,21 +50,6 @@ returns c = let l = c .before .loop in
 pub mark-spec : {M : Type 1} → statement M
 mark-spec =
     tie.close
-    (tie.spec
-    Inv-loop
-    μ-loop
-    loop-holds
-    mark-at-requires
-    add-marks
-    mul-marks
-    slice-write-marks
-    cast-marks
-    mul-marks-2
-    slice-write-marks-2
-    one-if-free-requires
-    add-q
-    add-i
-    loop-less
-    loop-again
-    same-length
-    returns)
+    (tie.spec Inv-loop μ-loop loop-holds (λ c κs. search needs) (λ c. search needs) (λ c. search needs)
+    (λ c. search needs) (λ c. search needs) (λ c. search needs) slice-write-marks-2 (λ c κs. search needs) add-q
+    (λ c. search needs) (λ c. search needs) loop-again (λ c. search needs) returns)

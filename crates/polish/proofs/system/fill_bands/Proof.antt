@@ -25,12 +25,6 @@ fill-row-requires c κs = let a = c .before .before .before .before .before .arg
     let size = l .inv .1 .kept .size in
     (omega arith, (omega arith, rows-fit (a .k) (l .p) (a .q) _ (omega arith) (omega arith)))
 
-add-p : tie.Need-add-p Inv-loop μ-loop
-add-p c = search needs
-
-loop-less : tie.Need-loop-less Inv-loop μ-loop
-loop-less c = search needs
-
 loop-again : tie.Need-loop-again Inv-loop μ-loop
 loop-again c = (search needs, laid-more (c .before .before .before .before .before .loop .inv .1) (c .before .before .fill-row .ensures))
 
@@ -47,13 +41,5 @@ returns c = let a = c .before .before .before .before .args in
 pub fill-bands-spec : {M : Type 1} → statement M
 fill-bands-spec =
     tie.close
-    (tie.spec
-    Inv-loop
-    μ-loop
-    loop-holds
-    fill-row-requires
-    add-p
-    loop-less
-    loop-again
-    same-length
-    returns)
+    (tie.spec Inv-loop μ-loop loop-holds fill-row-requires (λ c. search needs) (λ c. search needs) loop-again
+    same-length returns)

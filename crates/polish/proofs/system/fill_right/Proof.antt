@@ -22,15 +22,6 @@ abbrev μ-loop : tie.MeasureT-loop
 loop-holds : tie.Need-loop-holds Inv-loop μ-loop
 loop-holds c = (search needs, rw add-zero none)
 
-mul-wide : tie.Need-mul-wide Inv-loop μ-loop
-mul-wide c = search needs
-
-shared-slice-read-wide : tie.Need-shared-slice-read-wide Inv-loop μ-loop
-shared-slice-read-wide c = search needs
-
-wide-requires : tie.Need-wide-requires Inv-loop μ-loop
-wide-requires c κs = search needs
-
 sub-right-at : tie.Need-sub-right-at Inv-loop μ-loop
 sub-right-at c = let l = c .before .before .before in
     omega (arith, l .before .before .before .before .pre .1 .1 .1 .1 .1 (l .loop .p) (omega arith))
@@ -41,21 +32,6 @@ right-at-requires c κs = let l = c .before .before .before in
     let f = s .pre .1 .1 .1 .1 .1 (l .loop .p) (omega arith) in
     (omega arith, (omega (arith, c .wide .ensures), (omega arith, omega arith)))
 
-add-s : tie.Need-add-s Inv-loop μ-loop
-add-s c = search needs
-
-mul-s : tie.Need-mul-s Inv-loop μ-loop
-mul-s c = search needs
-
-slice-write-s : tie.Need-slice-write-s Inv-loop μ-loop
-slice-write-s c = search needs
-
-add-p : tie.Need-add-p Inv-loop μ-loop
-add-p c = search needs
-
-loop-less : tie.Need-loop-less Inv-loop μ-loop
-loop-less c = search needs
-
 loop-again : tie.Need-loop-again Inv-loop μ-loop
 loop-again c = let l = c .before .before .before .before in
     let a = l .before .before .before .before .args in (
@@ -63,9 +39,6 @@ loop-again c = let l = c .before .before .before .before in
       store-more (a .b) (l .loop .p) (λ r. rightOf (a .k) (a .g) (a .dy .now) (a .lam) (heldBy (a .n) (a .marks .now)) (a .n - a .k) (getD (a .marks .now) r 0))
           (a .s .now) (l .loop .s) (c .right-at .result) (l .loop .inv .1) (omega arith) (c .right-at .ensures ∙ rw (c .before .wide .ensures)),
     )
-
-same-length : tie.Need-same-length Inv-loop μ-loop
-same-length c = search needs
 
 returns : tie.Need-returns Inv-loop μ-loop
 returns c = let l = c .before .loop in
@@ -77,20 +50,6 @@ returns c = let l = c .before .loop in
 pub fill-right-spec : {M : Type 1} → statement M
 fill-right-spec =
     tie.close
-    (tie.spec
-    Inv-loop
-    μ-loop
-    loop-holds
-    mul-wide
-    shared-slice-read-wide
-    wide-requires
-    sub-right-at
-    right-at-requires
-    add-s
-    mul-s
-    slice-write-s
-    add-p
-    loop-less
-    loop-again
-    same-length
-    returns)
+    (tie.spec Inv-loop μ-loop loop-holds (λ c. search needs) (λ c. search needs) (λ c κs. search needs) sub-right-at
+    right-at-requires (λ c. search needs) (λ c. search needs) (λ c. search needs) (λ c. search needs)
+    (λ c. search needs) loop-again (λ c. search needs) returns)

@@ -16,9 +16,6 @@ Inv-loop s₀ free g k p a c₀ s c = (c ≤ k + 1) × Written (p * (k + 1)) (p 
 abbrev μ-loop : tie.MeasureT-loop
 μ-loop s₀ free g k p a c₀ s c = k + 1 - c
 
-add-a : tie.Need-add-a Inv-loop μ-loop
-add-a c = search needs
-
 mul-a : tie.Need-mul-a Inv-loop μ-loop
 mul-a c = let a = c .before .before .args in
     omega (arith, one-row (a .k) (a .p))
@@ -34,19 +31,10 @@ add-s c = let a = c .before .before .before .before .before .args in
     let size = c .before .before .loop .inv .1 .size in
     omega (arith, one-row (a .k) (a .p))
 
-mul-s : tie.Need-mul-s Inv-loop μ-loop
-mul-s c = search needs
-
 slice-write-s : tie.Need-slice-write-s Inv-loop μ-loop
 slice-write-s c = let a = c .before .before .before .before .before .args in
     let size = c .before .before .loop .inv .1 .size in
     omega (arith, one-row (a .k) (a .p))
-
-add-c : tie.Need-add-c Inv-loop μ-loop
-add-c c = search needs
-
-loop-less : tie.Need-loop-less Inv-loop μ-loop
-loop-less c = search needs
 
 loop-again : tie.Need-loop-again Inv-loop μ-loop
 loop-again c = let a = c .before .before .before .before .before .args in
@@ -56,9 +44,6 @@ loop-again c = let a = c .before .before .before .before .before .args in
       store-more (a .p * (a .k + 1)) (l .c) (compressed (a .k) (a .g) (a .free .now) (a .p)) (a .s .now) (l .s) _ (l .inv .1) (omega (arith, one-row (a .k) (a .p))) (c .band-at .ensures),
     )
 
-same-length : tie.Need-same-length Inv-loop μ-loop
-same-length c = search needs
-
 returns : tie.Need-returns Inv-loop μ-loop
 returns c = let e : c .before .loop .c ≡ c .before .before .before .before .args .k + 1 = omega arith in
     rw e at (c .before .loop .inv .1)
@@ -66,18 +51,5 @@ returns c = let e : c .before .loop .c ≡ c .before .before .before .before .ar
 pub fill-row-spec : {M : Type 1} → statement M
 fill-row-spec =
     tie.close
-    (tie.spec
-    Inv-loop
-    μ-loop
-    add-a
-    mul-a
-    loop-holds
-    band-at-requires
-    add-s
-    mul-s
-    slice-write-s
-    add-c
-    loop-less
-    loop-again
-    same-length
-    returns)
+    (tie.spec Inv-loop μ-loop (λ c. search needs) mul-a loop-holds band-at-requires add-s (λ c. search needs)
+    slice-write-s (λ c. search needs) (λ c. search needs) loop-again (λ c. search needs) returns)

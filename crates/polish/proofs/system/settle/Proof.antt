@@ -9,27 +9,9 @@ use Rattle.polish.proofs.system.settle.Tie as tie
 returns : tie.Need-returns
 returns c = (λ f e. solved-none _ _ _ _ _ _ (c .if1 .taken), kept-none _ _ _)
 
-gram-offsets-requires : tie.Need-gram-offsets-requires
-gram-offsets-requires c κs = search needs
-
-add-b : tie.Need-add-b
-add-b c = search needs
-
-mul-b : tie.Need-mul-b
-mul-b c = search needs
-
-fill-bands-requires : tie.Need-fill-bands-requires
-fill-bands-requires c κs = search needs
-
 fill-right-requires : tie.Need-fill-right-requires
 fill-right-requires c κs = let f = c .before .before .before .before .before .before .before .before .before .before .pre .1 .1 .1 .1 .1 in
     (omega arith, (omega arith, (omega arith, (omega arith, (omega arith, f)))))
-
-factor-solve-requires : tie.Need-factor-solve-requires
-factor-solve-requires c κs = search needs
-
-same-length : tie.Need-same-length
-same-length c = search needs
 
 returns-2 : tie.Need-returns-2
 returns-2 c = let cf = c .before .before in
@@ -45,13 +27,5 @@ returns-2 c = let cf = c .before .before in
 pub settle-spec : {M : Type 1} → statement M
 settle-spec =
     tie.close
-    (tie.spec
-    returns
-    gram-offsets-requires
-    add-b
-    mul-b
-    fill-bands-requires
-    fill-right-requires
-    factor-solve-requires
-    same-length
-    returns-2)
+    (tie.spec returns (λ c κs. search needs) (λ c. search needs) (λ c. search needs) (λ c κs. search needs)
+    fill-right-requires (λ c κs. search needs) (λ c. search needs) returns-2)

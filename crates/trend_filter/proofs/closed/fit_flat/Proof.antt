@@ -19,33 +19,6 @@ use Rattle.trend_filter.proofs.Wrote.{wrote-as, wrote-over, flat-primal
 use Rattle.trend_filter.proofs.closed.fit_flat.Statement.{statement}
 use Rattle.trend_filter.proofs.closed.fit_flat.Tie as tie
 
-sub-m : tie.Need-sub-m
-sub-m c = search needs
-
-rows-end-requires : tie.Need-rows-end-requires
-rows-end-requires c κs = search needs
-
-sub-s : tie.Need-sub-s
-sub-s c = search needs
-
-add-e : tie.Need-add-e
-add-e c = search needs
-
-diff-into-requires : tie.Need-diff-into-requires
-diff-into-requires c κs = search needs
-
-mul-certify-l1 : tie.Need-mul-certify-l1
-mul-certify-l1 c = search needs
-
-sub-certify-l1 : tie.Need-sub-certify-l1
-sub-certify-l1 c = search needs
-
-part-certify-l1-start : tie.Need-part-certify-l1-start
-part-certify-l1-start c = search needs
-
-part-certify-l1-end : tie.Need-part-certify-l1-end
-part-certify-l1-end c = search needs
-
 certify-l1-requires : tie.Need-certify-l1-requires
 certify-l1-requires c κs = let q = c .before .before .before .before .before .before .before .before .before .before .before .before in
     let p = q .args in
@@ -63,36 +36,6 @@ certify-l1-requires c κs = let q = c .before .before .before .before .before .b
         ),
       ),
     )
-
-mul-write-out : tie.Need-mul-write-out
-mul-write-out c = search needs
-
-sub-write-out : tie.Need-sub-write-out
-sub-write-out c = search needs
-
-part-write-out-start : tie.Need-part-write-out-start
-part-write-out-start c = search needs
-
-part-write-out-end : tie.Need-part-write-out-end
-part-write-out-end c = search needs
-
-write-out-requires : tie.Need-write-out-requires
-write-out-requires c κs = search needs
-
-closed-requires : tie.Need-closed-requires
-closed-requires c κs = search needs
-
-same-length : tie.Need-same-length
-same-length c = search needs
-
-same-length-2 : tie.Need-same-length-2
-same-length-2 c = search needs
-
-same-length-3 : tie.Need-same-length-3
-same-length-3 c = search needs
-
-same-length-4 : tie.Need-same-length-4
-same-length-4 c = search needs
 
 returns : tie.Need-returns
 unfolding fitFlat certify
@@ -132,25 +75,8 @@ returns c = let q = c .before .before .before .before .before .before .before .b
 pub fit-flat-spec : {M : Type 1} → statement M
 fit-flat-spec =
     tie.close
-    (tie.spec
-    sub-m
-    rows-end-requires
-    sub-s
-    add-e
-    diff-into-requires
-    mul-certify-l1
-    sub-certify-l1
-    part-certify-l1-start
-    part-certify-l1-end
-    certify-l1-requires
-    mul-write-out
-    sub-write-out
-    part-write-out-start
-    part-write-out-end
-    write-out-requires
-    closed-requires
-    same-length
-    same-length-2
-    same-length-3
-    same-length-4
-    returns)
+    (tie.spec (λ c. search needs) (λ c κs. search needs) (λ c. search needs) (λ c. search needs)
+    (λ c κs. search needs) (λ c. search needs) (λ c. search needs) (λ c. search needs) (λ c. search needs)
+    certify-l1-requires (λ c. search needs) (λ c. search needs) (λ c. search needs) (λ c. search needs)
+    (λ c κs. search needs) (λ c κs. search needs) (λ c. search needs) (λ c. search needs) (λ c. search needs)
+    (λ c. search needs) returns)

@@ -7,21 +7,6 @@ use Rattle.trend_filter.proofs.Laws.{closed-shows}
 use Rattle.trend_filter.proofs.closed.fit_zero.Statement.{statement}
 use Rattle.trend_filter.proofs.closed.fit_zero.Tie as tie
 
-write-out-requires : tie.Need-write-out-requires
-write-out-requires c κs = search needs
-
-closed-requires : tie.Need-closed-requires
-closed-requires c κs = search needs
-
-same-length : tie.Need-same-length
-same-length c = search needs
-
-same-length-2 : tie.Need-same-length-2
-same-length-2 c = search needs
-
-same-length-3 : tie.Need-same-length-3
-same-length-3 c = search needs
-
 returns : tie.Need-returns
 unfolding fitZero
 returns c = λ lam tol limit penalty.
@@ -32,4 +17,5 @@ returns c = λ lam tol limit penalty.
 pub fit-zero-spec : {M : Type 1} → statement M
 fit-zero-spec =
     tie.close
-    (tie.spec write-out-requires closed-requires same-length same-length-2 same-length-3 returns)
+    (tie.spec (λ c κs. search needs) (λ c κs. search needs) (λ c. search needs) (λ c. search needs)
+    (λ c. search needs) returns)

@@ -6,9 +6,6 @@ use native.Mathlib.Omega.{arith}
 use Rattle.trend_filter.proofs.closed.rows_end.Statement.{statement}
 use Rattle.trend_filter.proofs.closed.rows_end.Tie as tie
 
-add-result : tie.Need-add-result
-add-result c = search needs
-
 mul-result : tie.Need-mul-result
 mul-result c = let q = c in
     let p = q .args in
@@ -23,4 +20,4 @@ returns c = let q = c in
     (refl, (omega arith, omega arith))
 
 pub rows-end-spec : {M : Type 1} → statement M
-rows-end-spec = tie.close (tie.spec add-result mul-result returns)
+rows-end-spec = tie.close (tie.spec (λ c. search needs) mul-result returns)

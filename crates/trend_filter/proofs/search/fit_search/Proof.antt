@@ -13,9 +13,6 @@ use Rattle.trend_filter.proofs.Won.{length-either, search-shows}
 use Rattle.trend_filter.proofs.search.fit_search.Statement.{statement}
 use Rattle.trend_filter.proofs.search.fit_search.Tie as tie
 
-diff-into-requires : tie.Need-diff-into-requires
-diff-into-requires c κs = search needs
-
 search-polish-requires : tie.Need-search-polish-requires
 search-polish-requires c κs = let q = c .before .before .before .before .before .before .before .before .before .before .before .before .before in
     let p = q .args in
@@ -40,9 +37,6 @@ search-polish-requires c κs = let q = c .before .before .before .before .before
       ),
     )
 
-winner-requires : tie.Need-winner-requires
-winner-requires c κs = search needs
-
 write-out-requires : tie.Need-write-out-requires
 write-out-requires c κs = let q = c .before .before .before .before .before .before .before .before .before .before .before .before .before .before .before .before .before .before .before .before .before .before .before in
     let p = q .args in
@@ -54,23 +48,8 @@ write-out-requires c κs = let q = c .before .before .before .before .before .be
       ap length (wi .ensures) ∙ length-either (c .before .before .before .before .before .before .before .before .before .search-polish .result .second) n w,
     )
 
-searched-requires : tie.Need-searched-requires
-searched-requires c κs = search needs
-
-same-length : tie.Need-same-length
-same-length c = search needs
-
 same-length-2 : tie.Need-same-length-2
 same-length-2 c = c .before .before .before .before .before .before .before .write-out .kept .1 .0 ∙ c .before .before .before .before .before .before .before .before .before .before .before .before .before .before .before .before .before .before .before .before .before .before .before .diff-into .kept .0
-
-same-length-3 : tie.Need-same-length-3
-same-length-3 c = search needs
-
-same-length-4 : tie.Need-same-length-4
-same-length-4 c = search needs
-
-same-length-5 : tie.Need-same-length-5
-same-length-5 c = search needs
 
 returns : tie.Need-returns
 returns c = let q = c .before .before .before .before .before .before .before .before .before .before .before .before .before .before .before .before .before .before .before .before .before .before .before .before .before .before .before .before .before .before .before in
@@ -95,15 +74,6 @@ returns c = let q = c .before .before .before .before .before .before .before .b
 pub fit-search-spec : {M : Type 1} → statement M
 fit-search-spec =
     tie.close
-    (tie.spec
-    diff-into-requires
-    search-polish-requires
-    winner-requires
-    write-out-requires
-    searched-requires
-    same-length
-    same-length-2
-    same-length-3
-    same-length-4
-    same-length-5
-    returns)
+    (tie.spec (λ c κs. search needs) search-polish-requires (λ c κs. search needs) write-out-requires
+    (λ c κs. search needs) (λ c. search needs) same-length-2 (λ c. search needs) (λ c. search needs)
+    (λ c. search needs) returns)

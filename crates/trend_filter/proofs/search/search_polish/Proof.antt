@@ -21,28 +21,10 @@ use Rattle.trend_filter.proofs.Won.{kept-of}
 use Rattle.trend_filter.proofs.search.search_polish.Statement.{statement}
 use Rattle.trend_filter.proofs.search.search_polish.Tie as tie
 
-ipm-l1-requires : tie.Need-ipm-l1-requires
-ipm-l1-requires c κs = search needs
-
 polish-l1-requires : tie.Need-polish-l1-requires
 polish-l1-requires c κs = let q = c .before .before .before .before .before .before .before .before .before .before in
     let h = q .pre in
     (h .0, (h .1 .0, (h .1 .1 .0, (h .1 .1 .1 .0, (omega (arith, h .1 .1 .1 .1 .0, c .before .before .before .before .ipm-l1 .ensures .kept .size), (h .1 .1 .1 .1 .1 .0, h .1 .1 .1 .1 .1 .1))))))
-
-won-requires : tie.Need-won-requires
-won-requires c κs = search needs
-
-pick-requires : tie.Need-pick-requires
-pick-requires c κs = search needs
-
-pick-requires-2 : tie.Need-pick-requires-2
-pick-requires-2 c κs = search needs
-
-same-length : tie.Need-same-length
-same-length c = search needs
-
-same-length-2 : tie.Need-same-length-2
-same-length-2 c = search needs
 
 returns : tie.Need-returns
 unfolding searchOf keptOf firstGap
@@ -82,12 +64,5 @@ returns c = let q = c .before .before .before .before .before .before .before .b
 pub search-polish-spec : {M : Type 1} → statement M
 search-polish-spec =
     tie.close
-    (tie.spec
-    ipm-l1-requires
-    polish-l1-requires
-    won-requires
-    pick-requires
-    pick-requires-2
-    same-length
-    same-length-2
-    returns)
+    (tie.spec (λ c κs. search needs) polish-l1-requires (λ c κs. search needs) (λ c κs. search needs)
+    (λ c κs. search needs) (λ c. search needs) (λ c. search needs) returns)
