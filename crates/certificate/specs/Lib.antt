@@ -1,4 +1,3 @@
 -- The definitions that the contracts of certificate cite.
 pub mod Certificate
-pub mod Knots
 pub mod Run

@@ -1,15 +1,13 @@
-// The certificate of a dual point, and what is read off a trend: its cycle and its knots.
-pub mod knots;
-
+// The certificate of a dual point.
 ghost use mathlib.Core.Path.{_≡_};
 ghost use Prim.Native.Nat.{_≤_, _<_, _-_, _+_};
 ghost use lib.ListN.{length, take};
 ghost use lib.Ieee.{neg};
 ghost use Rattle.float64.specs.Ops.{_⊕_, _⊗_, half};
-ghost use Rattle.vectors.specs.Vec.{at, put, part, Kept};
+ghost use Rattle.vectors.specs.Vec.{at, part, Kept};
 ghost use Rattle.vectors.specs.Sums.{norm2Sq, dot, sumAbs};
 ghost use Rattle.differences.specs.Diff.{before, here, fall, diffK, diffKT};
-ghost use Rattle.certificate.specs.Certificate.{minus, clamped};
+ghost use Rattle.certificate.specs.Certificate.{clamped};
 ghost use Rattle.certificate.specs.Run.{Trend, Certified};
 
 // P and G.
@@ -159,17 +157,5 @@ pub fn certify_l1(s: &mut [f64], y: &[f64], dy: &[f64], lam: f64, k: usize) -> P
     Pair {
         primal: primal,
         dual: dual,
-    }
-}
-
-// The first places of c become y - x.
-pub fn minus_into(c: &mut [f64], y: &[f64], x: &[f64])
-    requires { ⌜ (length (now y) ≤ length (now x)) × (length (now y) ≤ length (now c)) ⌝ }
-    ensures { λ _. ⌜ now (c .exit) ≡ put (now (c .entry)) 0 (minus (now (y .entry)) (now (x .entry))) ⌝ }
-{
-    let mut i = 0;
-    while i < y.len() {
-        c[i] = y[i] - x[i];
-        i += 1;
     }
 }

@@ -9,12 +9,12 @@ use lib.Dec.{T, eqb, eqb→eq}
 use lib.Ieee.{Float}
 use Rattle.differences.specs.Diff.{gramRow}
 use Rattle.certificate.specs.Certificate.{Certificate}
-use Rattle.step_bound.specs.Search.{Problem, Ended, small}
-use Rattle.step_bound.specs.Demand3 as search
-use Rattle.step_bound.proofs.Demand.{demand3, kept-closed}
+use Rattle.search.specs.Search.{Problem, Ended, small}
+use Rattle.search.specs.Demand3 as search
+use Rattle.search.proofs.Demand.{demand3, kept-closed}
 use Rattle.interior_point.specs.InteriorPoint.{State, problem, origin, interiorPoint}
 use Rattle.l2.specs.L2.{soundL2}
-use Rattle.fit.specs.Questions.{Asked, Lent, question}
+use Rattle.questions.specs.Questions.{Asked, Lent, question}
 use Rattle.fit.specs.Fit.{Fit, Outcome, refused, fitted, places, closed, fitL2, fitZero, fitFlat, polished, searchOf, keptOf, firstGap, fitWith, fitEnd, lamZero, lamHigh, fitL1, fitBy, soundDD, fit}
 use Rattle.fit.specs.Demand3.{Bounds, withLimit, Demand3}
 use Rattle.fit.proofs.Sign.{lam-positive, primal-clear}

@@ -2,22 +2,25 @@
 use mathlib.Core.Path.{refl}
 use lib.Ieee.{ofBits, ofInt, add, sub, mul, div, neg, lt, le, eq, isNan}
 use Rattle.float64.specs.Helpers.{absOf, isFinite, maxOf, minOf, clampOf}
-use Rattle.float64.specs.Sqrt.{isqrtOf, isqrt, nearestRoot, sqrtOf}
+use Rattle.square_root.specs.Sqrt.{isqrtOf, isqrt, nearestRoot, sqrtOf}
 use Rattle.vectors.specs.Vec.{list}
 use Rattle.vectors.specs.Sums.{sumTo, maxTo, norm2Sq, dot, sumAbs, maxAbs, insideTo}
 use Rattle.differences.specs.Diff.{diff, diffK, diffT, diffKT}
 use Rattle.banded.specs.Rows.{less, taken, rest, entry, rowTo, row, rows, sound}
 use Rattle.banded.specs.Solve.{forwardAt, forward, divided, backAt, back, solve}
-use Rattle.matrices.specs.Gram.{gram, more, product, zstar, lamMax}
-use Rattle.matrices.specs.Ridge.{ridge}
+use Rattle.gram.specs.Gram.{gram, product, zstar, lamMax}
+use Rattle.vectors.specs.Sums.{more}
+use Rattle.ridge.specs.Ridge.{ridge}
 use Rattle.certificate.specs.Certificate.{minus, clamped, certify}
-use Rattle.certificate.specs.Knots.{threshold, aboveTo, knots}
-use Rattle.step_bound.specs.Search.{iterate, run}
-use Rattle.newton.specs.Newton.{barrier, rightAt, dmu1At, dmu2At, squareAt, capped, system, right, direction, squares, norm, capTo, stepped, along, accepted, trials, newtonZ, searchLine}
+use Rattle.decomposition.specs.Knots.{threshold, aboveTo, knots}
+use Rattle.search.specs.Search.{iterate, run}
+use Rattle.newton_system.specs.Newton.{barrier, rightAt, squareAt, system, right, squares, norm, newtonZ}
+use Rattle.line_search.specs.LineSearch.{dmu1At, dmu2At, capped, direction, capTo, stepped, along, accepted, trials, searchLine}
 use Rattle.interior_point.specs.InteriorPoint.{nextT, move, problem, origin, interiorPoint}
-use Rattle.polish.specs.Polish.{holdAt, freeTo, compressed, lessTo, rightOf, solved, candidateAt, candidate, polish}
+use Rattle.active_set.specs.ActiveSet.{holdAt, freeTo, compressed, lessTo, rightOf, solved}
+use Rattle.polish.specs.Polish.{candidateAt, candidate, polish}
 use Rattle.l2.specs.L2.{soundL2, trendL2, scaled, objectiveL2, dualL2, gapL2}
-use Rattle.fit.specs.Questions.{finiteTo, question}
+use Rattle.questions.specs.Questions.{finiteTo, question}
 use Rattle.fit.specs.Fit.{closed, fitL2, fitZero, fitFlat, polished, searchOf, keptOf, firstGap, fitEnd, fitL1, fitBy, fit}
 use Rattle.fit.specs.Known.{Known}
 use Rattle.fit.proofs.Passed.{on, size-passes, size-refused}

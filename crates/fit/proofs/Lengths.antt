@@ -15,12 +15,12 @@ use Rattle.banded.proofs.Elimination.{length-forward}
 use Rattle.substitution.proofs.Laws.{length-divided, length-back}
 use Rattle.certificate.specs.Certificate.{Certificate, certify}
 use Rattle.certificate.proofs.Laws.{length-minus}
-use Rattle.certificate.proofs.Above.{above-few}
-use Rattle.certificate.specs.Knots.{knots}
-use Rattle.step_bound.specs.Search.{Ended}
+use Rattle.decomposition.proofs.Above.{above-few}
+use Rattle.decomposition.specs.Knots.{knots}
+use Rattle.search.specs.Search.{Ended}
 use Rattle.interior_point.specs.InteriorPoint.{State}
 use Rattle.l2.specs.L2.{soundL2, trendL2}
-use Rattle.fit.specs.Questions.{Asked, Lent}
+use Rattle.questions.specs.Questions.{Asked, Lent}
 use Rattle.fit.specs.Fit.{Fit, Outcome, refused, fitted, places, closed, fitL2, fitZero, fitFlat, better, polished, searchOf, keptOf, fitEnd, lamZero, lamHigh, fitL1, fitBy, fit}
 use Rattle.fit.proofs.Passed.{passed}
 

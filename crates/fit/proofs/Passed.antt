@@ -10,7 +10,7 @@ use lib.Ieee.Fits.{eq→eqb}
 use lib.Ieee.Positive.{positive}
 use Rattle.float64.specs.Helpers.{isFinite}
 use Rattle.float64.specs.Ops.{c0}
-use Rattle.fit.specs.Questions.{Asked, Lent, oneOrTwo, no-1, no-2, no-3, no-4, no-5, no-6, no-7, no-8, no-9, question}
+use Rattle.questions.specs.Questions.{Asked, Lent, oneOrTwo, no-1, no-2, no-3, no-4, no-5, no-6, no-7, no-8, no-9, question}
 use Rattle.l2.specs.L2.{soundL2}
 use Rattle.fit.specs.Fit.{Fit, Outcome, refused, fitted, soundDD, fitL2, fitL1, fitBy, fit}
 use Rattle.fit.specs.Demand3.{withLimit}

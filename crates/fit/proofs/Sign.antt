@@ -15,8 +15,8 @@ use Rattle.vectors.specs.Vec.{at}
 use Rattle.vectors.specs.Sums.{sumTo, norm2Sq, sumAbs}
 use Rattle.differences.specs.Diff.{diffK, diffKT}
 use Rattle.certificate.specs.Certificate.{minus, certify}
-use Rattle.step_bound.specs.Demand3.{clear}
-use Rattle.step_bound.proofs.Clear.{add-clear, mul-clear, square-clear, awake}
+use Rattle.search.specs.Demand3.{clear}
+use Rattle.search.proofs.Clear.{add-clear, mul-clear, square-clear, awake}
 use Rattle.interior_point.specs.InteriorPoint.{State, problem}
 
 first-pos : (m u d : ℕ) → 0 < m * u * d → 0 < m

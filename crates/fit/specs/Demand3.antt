@@ -1,5 +1,5 @@
 -- Demand 3, clause by clause, of the whole fit (`Rattle.fit.proofs.Demand3` proves it).
--- The search counts the iterations and the improvements (`Rattle.step_bound.specs.Search`): the best gap starts as the first gap, and an iteration is an
+-- The search counts the iterations and the improvements (`Rattle.search.specs.Search`): the best gap starts as the first gap, and an iteration is an
 -- improvement when its gap is below 0.99 times the best gap, the product rounded; then its gap becomes the best.
 use Prim.Native.Nat.{ℕ, _+_, _*_, _^_, _≤_, _<_}
 use mathlib.Core.Path.{_≡_}
@@ -7,8 +7,8 @@ use lib.IntN.{pos, _*ℤ_}
 use lib.Signed.{_≤ℤ_}
 use lib.Dec.{T}
 use lib.Ieee.Scale.{finite}
-use Rattle.step_bound.specs.Demand3.{units}
-use Rattle.fit.specs.Questions.{Asked, Lent}
+use Rattle.search.specs.Demand3.{units}
+use Rattle.questions.specs.Questions.{Asked, Lent}
 use Rattle.fit.specs.Fit.{Fit, fitted, fit}
 
 -- the numeric bounds on a fit with the step limit max_iter, J its improvements

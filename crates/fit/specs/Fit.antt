@@ -10,14 +10,14 @@ use Rattle.float64.specs.Helpers.{isFinite}
 use Rattle.float64.specs.Ops.{_⊗_, c0}
 use Rattle.differences.specs.Diff.{diffK, gramRow}
 use Rattle.banded.specs.Rows.{sound}
-use Rattle.matrices.specs.Gram.{gram, zstar, lamMax}
+use Rattle.gram.specs.Gram.{gram, zstar, lamMax}
 use Rattle.certificate.specs.Certificate.{Certificate, certify, gapOf, minus}
-use Rattle.certificate.specs.Knots.{knots}
-use Rattle.step_bound.specs.Search.{Ended}
+use Rattle.decomposition.specs.Knots.{knots}
+use Rattle.search.specs.Search.{Ended}
 use Rattle.interior_point.specs.InteriorPoint.{State, origin, interiorPoint}
 use Rattle.polish.specs.Polish.{polish}
 use Rattle.l2.specs.L2.{soundL2, trendL2, objectiveL2, gapL2}
-use Rattle.fit.specs.Questions.{Asked, Lent, question}
+use Rattle.questions.specs.Questions.{Asked, Lent, question}
 
 -- a fit: every place that it writes outside work and marks, and all its numbers
 pub record Fit : Type 0 where

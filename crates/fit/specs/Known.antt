@@ -7,8 +7,8 @@ use lib.IntN.{pos}
 use lib.Dec.{T}
 use lib.ListN.{length}
 use lib.Ieee.{Float, binary64, neg, nan, ofBits, ofInt}
-use Rattle.float64.specs.Sqrt.{sqrtOf}
-use Rattle.fit.specs.Questions.{Asked, Lent, oneOrTwo}
+use Rattle.square_root.specs.Sqrt.{sqrtOf}
+use Rattle.questions.specs.Questions.{Asked, Lent, oneOrTwo}
 use Rattle.fit.specs.Fit.{Outcome, refused, fitted, fit}
 
 -- what is asked and lent, and what comes of it

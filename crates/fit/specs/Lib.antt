@@ -1,5 +1,4 @@
 -- The whole fit, from what is asked and lent to its outcome.
-pub mod Questions
 pub mod Fit
 pub mod Known
 pub mod Demand3

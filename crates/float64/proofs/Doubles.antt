@@ -13,7 +13,7 @@ use lib.Ieee.Exact.{HasValue, round-exact}
 use lib.Ieee.Fits.{and-l, and-r, down-pos, round-fits}
 use lib.Ieee.Nearest.{div-same}
 use lib.Ieee.Bits.{ofBits-toBits}
-use Rattle.float64.specs.Nearest.{inUnits, inSquares, hasMinus}
+use Rattle.float64.specs.Units.{inUnits, inSquares, hasMinus}
 use Rattle.float64.specs.Helpers.{isFinite}
 
 -- ---- the doubles, in units

@@ -1,5 +1,4 @@
+-- The definitions that the contracts of float64 cite.
 pub mod Ops
 pub mod Helpers
-pub mod Sqrt
-pub mod Parts
-pub mod Nearest
+pub mod Units

@@ -14,8 +14,9 @@ use Rattle.vectors.proofs.Parts.{putBack, getD-put, kept-put, part-put, partOf-
 use Rattle.differences.specs.Diff.{diffK}
 use Rattle.differences.proofs.Laws.{length-diffK}
 use Rattle.banded.specs.Rows.{sound}
-use Rattle.newton.specs.Newton.{system, searchLine, taken}
-use Rattle.newton.specs.Places.{point}
+use Rattle.newton_system.specs.Newton.{system}
+use Rattle.line_search.specs.LineSearch.{searchLine, taken}
+use Rattle.dual_point.specs.Places.{point}
 use Rattle.newton_step.specs.Stepped.{stepOf, Stepped}
 use Rattle.newton_step.specs.declared.Step.{Step}
 

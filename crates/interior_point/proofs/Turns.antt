@@ -16,11 +16,13 @@ use Rattle.vectors.proofs.Parts.{length-part, part-below, part-above}
 use Rattle.differences.specs.Diff.{diffK, gramRow}
 use Rattle.banded.specs.Rows.{sound}
 use Rattle.certificate.specs.Certificate.{certify, gapOf}
-use Rattle.step_bound.specs.Search.{Turn, lost, moved, Problem, Point, Ended, Reason, small, spent, stalled, pivot, ended, enough, better, advance, mark, start, run}
-use Rattle.step_bound.proofs.Trace.{run-small, run-spent, run-stalled, run-lost, run-moved, idle-room}
-use Rattle.newton.specs.Newton.{Dual, system, searchLine, taken}
-use Rattle.newton.specs.Places.{point}
-use Rattle.newton.proofs.Lines.{point-above}
+use Rattle.search.specs.Search.{Turn, lost, moved, Problem, Point, Ended, Reason, small, spent, stalled, pivot, ended, enough, better, advance, mark, start, run}
+use Rattle.search.proofs.Trace.{run-small, run-spent, run-stalled, run-lost, run-moved, idle-room}
+use Rattle.dual_point.specs.Dual.{Dual}
+use Rattle.newton_system.specs.Newton.{system}
+use Rattle.line_search.specs.LineSearch.{searchLine, taken}
+use Rattle.dual_point.specs.Places.{point}
+use Rattle.dual_point.proofs.Points.{point-above}
 use Rattle.newton_step.specs.Stepped.{stepOf, Stepped}
 use Rattle.newton_step.specs.declared.Step.{Step}
 use Rattle.newton_step.specs.declared.Step.the-variants.{Lost, Moved}

@@ -10,8 +10,8 @@ use Rattle.float64.specs.Ops.{_⊖_, _⊗_}
 use Rattle.vectors.specs.Vec.{part, Kept}
 use Rattle.differences.specs.Diff.{gramRow}
 use Rattle.certificate.specs.Certificate.{Certificate, certify, gapOf}
-use Rattle.step_bound.specs.Search.{Problem, Point, Ended, ended, pivot, mark, run}
-use Rattle.newton.specs.Places.{point}
+use Rattle.search.specs.Search.{Problem, Point, Ended, ended, pivot, mark, run}
+use Rattle.dual_point.specs.Places.{point}
 use Rattle.interior_point.specs.InteriorPoint.{State, problem, origin, interiorPoint}
 use Rattle.interior_point.specs.declared.Run.{Run}
 

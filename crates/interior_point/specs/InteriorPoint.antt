@@ -11,8 +11,10 @@ use Rattle.vectors.specs.Vec.{list}
 use Rattle.differences.specs.Diff.{diffK}
 use Rattle.banded.specs.Rows.{sound}
 use Rattle.certificate.specs.Certificate.{certify, gapOf}
-use Rattle.step_bound.specs.Search.{Turn, lost, moved, Problem, Ended, searched}
-use Rattle.newton.specs.Newton.{Dual, Trial, system, searchLine, taken}
+use Rattle.search.specs.Search.{Turn, lost, moved, Problem, Ended, searched}
+use Rattle.dual_point.specs.Dual.{Dual}
+use Rattle.newton_system.specs.Newton.{system}
+use Rattle.line_search.specs.LineSearch.{Trial, searchLine, taken}
 
 pub record State : Type 0 where
   pub point : Dual

@@ -14,7 +14,7 @@ use Rattle.differences.specs.Diff.{stencil}
 use Rattle.banded.specs.Rows.{Matrix, rows, sound, matrix, concat}
 use Rattle.banded.specs.Solve.{solve}
 use Rattle.banded.proofs.Laws.{kept-after}
-use Rattle.matrices.specs.Ridge.{ridge}
+use Rattle.ridge.specs.Ridge.{ridge}
 use Rattle.l2.specs.L2.{soundL2, trendL2}
 use Rattle.l2.specs.Solved.{SolvedL2}
 

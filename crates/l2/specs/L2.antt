@@ -10,7 +10,7 @@ use Rattle.vectors.specs.Sums.{norm2Sq, dot}
 use Rattle.differences.specs.Diff.{diffK, diffKT, stencil}
 use Rattle.banded.specs.Rows.{Matrix, rows, sound}
 use Rattle.banded.specs.Solve.{solve}
-use Rattle.matrices.specs.Ridge.{ridge}
+use Rattle.ridge.specs.Ridge.{ridge}
 use Rattle.certificate.specs.Certificate.{minus}
 
 -- I + lam·D'D

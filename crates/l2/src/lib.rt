@@ -15,7 +15,7 @@ pub fn solve_l2(s: &mut [f64], y: &[f64], lam: f64, k: usize) -> bool
 {
     let n = y.len();
     let c = differences::stencil(k);
-    matrices::ridge::fill_ridge(s, c, lam, k, n);
+    ridge::fill_ridge(s, c, lam, k, n);
     let b = n * (k + 1);
     let e = b + n;
     vectors::copy(&mut s[b..e], y);

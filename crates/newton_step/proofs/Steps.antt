@@ -9,11 +9,14 @@ use Rattle.vectors.specs.Vec.{at, part, Kept, Written}
 use Rattle.vectors.proofs.Laws.{kept-then, kept-none}
 use Rattle.vectors.proofs.Parts.{length-part, partOf-ext}
 use Rattle.banded.specs.Rows.{sound}
-use Rattle.float64.specs.Sqrt.{sqrtOf}
-use Rattle.newton.specs.Newton.{Dual, Trial, system, newtonZ, direction, capTo, squares, norm, trials, searchLine, taken}
+use Rattle.square_root.specs.Sqrt.{sqrtOf}
+use Rattle.dual_point.specs.Dual.{Dual}
+use Rattle.newton_system.specs.Newton.{system, newtonZ, squares, norm}
+use Rattle.line_search.specs.LineSearch.{Trial, direction, capTo, trials, searchLine, taken}
 use Rattle.vectors.specs.Sums.{inside}
-use Rattle.newton.specs.Places.{point, Searched}
-use Rattle.newton.proofs.Lines.{point-below}
+use Rattle.dual_point.specs.Places.{point}
+use Rattle.line_search.specs.Places.{Searched}
+use Rattle.dual_point.proofs.Points.{point-below}
 use Rattle.newton_step.specs.Stepped.{Stepped}
 use Rattle.newton_step.specs.declared.Step.the-variants.{Lost, Moved}
 

@@ -6,8 +6,9 @@ use Prim.Native.Nat.{ℕ, _+_, _*_}
 use lib.Ieee.{Float}
 use Rattle.vectors.specs.Vec.{Kept}
 use Rattle.banded.specs.Rows.{sound}
-use Rattle.newton.specs.Newton.{system, searchLine, taken}
-use Rattle.newton.specs.Places.{point}
+use Rattle.newton_system.specs.Newton.{system}
+use Rattle.line_search.specs.LineSearch.{searchLine, taken}
+use Rattle.dual_point.specs.Places.{point}
 use Rattle.newton_step.specs.declared.Step.{Step}
 use Rattle.newton_step.specs.declared.Step.the-variants.{Lost, Moved}
 

@@ -4,7 +4,7 @@ ghost use mathlib.Core.Bool.{cond};
 ghost use Prim.Native.Nat.{_≤_, _+_, _*_};
 ghost use lib.ListN.{length};
 ghost use Rattle.vectors.specs.Vec.{Kept};
-ghost use Rattle.newton.specs.Places.{point};
+ghost use Rattle.dual_point.specs.Places.{point};
 ghost use Rattle.newton_step.specs.Stepped.{Stepped};
 
 // One Newton step: a pivot was bad, or the point was moved with this step.
@@ -49,9 +49,9 @@ pub fn newton_step(
     if !w.good {
         return Step::Lost;
     }
-    let cap = newton::directions(s, b, lam, u, m);
-    let norm = float64::sqrt(w.acc);
-    let t = newton::line_search(s, b, dy, lam, u, g, k, m, cap, norm);
+    let cap = line_search::directions(s, b, lam, u, m);
+    let norm = square_root::sqrt(w.acc);
+    let t = line_search::line_search(s, b, dy, lam, u, g, k, m, cap, norm);
     take_trial(s, m, t.inside);
     Step::Moved(t.step)
 }

@@ -22,10 +22,12 @@ use Rattle.banded.specs.Run.{flat, Shape, Eliminated}
 use Rattle.banded.proofs.Laws.{one-row, shape-rows, of-holds, stands-part}
 use Rattle.banded.proofs.Elimination.{Reached, reached-none, reached-kept, reached-more, reached-bad, length-forward}
 use Rattle.substitution.proofs.Laws.{solve-is}
-use Rattle.matrices.specs.Gram.{product}
-use Rattle.newton.specs.Newton.{Dual, rightAt, squareOf, squares, system, right, newtonZ}
-use Rattle.newton.specs.Places.{point}
-use Rattle.newton.proofs.Lines.{point-below, system-band}
+use Rattle.gram.specs.Gram.{product}
+use Rattle.dual_point.specs.Dual.{Dual}
+use Rattle.newton_system.specs.Newton.{rightAt, squareOf, squares, system, right, newtonZ}
+use Rattle.dual_point.specs.Places.{point}
+use Rattle.dual_point.proofs.Points.{point-below}
+use Rattle.newton_system.proofs.Places.{system-band}
 use Rattle.newton_system.specs.Rows.{Put, Swept}
 
 -- ---- the right side at a place

@@ -9,8 +9,8 @@ use Rattle.vectors.specs.Vec.{at, part, Kept}
 use Rattle.banded.specs.Rows.{rows, sound, concat}
 use Rattle.banded.specs.Solve.{forward}
 use Rattle.banded.specs.Run.{flat}
-use Rattle.newton.specs.Newton.{system, right, squares}
-use Rattle.newton.specs.Places.{point}
+use Rattle.newton_system.specs.Newton.{system, right, squares}
+use Rattle.dual_point.specs.Places.{point}
 
 -- s is s₀ but for row r, which has g beside the diagonal d, and place r of the right side, which is x
 pub record Put (k m r : ℕ) (g : List Float) (d x : Float) (s₀ s : List Float) : Type 0 where

@@ -6,8 +6,8 @@ ghost use lib.ListN.{length};
 ghost use Rattle.float64.specs.Ops.{_⊕_};
 ghost use Rattle.vectors.specs.Vec.{at, part, Kept};
 ghost use Rattle.banded.specs.Rows.{sound};
-ghost use Rattle.newton.specs.Newton.{barrier, rightAt, squareAt, squareOf, system, right, squares, newtonZ};
-ghost use Rattle.newton.specs.Places.{point};
+ghost use Rattle.newton_system.specs.Newton.{barrier, rightAt, squareAt, squareOf, system, right, squares, newtonZ};
+ghost use Rattle.dual_point.specs.Places.{point};
 ghost use Rattle.newton_system.specs.Rows.{Put, Swept};
 
 // A row of the Newton system: its diagonal, its right side, and what its place adds to the square of the residual.
@@ -48,7 +48,7 @@ fn row_at(s: &[f64], dy: &[f64], lam: f64, u: f64, g: [f64; 3], k: usize, m: usi
         × ((v .x ≡ at (right k g (now (dy .entry)) lam u (point 0 m (now (s .entry)))) r)
         × (v .e ≡ squareOf k g (now (dy .entry)) lam u (point 0 m (now (s .entry))) r)) ⌝ }
 {
-    let q = matrices::product(&s[0..m], g, k, r);
+    let q = gram::product(&s[0..m], g, k, r);
     row_of(q, dy[r], s[r], s[m + r], s[m + m + r], lam, u, g[0])
 }
 

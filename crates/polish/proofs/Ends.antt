@@ -16,14 +16,16 @@ use Rattle.vectors.proofs.Laws.{list-ext, kept-then}
 use Rattle.vectors.proofs.Parts.{length-part, partOf-range, putBack, part-put}
 use Rattle.differences.specs.Diff.{diffK, gramRow}
 use Rattle.differences.proofs.Laws.{length-diffK}
-use Rattle.newton.specs.Places.{point}
-use Rattle.polish.specs.Polish.{Hold, holdAt, freeTo, rightOf, solved, candidate, polish}
-use Rattle.polish.specs.Marks.{Marks, polishFrom, Polished, wins}
+use Rattle.dual_point.specs.Places.{point}
+use Rattle.active_set.specs.ActiveSet.{Hold, holdAt, freeTo, rightOf, solved}
+use Rattle.polish.specs.Polish.{candidate, polish}
+use Rattle.active_set.specs.Marks.{Marks}
+use Rattle.polish.specs.Places.{polishFrom, Polished, wins}
 use Rattle.certificate.specs.Certificate.{certify, gapOf}
 use Rattle.certificate.specs.Run.{Certified}
 use Rattle.certificate.proofs.Laws.{room}
 use Rattle.polish.specs.declared.Candidate.{Candidate}
-use Rattle.polish.proofs.Laws.{count-le, free-lt}
+use Rattle.active_set.proofs.Laws.{count-le, free-lt}
 use Rattle.polish.proofs.Candidates.{kept-part}
 
 -- dy holds D y in its first places

@@ -1,3 +1,3 @@
 -- The definitions that the contracts of polish cite.
 pub mod Polish
-pub mod Marks
+pub mod Places

@@ -1,7 +1,4 @@
 // The polish: the places that the multipliers hold at a bound stay there, the others come from one more banded solve, and the candidate is certified.
-mod marks;
-mod system;
-
 ghost use mathlib.Core.Path.{_≡_};
 ghost use mathlib.Core.Bool.{false, cond};
 ghost use Prim.Native.Nat.{ℕ, _≤_, _<_, _-_, _+_, _*_};
@@ -9,8 +6,10 @@ ghost use lib.ListN.{length, take, getD};
 ghost use lib.Ieee.{Float};
 ghost use Rattle.vectors.specs.Vec.{at, part, Kept, Written};
 ghost use Rattle.differences.specs.Diff.{diffK, gramRow};
-ghost use Rattle.polish.specs.Polish.{Hold, isFree, heldAt, freeTo, candidateAt, candidate};
-ghost use Rattle.polish.specs.Marks.{holdOf, heldBy, Marks, found, Polished, wins};
+ghost use Rattle.active_set.specs.ActiveSet.{Hold, isFree, heldAt, freeTo};
+ghost use Rattle.polish.specs.Polish.{candidateAt, candidate};
+ghost use Rattle.active_set.specs.Marks.{holdOf, heldBy, Marks};
+ghost use Rattle.polish.specs.Places.{found, Polished, wins};
 
 // Whether there is a candidate, and the gap and P of its certificate.
 pub struct Candidate {
@@ -27,7 +26,7 @@ fn candidate_at(s: &[f64], p: usize, h: u32, lam: f64) -> f64
     if h == 0 {
         return s[p];
     }
-    marks::held_value(h, lam)
+    active_set::held_value(h, lam)
 }
 
 // The candidate, from place a on: where it is held, or the next place of the solution, which stands from b on.
@@ -41,7 +40,7 @@ fn fill_candidate(s: &mut [f64], marks: &[u32], lam: f64, b: usize, a: usize, n:
         let h = marks[n + i];
         let x = candidate_at(s, b + q, h, lam);
         s[a + i] = x;
-        q = q + marks::one_if_free(h);
+        q = q + active_set::one_if_free(h);
         i += 1;
     }
 }
@@ -63,7 +62,7 @@ fn make_candidate(
     let m = n - k;
     let c = 7 * n;
     let e = 11 * n;
-    if !system::settle(&mut s[c..e], marks, dy, lam, k, n, q) {
+    if !active_set::system::settle(&mut s[c..e], marks, dy, lam, k, n, q) {
         return false;
     }
     let b = c + q * (k + 1);
@@ -97,7 +96,7 @@ pub fn polish_l1(
 {
     let n = y.len();
     let m = n - k;
-    let q = marks::mark(work, marks, lam, n, m);
+    let q = active_set::mark(work, marks, lam, n, m);
     if !make_candidate(work, marks, dy, lam, k, n, q) {
         return none();
     }

@@ -9,7 +9,7 @@ use lib.ListN.{length}
 use lib.Ieee.{lt}
 use Rattle.float64.specs.Helpers.{isFinite}
 use Rattle.float64.specs.Ops.{c0}
-use Rattle.fit.specs.Questions.{Asked, Lent, oneOrTwo, finiteTo, question}
+use Rattle.questions.specs.Questions.{Asked, Lent, oneOrTwo, finiteTo, question}
 use Rattle.questions.specs.Groups.{sizes, values, room}
 
 -- q, or r where q is 0

@@ -7,7 +7,7 @@ use lib.ListN.{length}
 use lib.Ieee.{Float, lt}
 use Rattle.float64.specs.Helpers.{isFinite}
 use Rattle.float64.specs.Ops.{c0}
-use Rattle.fit.specs.Questions.{Asked, Lent, oneOrTwo, finiteTo}
+use Rattle.questions.specs.Questions.{Asked, Lent, oneOrTwo, finiteTo}
 
 -- what is asked for and the lengths lent, from a caller's arguments
 abbrev pub asking : List Float → Float → Float → ℕ → ℕ → ℕ → Asked

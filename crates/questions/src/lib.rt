@@ -3,7 +3,7 @@ ghost use mathlib.Core.Path.{_≡_};
 ghost use mathlib.Core.Bool.{_&&_};
 ghost use Prim.Native.Nat.{_≤_};
 ghost use lib.ListN.{length};
-ghost use Rattle.fit.specs.Questions.{oneOrTwo, finiteTo, question};
+ghost use Rattle.questions.specs.Questions.{oneOrTwo, finiteTo, question};
 ghost use Rattle.questions.specs.Groups.{asking, lending, sizes, values, room};
 
 fn one_or_two(x: u32) -> bool

@@ -3,7 +3,7 @@ use mathlib.Core.Path.{_≡_, sym, ap, subst, _∙_}
 use mathlib.Core.List.{List}
 use Prim.Native.Nat.{ℕ}
 use lib.Ieee.{Float}
-use Rattle.fit.specs.Questions.{Asked, Lent}
+use Rattle.questions.specs.Questions.{Asked, Lent}
 use Rattle.fit.specs.Fit.{fit}
 use Rattle.trend_filter.specs.Answers.{answerOf, Answered}
 use Rattle.trend_filter.specs.declared.Summary.{Summary}

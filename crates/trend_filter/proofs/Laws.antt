@@ -12,7 +12,7 @@ use Rattle.vectors.specs.Vec.{put}
 use Rattle.differences.specs.Diff.{diffK}
 use borrow.Author.Tests.{eq-eqb, ne-eqb}
 use Rattle.l2.specs.L2.{soundL2, trendL2, gapL2, objectiveL2}
-use Rattle.fit.specs.Questions.{Asked, Lent, question}
+use Rattle.questions.specs.Questions.{Asked, Lent, question}
 use Rattle.fit.specs.Fit.{Fit as FitOf, Outcome, refused, fitted, lamMaxOf, closed, lamZero, lamHigh, searchOf, fitZero, fitFlat, fitEnd, soundDD, fitL1, fitL2, fitBy, fit}
 use Rattle.fit.proofs.Passed.{fit-passed}
 use Rattle.trend_filter.specs.declared.Summary.{Summary}

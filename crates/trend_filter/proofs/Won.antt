@@ -11,10 +11,10 @@ use Rattle.vectors.specs.Vec.{part, put}
 use Rattle.vectors.proofs.Parts.{length-part}
 use Rattle.differences.specs.Diff.{diffK}
 use Rattle.certificate.specs.Certificate.{Certificate, certify, gapOf, minus}
-use Rattle.certificate.specs.Knots.{knots as knotsOf}
+use Rattle.decomposition.specs.Knots.{knots as knotsOf}
 use Rattle.polish.specs.declared.Candidate.{Candidate}
-use Rattle.polish.specs.Marks.{isSome, Rated, wins}
-use Rattle.fit.specs.Questions.{Asked}
+use Rattle.polish.specs.Places.{isSome, Rated, wins}
+use Rattle.questions.specs.Questions.{Asked}
 use Rattle.fit.specs.Fit.{lamMaxOf, better, polished, keptOf, searchOf, fitEnd}
 use Rattle.trend_filter.specs.declared.Summary.{Summary}
 use Rattle.trend_filter.specs.declared.search.End.{End}

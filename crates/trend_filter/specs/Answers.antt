@@ -7,7 +7,7 @@ use lib.Dec.{ltb}
 use lib.ListN.{length}
 use lib.Ieee.{Float}
 use Rattle.vectors.specs.Vec.{put, Kept, KeptOf}
-use Rattle.fit.specs.Questions.{Asked, Lent}
+use Rattle.questions.specs.Questions.{Asked, Lent}
 use Rattle.fit.specs.Fit.{Fit as FitOf, Outcome, refused, fitted, fit}
 use Rattle.fit.specs.Demand3.{Bounds}
 use Rattle.trend_filter.specs.declared.Summary.{Summary}

@@ -4,7 +4,7 @@ use mathlib.Core.Bool.{Bool, cond}
 use mathlib.Core.List.{List, [], _∷_}
 use Prim.Native.Nat.{ℕ}
 use lib.Ieee.{Float}
-use Rattle.fit.specs.Questions.{Asked, Lent}
+use Rattle.questions.specs.Questions.{Asked, Lent}
 use Rattle.fit.specs.Fit.{fit}
 use Rattle.trend_filter.specs.Answers.{answerOf, Answered}
 use Rattle.trend_filter.specs.declared.Summary.{Summary}

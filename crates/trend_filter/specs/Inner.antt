@@ -8,10 +8,10 @@ use lib.Ieee.{Float}
 use Rattle.vectors.specs.Vec.{part, put, Kept}
 use Rattle.differences.specs.Diff.{diffK, gramRow}
 use Rattle.banded.specs.Rows.{sound}
-use Rattle.matrices.specs.Gram.{gram, zstar, lamMax}
-use Rattle.matrices.specs.declared.Peak.{Peak}
+use Rattle.gram.specs.Gram.{gram, zstar, lamMax}
+use Rattle.gram.specs.declared.Peak.{Peak}
 use Rattle.certificate.specs.Certificate.{minus}
-use Rattle.certificate.specs.Knots.{knots as knotsOf}
+use Rattle.decomposition.specs.Knots.{knots as knotsOf}
 use Rattle.fit.specs.Fit.{Fit as FitOf}
 use Rattle.trend_filter.specs.declared.Summary.{Summary}
 use Rattle.trend_filter.specs.Answers.{summaryOf}

@@ -8,7 +8,7 @@ use lib.Ieee.{Float, le}
 use Rattle.float64.specs.Ops.{_⊗_}
 use Rattle.vectors.specs.Vec.{part}
 use Rattle.certificate.specs.Certificate.{Certificate, gapOf}
-use Rattle.fit.specs.Questions.{Asked}
+use Rattle.questions.specs.Questions.{Asked}
 use Rattle.fit.specs.Fit.{searchOf, keptOf, firstGap}
 use Rattle.trend_filter.specs.declared.Summary.{Summary}
 use Rattle.trend_filter.specs.declared.search.End.{End}

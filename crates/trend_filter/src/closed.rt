@@ -5,7 +5,7 @@ ghost use lib.ListN.{length};
 ghost use lib.Ieee.{Float};
 ghost use Rattle.vectors.specs.Vec.{part, Kept};
 ghost use Rattle.differences.specs.Diff.{gramRow};
-ghost use Rattle.matrices.specs.Gram.{zstar, lamMax};
+ghost use Rattle.gram.specs.Gram.{zstar, lamMax};
 ghost use Rattle.fit.specs.Fit.{fitZero, fitFlat};
 ghost use Rattle.questions.specs.Groups.{asking};
 ghost use Rattle.trend_filter.specs.Inner.{Room, closedOf, WroteOut, Shows};
@@ -25,8 +25,8 @@ pub fn write_out(
         (now (trend .entry)) (now (trend .exit)) (now (cycle .entry)) (now (cycle .exit)) (now (knots .entry)) (now (knots .exit)) ⌝ }
 {
     vectors::copy(trend, x);
-    certificate::minus_into(cycle, y, x);
-    certificate::knots::find_knots(knots, x, y, k)
+    decomposition::minus_into(cycle, y, x);
+    decomposition::find_knots(knots, x, y, k)
 }
 
 // How many places m rows of k + 1 take.

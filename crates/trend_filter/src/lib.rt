@@ -9,13 +9,13 @@ ghost use lib.ListN.{length};
 ghost use lib.Ieee.{Float};
 ghost use Rattle.vectors.specs.Vec.{part, Kept, KeptOf};
 ghost use Rattle.differences.specs.Diff.{gramRow};
-ghost use Rattle.matrices.specs.Gram.{zstar, lamMax};
-ghost use Rattle.fit.specs.Questions.{question};
+ghost use Rattle.gram.specs.Gram.{zstar, lamMax};
+ghost use Rattle.questions.specs.Questions.{question};
 ghost use Rattle.fit.specs.Fit.{fitL1, fitL2, fitBy, fit};
 ghost use Rattle.questions.specs.Groups.{asking, lending};
 ghost use Rattle.trend_filter.specs.Answers.{Gives, Answered};
 ghost use Rattle.trend_filter.specs.Inner.{Room, Prepared, Shows};
-use matrices::Peak;
+use gram::Peak;
 
 // penalty 1 is L1, 2 is L2.
 pub struct TrendFilterOptions {
@@ -122,7 +122,7 @@ fn prepare(work: &mut [f64], y: &[f64], k: usize) -> Peak
 {
     let m = y.len() - k;
     let g = differences::gram_offsets(k);
-    matrices::prepare(work, y, g, k, m)
+    gram::prepare(work, y, g, k, m)
 }
 
 // The fit by its penalty, once the pivots of D D' are good and z* stands in work after its rows.

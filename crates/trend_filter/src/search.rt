@@ -5,7 +5,7 @@ ghost use Prim.Native.Nat.{ℕ, _≤_, _<_, _-_, _+_, _*_};
 ghost use lib.ListN.{length, take};
 ghost use Rattle.vectors.specs.Vec.{Kept, KeptOf};
 ghost use Rattle.differences.specs.Diff.{diffK, gramRow};
-ghost use Rattle.matrices.specs.Gram.{lamMax};
+ghost use Rattle.gram.specs.Gram.{lamMax};
 ghost use Rattle.fit.specs.Fit.{fitEnd, searchOf};
 ghost use Rattle.questions.specs.Groups.{asking};
 ghost use Rattle.trend_filter.specs.Inner.{Room, Shows};

@@ -10,7 +10,7 @@ use mathlib.Core.List.{List}
 use lib.Ieee.{Float, binary64, add, lt}
 use Rattle.float64.specs.Helpers.{absOf, maxOf}
 use Rattle.vectors.specs.Vec.{at}
-use Rattle.vectors.specs.Sums.{sumTo, maxTo, insideTo}
+use Rattle.vectors.specs.Sums.{sumTo, more, maxTo, insideTo}
 
 pub sum-more : (f : ℕ → Float) (n : ℕ) (a x : Float) → a ≡ sumTo f n → x ≡ f n → add binary64 a x ≡ sumTo f (n + 1)
 unfolding sumTo
@@ -40,3 +40,8 @@ inside-at lam v zero i e h = absurd (omega arith)
 inside-at lam v (suc n) i e h =
     let p = both (insideTo lam v n) (lt (absOf (at v n)) lam) e in
     ⊎-elim (λ (q : i ≡ n). rw q (p .1)) (λ (l : i < n). inside-at lam v n i (p .0) l) (eq-or-lt-of-le (le-of-suc-le-suc h))
+
+-- one more term after a start
+pub more-more : (v : Float) (f : ℕ → Float) (n : ℕ) {n′ : ℕ} {u x : Float} → u ≡ more v f n → x ≡ f n → n′ ≡ suc n → add binary64 u x ≡ more v f n′
+unfolding more
+more-more v f n e h m = rw (m, e, h)

@@ -12,6 +12,11 @@ unfoldable pub sumTo : (ℕ → Float) → ℕ → Float
 sumTo f zero = ofBits binary64 0
 sumTo f (suc n) = add binary64 (sumTo f n) (f n)
 
+-- v, and f 0, f 1, .. , f (n - 1) added in that order
+unfoldable pub more : Float → (ℕ → Float) → ℕ → Float
+more v f zero = v
+more v f (suc n) = add binary64 (more v f n) (f n)
+
 -- the greatest of +0, f 0, f 1, .. , f (n - 1), NaN ignored
 unfoldable pub maxTo : (ℕ → Float) → ℕ → Float
 maxTo f zero = ofBits binary64 0

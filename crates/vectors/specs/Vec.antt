@@ -2,13 +2,17 @@
 -- Each is given once for any element type. There z is the value that is read beyond the end: nan for doubles, 0 for bytes and counts.
 use mathlib.Core.Path.{_≡_}
 use mathlib.Core.List.{List, [], _∷_, _++_}
-use Prim.Native.Nat.{ℕ, zero, suc, _+_, _≤_, _<_}
+use Prim.Native.Nat.{ℕ, zero, suc, _+_, _-_, _≤_, _<_}
 use lib.ListN.{length, getD, take, drop}
 use lib.Ieee.{Float, nan}
 
 -- place i of a vector of doubles
 abbrev pub at : List Float → ℕ → Float
 at v i = getD v i nan
+
+-- |i - j|
+abbrev pub apart : ℕ → ℕ → ℕ
+apart i j = i - j + (j - i)
 
 -- f 0, .. , f (n - 1)
 unfoldable pub list : {A : Type 0} → ℕ → (ℕ → A) → List A

@@ -1,11 +1,11 @@
 // Sums and the greatest size of a vector, whether it lies within a bound, and a copy of one.
 ghost use mathlib.Core.Path.{_≡_};
 ghost use mathlib.Core.Bool.{_&&_};
-ghost use Prim.Native.Nat.{_≤_};
+ghost use Prim.Native.Nat.{_≤_, _-_, min};
 ghost use lib.ListN.{length};
 ghost use lib.Ieee.{lt};
 ghost use Rattle.float64.specs.Helpers.{absOf};
-ghost use Rattle.vectors.specs.Vec.{put};
+ghost use Rattle.vectors.specs.Vec.{put, apart};
 ghost use Rattle.vectors.specs.Sums.{norm2Sq, dot, sumAbs, maxAbs, inside};
 
 pub fn norm2_sq(v: &[f64]) -> f64
@@ -95,4 +95,25 @@ pub fn copy(t: &mut [f64], x: &[f64])
         t[i] = x[i];
         i += 1;
     }
+}
+
+// |i - j|
+pub fn apart(i: usize, j: usize) -> usize
+    ensures { λ r. ⌜ r ≡ apart i j ⌝ }
+{
+    if j < i { i - j } else { j - i }
+}
+
+// The lesser of two numbers.
+pub fn smaller(a: usize, b: usize) -> usize
+    ensures { λ r. ⌜ r ≡ min a b ⌝ }
+{
+    if a < b { a } else { b }
+}
+
+// i - k, or 0 where k is larger.
+pub fn over(i: usize, k: usize) -> usize
+    ensures { λ r. ⌜ r ≡ i - k ⌝ }
+{
+    if k < i { i - k } else { 0 }
 }

@@ -19,7 +19,7 @@ use Rattle.records.specs.Week as read
 use Rattle.records.specs.declared.Settings.{Settings}
 use Rattle.records.specs.declared.Week.the-variants as week
 use Rattle.listing.specs.Listing.{listingOf, refusedLine}
-use Rattle.fit.specs.Questions.{Lent}
+use Rattle.questions.specs.Questions.{Lent}
 use Rattle.fit.specs.Fit.{Fit, Outcome, refused, fitted, fit}
 use Rattle.fit.proofs.Lengths.{lengths}
 use Rattle.trend_filter.specs.Answers.{summaryOf, answerOf, after, Gives}

@@ -6,7 +6,7 @@ use lib.Ieee.{Float}
 use Rattle.records.specs.declared.Settings.{Settings}
 use Rattle.listing.specs.declared.Shown.{Shown}
 use Rattle.listing.specs.Listing.{listingOf, refusedLine}
-use Rattle.fit.specs.Questions.{Asked, Lent}
+use Rattle.questions.specs.Questions.{Asked, Lent}
 use Rattle.fit.specs.Fit.{Outcome, refused, fitted, fit}
 use Rattle.trend_filter.specs.declared.Summary.{Summary}
 use Rattle.trend_filter.specs.Answers.{summaryOf}

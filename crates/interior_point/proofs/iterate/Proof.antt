@@ -2,7 +2,7 @@ use borrow.Author.Needs.{needs}
 use Prim.Native.Nat.{_-_}
 use native.Mathlib.Omega.{arith}
 use lib.ListN.{length, take}
-use Rattle.newton.specs.Places.{point}
+use Rattle.dual_point.specs.Places.{point}
 use Rattle.interior_point.proofs.Places.{rows-small, dy-long}
 use Rattle.interior_point.proofs.Turns.{turned-lost, turned-moved}
 use Rattle.interior_point.proofs.iterate.Statement.{statement}

@@ -7,7 +7,7 @@ use lib.ListN.{length, drop, length-drop}
 use lib.Seq.{length-take-le}
 use lib.Ieee.{Float}
 use Rattle.banded.specs.Rows.{matrix, concat}
-use Rattle.matrices.specs.Ridge.{ridge}
+use Rattle.ridge.specs.Ridge.{ridge}
 use Rattle.l2.proofs.System.{l2-done}
 use Rattle.l2.proofs.solve_l2.Statement.{statement}
 use Rattle.l2.proofs.solve_l2.Tie as tie

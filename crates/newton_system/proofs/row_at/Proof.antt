@@ -6,9 +6,9 @@ use native.Mathlib.Omega.{arith}
 use lib.Ieee.{Float}
 use Rattle.vectors.specs.Vec.{part}
 use Rattle.vectors.proofs.Parts.{range-part}
-use Rattle.matrices.specs.Gram.{product}
-use Rattle.newton.proofs.Laws.{square-place}
-use Rattle.newton.proofs.Lines.{system-diagonal}
+use Rattle.gram.specs.Gram.{product}
+use Rattle.newton_system.proofs.Places.{square-place}
+use Rattle.newton_system.proofs.Places.{system-diagonal}
 use Rattle.newton_system.proofs.Sweeps.{right-place}
 use Rattle.newton_system.proofs.row_at.Statement.{statement}
 use Rattle.newton_system.proofs.row_at.Tie as tie

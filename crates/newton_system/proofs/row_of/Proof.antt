@@ -1,5 +1,5 @@
 use mathlib.Core.Path.{refl}
-use Rattle.newton.specs.Newton.{barrier, rightAt, squareAt}
+use Rattle.newton_system.specs.Newton.{barrier, rightAt, squareAt}
 use Rattle.newton_system.proofs.row_of.Statement.{statement}
 use Rattle.newton_system.proofs.row_of.Tie as tie
 

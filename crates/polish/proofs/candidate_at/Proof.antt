@@ -1,6 +1,6 @@
 use borrow.Author.Needs.{needs}
 use mathlib.Core.Path.{sym, _∙_}
-use Rattle.polish.proofs.Laws.{free-place, held-place}
+use Rattle.active_set.proofs.Laws.{free-place, held-place}
 use Rattle.polish.proofs.candidate_at.Statement.{statement}
 use Rattle.polish.proofs.candidate_at.Tie as tie
 

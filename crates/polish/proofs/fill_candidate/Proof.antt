@@ -1,13 +1,15 @@
 use borrow.Author.Needs.{needs}
 use mathlib.Core.Path.{_≡_, refl}
 use native.Mathlib.Omega.{arith}
-use Rattle.polish.proofs.Laws.{one-le, count-more, place-is}
+use Rattle.active_set.proofs.Laws.{one-le, count-more}
+use Rattle.polish.proofs.Candidates.{place-is}
 use Rattle.vectors.proofs.Laws.{none, store-more}
 use native.Mathlib.Nat.{add-zero}
 use lib.ListN.{length}
 use Rattle.vectors.specs.Vec.{part, Written}
-use Rattle.polish.specs.Marks.{heldBy}
-use Rattle.polish.specs.Polish.{isFree, freeTo, candidateAt}
+use Rattle.active_set.specs.Marks.{heldBy}
+use Rattle.active_set.specs.ActiveSet.{isFree, freeTo}
+use Rattle.polish.specs.Polish.{candidateAt}
 use Prim.Native.Nat.{_≤_, _-_, _+_}
 use Rattle.polish.proofs.fill_candidate.Statement.{statement}
 use Rattle.polish.proofs.fill_candidate.Tie as tie

@@ -1,9 +1,11 @@
 use borrow.Author.Needs.{needs}
 use mathlib.Core.Path.{_≡_, refl, sym, _∙_}
 use native.Mathlib.Omega.{arith}
-use Rattle.polish.proofs.Candidates.{room, kept-part, part-size, solution-at, candidate-none, candidate-some}
-use Rattle.polish.specs.Marks.{heldBy}
-use Rattle.polish.specs.Polish.{freeTo, candidateAt}
+use Rattle.active_set.proofs.Settling.{room}
+use Rattle.polish.proofs.Candidates.{kept-part, part-size, solution-at, candidate-none, candidate-some}
+use Rattle.active_set.specs.Marks.{heldBy}
+use Rattle.active_set.specs.ActiveSet.{freeTo}
+use Rattle.polish.specs.Polish.{candidateAt}
 use Rattle.vectors.proofs.Parts.{putBack, store-done}
 use Rattle.vectors.proofs.Laws.{kept-then, written-kept}
 use Rattle.vectors.specs.Vec.{part}

@@ -3,8 +3,8 @@ use mathlib.Core.Path.{_≡_, refl, _∙_}
 use native.Mathlib.Omega.{arith}
 use Rattle.polish.proofs.Ends.{dy-long, polish-is, marks-in, ended-none, ended-some}
 use Rattle.polish.proofs.Candidates.{part-size}
-use Rattle.polish.specs.Polish.{holdAt}
-use Rattle.newton.specs.Places.{point}
+use Rattle.active_set.specs.ActiveSet.{holdAt}
+use Rattle.dual_point.specs.Places.{point}
 use lib.ListN.{length, take, drop}
 use Prim.Native.Nat.{_≤_, _<_, _-_, _+_, _*_}
 use mathlib.Core.Bool.{true, false}

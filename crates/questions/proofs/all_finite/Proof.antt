@@ -4,7 +4,7 @@ use Prim.Native.Nat.{_≤_, _-_}
 use native.Mathlib.Numerals.{add-one}
 use native.Mathlib.Omega.{arith}
 use lib.ListN.{length}
-use Rattle.fit.specs.Questions.{finiteTo}
+use Rattle.questions.specs.Questions.{finiteTo}
 use Rattle.questions.proofs.all_finite.Statement.{statement}
 use Rattle.questions.proofs.all_finite.Tie as tie
 

@@ -10,7 +10,7 @@ use Rattle.vectors.specs.Vec.{part}
 use Rattle.questions.specs.Groups.{asking}
 use Rattle.differences.specs.Diff.{diffK, gramRow}
 use Rattle.differences.proofs.Laws.{length-diffK}
-use Rattle.matrices.specs.Gram.{zstar}
+use Rattle.gram.specs.Gram.{zstar}
 use Rattle.certificate.specs.Certificate.{certify, gapOf}
 use Rattle.fit.specs.Fit.{fitFlat}
 use Rattle.trend_filter.specs.Inner.{closedOf}

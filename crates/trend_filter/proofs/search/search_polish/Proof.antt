@@ -12,10 +12,10 @@ use Rattle.vectors.proofs.Laws.{kept-then}
 use Rattle.vectors.proofs.Parts.{part-below}
 use Rattle.differences.specs.Diff.{diffK, gramRow}
 use Rattle.questions.specs.Groups.{asking}
-use Rattle.newton.specs.Newton.{Dual}
+use Rattle.dual_point.specs.Dual.{Dual}
 use Rattle.certificate.specs.Certificate.{certify}
 use Rattle.polish.specs.Polish.{polish}
-use Rattle.polish.specs.Marks.{isSome}
+use Rattle.polish.specs.Places.{isSome}
 use Rattle.fit.specs.Fit.{searchOf, keptOf, firstGap}
 use Rattle.trend_filter.proofs.Won.{kept-of}
 use Rattle.trend_filter.proofs.search.search_polish.Statement.{statement}

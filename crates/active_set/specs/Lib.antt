@@ -1,0 +1,3 @@
+-- The definitions that the contracts of active_set cite.
+pub mod ActiveSet
+pub mod Marks

@@ -1,0 +1,151 @@
+// The compressed system, over the free places.
+ghost use mathlib.Core.Path.{_≡_};
+ghost use mathlib.Core.Bool.{true};
+ghost use mathlib.Core.List.{List};
+ghost use Prim.Native.Nat.{ℕ, _≤_, _<_, _-_, _+_, _*_};
+ghost use lib.ListN.{length, take, getD};
+ghost use Rattle.vectors.specs.Vec.{list, part, Written, Kept};
+ghost use Rattle.differences.specs.Diff.{gramRow};
+ghost use Rattle.banded.specs.Rows.{rows, sound, matrix, concat};
+ghost use Rattle.banded.specs.Solve.{solve};
+ghost use Rattle.active_set.specs.ActiveSet.{compressed, lessHeld, rightOf};
+ghost use Rattle.active_set.specs.Marks.{holdOf, heldBy};
+
+fn wide(x: u32) -> usize
+    ensures { λ r. ⌜ r ≡ x ⌝ }
+{
+    x as usize
+}
+
+// Place c of row p of the system.
+fn band_at(free: &[u32], g: [f64; 3], k: usize, p: usize, c: usize) -> f64
+    requires { ⌜ (k ≤ 2) × ((c ≤ k) × (p < length (now free))) ⌝ }
+    ensures { λ x. ⌜ x ≡ compressed k g (now (free .entry)) p c ⌝ }
+{
+    if p + c < k {
+        return 0.0;
+    }
+    let i = wide(free[p]);
+    let j = wide(free[p + c - k]);
+    let d = vectors::over(i, j);
+    if d <= k {
+        return g[d];
+    }
+    0.0
+}
+
+// Row p of it, in its place of s.
+fn fill_row(s: &mut [f64], free: &[u32], g: [f64; 3], k: usize, p: usize)
+    requires { ⌜ (k ≤ 2) × ((p < length (now free)) × ((p + 1) * (k + 1) ≤ length (now s))) ⌝ }
+    ensures { λ _. ⌜ Written (p * (k + 1)) (p * (k + 1) + (k + 1)) (λ j. compressed k g (now (free .entry)) p (j - p * (k + 1))) (now (s .entry)) (now (s .exit)) ⌝ }
+{
+    let a = p * (k + 1);
+    let mut c = 0;
+    while c <= k {
+        let x = band_at(free, g, k, p, c);
+        s[a + c] = x;
+        c += 1;
+    }
+}
+
+// Its q rows in the first places of s.
+fn fill_bands(s: &mut [f64], free: &[u32], g: [f64; 3], k: usize, q: usize)
+    requires { ⌜ (k ≤ 2) × ((q ≤ length (now free)) × (q * (k + 1) ≤ length (now s))) ⌝ }
+    ensures { λ _. ⌜ (take (q * (k + 1)) (now (s .exit)) ≡ concat (matrix k (compressed k g (now (free .entry))) q))
+        × Kept 0 (q * (k + 1)) (now (s .entry)) (now (s .exit)) ⌝ }
+{
+    let mut p = 0;
+    while p < q {
+        fill_row(s, free, g, k, p);
+        p += 1;
+    }
+}
+
+// v less what place j, with the mark h, takes from the right side at place i.
+fn less_held(v: f64, g: [f64; 3], lam: f64, i: usize, j: usize, h: u32) -> f64
+    requires { ⌜ (i ≤ j + 2) × (j ≤ i + 2) ⌝ }
+    ensures { λ r. ⌜ r ≡ lessHeld lam g i j (holdOf h) v ⌝ }
+{
+    if h == 0 {
+        return v;
+    }
+    let d = vectors::over(i, j) + vectors::over(j, i);
+    let x = crate::held_value(h, lam);
+    v - g[d] * x
+}
+
+// The right side at the free place i of m.
+fn right_at(
+    marks: &[u32],
+    dy: &[f64],
+    lam: f64,
+    g: [f64; 3],
+    k: usize,
+    n: usize,
+    m: usize,
+    i: usize,
+) -> f64
+    requires { ⌜ (k ≤ 2) × ((i < m) × ((n + m ≤ length (now marks)) × (m ≤ length (now dy)))) ⌝ }
+    ensures { λ r. ⌜ r ≡ rightOf k g (now (dy .entry)) lam (heldBy n (now (marks .entry))) m i ⌝ }
+{
+    let lo = vectors::over(i, k);
+    let hi = vectors::smaller(i + k + 1, m);
+    let mut v = dy[i];
+    let mut j = lo;
+    while j < hi {
+        let h = marks[n + j];
+        v = less_held(v, g, lam, i, j, h);
+        j += 1;
+    }
+    v
+}
+
+// The right side at each of the q free places, from place b of s on.
+fn fill_right(
+    s: &mut [f64],
+    b: usize,
+    marks: &[u32],
+    dy: &[f64],
+    lam: f64,
+    g: [f64; 3],
+    k: usize,
+    n: usize,
+    q: usize,
+)
+    requires { ⌜ (k ≤ 2) × ((b + q ≤ length (now s)) × ((2 * n ≤ length (now marks)) × ((n ≤ length (now dy) + k) × ((q ≤ n) × ((j : ℕ) → j < q → getD (now marks) j 0 + k < n))))) ⌝ }
+    ensures { λ _. ⌜ (part b q (now (s .exit)) ≡ list q (λ r. rightOf k g (now (dy .entry)) lam (heldBy n (now (marks .entry))) (n - k) (getD (now (marks .entry)) r 0)))
+        × Kept b q (now (s .entry)) (now (s .exit)) ⌝ }
+{
+    let mut p = 0;
+    while p < q {
+        let i = wide(marks[p]);
+        let x = right_at(marks, dy, lam, g, k, n, n - k, i);
+        s[b + p] = x;
+        p += 1;
+    }
+}
+
+// The system in the first places of s, solved: the solution stands after its rows. Whether every pivot was good.
+pub fn settle(
+    s: &mut [f64],
+    marks: &[u32],
+    dy: &[f64],
+    lam: f64,
+    k: usize,
+    n: usize,
+    q: usize,
+) -> bool
+    requires { ⌜ (k ≤ 2) × ((q * (k + 1) + q ≤ length (now s)) × ((2 * n ≤ length (now marks)) × ((n ≤ length (now dy) + k) × ((q ≤ n) × ((j : ℕ) → j < q → getD (now marks) j 0 + k < n))))) ⌝ }
+    ensures { λ r. ⌜ ((f : List ℕ) → ((j : ℕ) → j < q → getD (now (marks .entry)) j 0 ≡ getD f j 0) → (r ≡ sound k (compressed k (gramRow k) f) q)
+        × (r ≡ true → part (q * (k + 1)) q (now (s .exit)) ≡ solve k (rows k (compressed k (gramRow k) f) q) (list q (λ r. rightOf k (gramRow k) (now (dy .entry)) lam (heldBy n (now (marks .entry))) (n - k) (getD f r 0)))))
+        × Kept 0 (q * (k + 1) + q) (now (s .entry)) (now (s .exit)) ⌝ }
+{
+    if q == 0 {
+        return true;
+    }
+    let g = differences::gram_offsets(k);
+    let b = q * (k + 1);
+    fill_bands(s, marks, g, k, q);
+    fill_right(s, b, marks, dy, lam, g, k, n, q);
+    substitution::factor_solve(s, k, q)
+}

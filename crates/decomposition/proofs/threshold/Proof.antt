@@ -1,0 +1,12 @@
+use mathlib.Core.Path.{_∙_}
+use Rattle.decomposition.specs.Knots.{threshold}
+use borrow.Author.Needs.{needs}
+use Rattle.decomposition.proofs.threshold.Statement.{statement}
+use Rattle.decomposition.proofs.threshold.Tie as tie
+
+returns : tie.Need-returns
+unfolding threshold
+returns c = c .max .ensures ∙ rw (c .before .before .max-abs-diff .ensures, c .before .max-abs .ensures)
+
+pub threshold-spec : {M : Type 1} → statement M
+threshold-spec = tie.close (tie.spec (λ c κs. search needs) (λ c κs. search needs) (λ c κs. search needs) returns)

@@ -1,0 +1,2 @@
+-- The definitions that the contracts of decomposition cite.
+pub mod Knots

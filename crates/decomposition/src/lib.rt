@@ -1,0 +1,84 @@
+// What a fit writes: its trend, its cycle and its knots.
+ghost use mathlib.Core.Path.{_≡_};
+ghost use mathlib.Core.Bool.{cond};
+ghost use mathlib.Core.List.{[], _∷_};
+ghost use Prim.Native.Nat.{_≤_, _<_, _-_, _+_};
+ghost use lib.ListN.{length};
+ghost use lib.Ieee.{lt};
+ghost use Rattle.float64.specs.Helpers.{absOf};
+ghost use Rattle.vectors.specs.Vec.{put, Wrote};
+ghost use Rattle.vectors.specs.Sums.{maxAbs};
+ghost use Rattle.differences.specs.Diff.{diffK};
+ghost use Rattle.certificate.specs.Certificate.{minus};
+ghost use Rattle.decomposition.specs.Knots.{threshold, knots as knotsOf};
+
+// The greatest |D y|, from 0; NaN is ignored.
+fn max_abs_diff(y: &[f64], k: usize) -> f64
+    requires { ⌜ (1 ≤ k) × ((k ≤ 2) × (k < length (now y))) ⌝ }
+    ensures { λ r. ⌜ r ≡ maxAbs (diffK k (now (y .entry))) ⌝ }
+{
+    let m = y.len() - k;
+    let mut top = 0.0;
+    let mut i = 0;
+    while i < m {
+        let d = differences::diff_at(y, k, i);
+        let x = float64::abs(d);
+        top = float64::max(top, x);
+        i += 1;
+    }
+    top
+}
+
+// Above this a difference of the trend is a knot.
+fn threshold(y: &[f64], k: usize) -> f64
+    requires { ⌜ (1 ≤ k) × ((k ≤ 2) × (k < length (now y))) ⌝ }
+    ensures { λ r. ⌜ r ≡ threshold k (now (y .entry)) ⌝ }
+{
+    let a = max_abs_diff(y, k);
+    let b = vectors::max_abs(y);
+    float64::max(1e-6 * a, 1e-12 * b)
+}
+
+// i becomes the next knot, at place n, where |d| is above t; the number of knots then.
+fn add_knot(knots: &mut [u32], n: usize, i: usize, d: f64, t: f64) -> usize
+    requires { ⌜ (n < length (now knots)) × (i < 65536) ⌝ }
+    ensures { λ r. ⌜ Wrote (now (knots .entry)) n (cond (lt t (absOf d)) (i ∷ []) []) (now (knots .exit)) r ⌝ }
+{
+    let x = float64::abs(d);
+    if t < x {
+        knots[n] = i as u32;
+        return n + 1;
+    }
+    n
+}
+
+// The first places of knots become the knots of the trend x of y; how many there are.
+pub fn find_knots(knots: &mut [u32], x: &[f64], y: &[f64], k: usize) -> usize
+    requires { ⌜ (1 ≤ k) × ((k ≤ 2) × ((length (now x) ≡ length (now y)) × ((k < length (now y))
+        × ((length (now y) ≤ 65536) × (length (now y) - k ≤ length (now knots)))))) ⌝ }
+    ensures { λ r. ⌜ (r ≡ length (knotsOf k (now (y .entry)) (diffK k (now (x .entry)))))
+        × (now (knots .exit) ≡ put (now (knots .entry)) 0 (knotsOf k (now (y .entry)) (diffK k (now (x .entry))))) ⌝ }
+{
+    let t = threshold(y, k);
+    let m = x.len() - k;
+    let mut n = 0;
+    let mut i = 0;
+    while i < m {
+        let d = differences::diff_at(x, k, i);
+        n = add_knot(knots, n, i, d, t);
+        i += 1;
+    }
+    n
+}
+
+// The first places of c become y - x.
+pub fn minus_into(c: &mut [f64], y: &[f64], x: &[f64])
+    requires { ⌜ (length (now y) ≤ length (now x)) × (length (now y) ≤ length (now c)) ⌝ }
+    ensures { λ _. ⌜ now (c .exit) ≡ put (now (c .entry)) 0 (minus (now (y .entry)) (now (x .entry))) ⌝ }
+{
+    let mut i = 0;
+    while i < y.len() {
+        c[i] = y[i] - x[i];
+        i += 1;
+    }
+}

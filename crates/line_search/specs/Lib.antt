@@ -1,0 +1,3 @@
+-- The definitions that the contracts of line_search cite.
+pub mod LineSearch
+pub mod Places

@@ -1,0 +1,242 @@
+// The direction of a Newton step from a dual point, and the line search along it. A point stands in a run as z, mu1, mu2, m places each.
+ghost use mathlib.Core.Path.{_≡_};
+ghost use Prim.Native.Nat.{_≤_, _+_, _*_};
+ghost use lib.ListN.{length};
+ghost use lib.Ieee.{isNan};
+ghost use mathlib.Core.Bool.{false};
+ghost use Rattle.vectors.specs.Sums.{inside};
+ghost use Rattle.newton_system.specs.Newton.{squareAt, squares, norm};
+ghost use Rattle.line_search.specs.LineSearch.{dmu1At, dmu2At, capped, capTo, along, direction, lower, accepted};
+ghost use Rattle.vectors.specs.Vec.{part, Kept};
+ghost use Rattle.dual_point.specs.Places.{point};
+ghost use Rattle.line_search.specs.Places.{Searched};
+
+// What one place adds to the square of the residual: q is (D D') z there, u is 1 / t.
+fn residual_of(q: f64, dy: f64, z: f64, mu1: f64, mu2: f64, lam: f64, u: f64) -> f64
+    ensures { λ r. ⌜ r ≡ squareAt lam u q dy z mu1 mu2 ⌝ }
+{
+    let f1 = z - lam;
+    let f2 = -z - lam;
+    let rd = q - dy + mu1 - mu2;
+    let rc1 = -mu1 * f1 - u;
+    let rc2 = -mu2 * f2 - u;
+    rd * rd + rc1 * rc1 + rc2 * rc2
+}
+
+// The square of the residual at the point in the first places of s.
+fn residual(s: &[f64], dy: &[f64], lam: f64, u: f64, g: [f64; 3], k: usize, m: usize) -> f64
+    requires { ⌜ (k ≤ 2) × ((m + m + m ≤ length (now s)) × (m ≤ length (now dy))) ⌝ }
+    ensures { λ r. ⌜ r ≡ squares k g (now (dy .entry)) lam u (point 0 m (now (s .entry))) ⌝ }
+{
+    let mut a = 0.0;
+    let mut i = 0;
+    while i < m {
+        let q = gram::product(&s[0..m], g, k, i);
+        let e = residual_of(q, dy[i], s[i], s[m + i], s[m + m + i], lam, u);
+        a = a + e;
+        i += 1;
+    }
+    a
+}
+
+// How mu1 moves at a place, and mu2, where z moves by dz.
+fn dmu1_at(z: f64, mu1: f64, dz: f64, lam: f64, u: f64) -> f64
+    ensures { λ r. ⌜ r ≡ dmu1At lam u z mu1 dz ⌝ }
+{
+    let f1 = z - lam;
+    -(mu1 + (u + dz * mu1) / f1)
+}
+
+fn dmu2_at(z: f64, mu2: f64, dz: f64, lam: f64, u: f64) -> f64
+    ensures { λ r. ⌜ r ≡ dmu2At lam u z mu2 dz ⌝ }
+{
+    let f2 = -z - lam;
+    -(mu2 + (u - dz * mu2) / f2)
+}
+
+// The lesser of step and the step at which mu is left at a hundredth, if it falls.
+fn cap_of(step: f64, mu: f64, dmu: f64) -> f64
+    requires { ⌜ isNan step ≡ false ⌝ }
+    ensures { λ r. ⌜ (r ≡ capped step mu dmu) × (isNan r ≡ false) ⌝ }
+{
+    if dmu < 0.0 {
+        let q = 0.99 * (-mu / dmu);
+        if q < step {
+            return q;
+        }
+        return step;
+    }
+    step
+}
+
+// The greatest step, for the point in s and the direction from b on.
+fn cap(s: &[f64], b: usize, m: usize) -> f64
+    requires { ⌜ (m + m + m ≤ b) × (b + m + m + m ≤ length (now s)) ⌝ }
+    ensures { λ r. ⌜ r ≡ capTo (point 0 m (now (s .entry))) (point b m (now (s .entry))) m ⌝ }
+{
+    let mut step = 1.0;
+    let mut i = 0;
+    while i < m {
+        let x = cap_of(step, s[m + i], s[b + m + i]);
+        step = cap_of(x, s[m + m + i], s[b + m + m + i]);
+        i += 1;
+    }
+    step
+}
+
+// The point at a step from that in the first 3 m places, in the 3 m after them. From b on stands the direction.
+fn move_to(s: &mut [f64], b: usize, step: f64, m: usize)
+    requires { ⌜ (6 * m ≤ b) × (b + 3 * m ≤ length (now s)) ⌝ }
+    ensures { λ _. ⌜ (point (3 * m) m (now (s .exit)) ≡ along (point 0 m (now (s .entry))) (point b m (now (s .entry))) step)
+        × Kept (3 * m) (3 * m) (now (s .entry)) (now (s .exit)) ⌝ }
+{
+    let c = 3 * m;
+    let mut i = 0;
+    while i < c {
+        s[c + i] = s[i] + step * s[b + i];
+        i += 1;
+    }
+}
+
+// dmu1, and then dmu2, after the direction's dz, which stands from b on.
+fn fill_dmu1(s: &mut [f64], b: usize, lam: f64, u: f64, m: usize)
+    requires { ⌜ (m + m + m ≤ b) × (b + m + m + m ≤ length (now s)) ⌝ }
+    ensures { λ _. ⌜ (part (b + m) m (now (s .exit)) ≡ direction lam u (point 0 m (now (s .entry))) (part b m (now (s .entry))) .mu1)
+        × Kept (b + m) m (now (s .entry)) (now (s .exit)) ⌝ }
+{
+    let mut i = 0;
+    while i < m {
+        let x = dmu1_at(s[i], s[m + i], s[b + i], lam, u);
+        s[b + m + i] = x;
+        i += 1;
+    }
+}
+
+fn fill_dmu2(s: &mut [f64], b: usize, lam: f64, u: f64, m: usize)
+    requires { ⌜ (m + m + m ≤ b) × (b + m + m + m ≤ length (now s)) ⌝ }
+    ensures { λ _. ⌜ (part (b + m + m) m (now (s .exit)) ≡ direction lam u (point 0 m (now (s .entry))) (part b m (now (s .entry))) .mu2)
+        × Kept (b + m + m) m (now (s .entry)) (now (s .exit)) ⌝ }
+{
+    let mut i = 0;
+    while i < m {
+        let x = dmu2_at(s[i], s[m + m + i], s[b + i], lam, u);
+        s[b + m + m + i] = x;
+        i += 1;
+    }
+}
+
+// The whole direction, whose dz stands from b on, and the greatest step.
+pub fn directions(s: &mut [f64], b: usize, lam: f64, u: f64, m: usize) -> f64
+    requires { ⌜ (m + m + m ≤ b) × (b + m + m + m ≤ length (now s)) ⌝ }
+    ensures { λ r. ⌜ (point b m (now (s .exit)) ≡ direction lam u (point 0 m (now (s .entry))) (part b m (now (s .entry))))
+        × ((r ≡ capTo (point 0 m (now (s .entry))) (direction lam u (point 0 m (now (s .entry))) (part b m (now (s .entry)))) m)
+        × Kept (b + m) (m + m) (now (s .entry)) (now (s .exit))) ⌝ }
+{
+    fill_dmu1(s, b, lam, u, m);
+    fill_dmu2(s, b, lam, u, m);
+    cap(s, b, m)
+}
+
+// Whether the norm of the residual at the trial in s is low enough against the old one.
+fn low_enough(
+    s: &[f64],
+    dy: &[f64],
+    lam: f64,
+    u: f64,
+    g: [f64; 3],
+    k: usize,
+    m: usize,
+    step: f64,
+    old: f64,
+) -> bool
+    requires { ⌜ (k ≤ 2) × ((m + m + m ≤ length (now s)) × (m ≤ length (now dy))) ⌝ }
+    ensures { λ r. ⌜ r ≡ lower (norm k g (now (dy .entry)) lam u (point 0 m (now (s .entry)))) step old ⌝ }
+{
+    let a = residual(s, dy, lam, u, g, k, m);
+    square_root::sqrt(a) <= (1.0 - 0.01 * step) * old
+}
+
+struct Tried {
+    inside: bool,
+    good: bool,
+}
+
+// One trial: the point at a step, whether it is inside, and whether it is accepted.
+fn attempt(
+    s: &mut [f64],
+    b: usize,
+    dy: &[f64],
+    lam: f64,
+    u: f64,
+    g: [f64; 3],
+    k: usize,
+    m: usize,
+    step: f64,
+    old: f64,
+) -> Tried
+    requires { ⌜ (k ≤ 2) × ((6 * m ≤ b) × ((b + 3 * m ≤ length (now s)) × (m ≤ length (now dy)))) ⌝ }
+    ensures { λ r. ⌜ (point (3 * m) m (now (s .exit)) ≡ along (point 0 m (now (s .entry))) (point b m (now (s .entry))) step)
+        × (Kept (3 * m) (3 * m) (now (s .entry)) (now (s .exit))
+        × ((r .inside ≡ inside lam (part (3 * m) m (now (s .exit))))
+        × (r .good ≡ accepted k g (now (dy .entry)) lam u old (point (3 * m) m (now (s .exit))) step))) ⌝ }
+{
+    let c = 3 * m;
+    let d = c + m;
+    let e = c + c;
+    move_to(s, b, step, m);
+    let within = vectors::inside(&s[c..d], lam);
+    if within {
+        let low = low_enough(&s[c..e], dy, lam, u, g, k, m, step, old);
+        return Tried {
+            inside: true,
+            good: low,
+        };
+    }
+    Tried {
+        inside: false,
+        good: false,
+    }
+}
+
+// How a line search ended: its last step, halved if the trial was not accepted, and whether the last trial is inside.
+pub struct Trial {
+    pub step: f64,
+    pub inside: bool,
+}
+
+// Up to 20 trials; the last stands after the point.
+pub fn line_search(
+    s: &mut [f64],
+    b: usize,
+    dy: &[f64],
+    lam: f64,
+    u: f64,
+    g: [f64; 3],
+    k: usize,
+    m: usize,
+    cap: f64,
+    old: f64,
+) -> Trial
+    requires { ⌜ (k ≤ 2) × ((6 * m ≤ b) × ((b + 3 * m ≤ length (now s)) × (m ≤ length (now dy)))) ⌝ }
+    ensures { λ r. ⌜ Searched k g (now (dy .entry)) lam u m b cap old (now (s .entry)) (now (s .exit)) (r .step) (r .inside) ⌝ }
+{
+    let mut step = cap;
+    let mut last = false;
+    let mut i: usize = 0;
+    while i < 20 {
+        let a = attempt(s, b, dy, lam, u, g, k, m, step, old);
+        if a.good {
+            return Trial {
+                step: step,
+                inside: true,
+            };
+        }
+        last = a.inside;
+        step = step * 0.5;
+        i += 1;
+    }
+    Trial {
+        step: step,
+        inside: last,
+    }
+}

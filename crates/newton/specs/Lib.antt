@@ -1,3 +1,0 @@
--- The definitions that the contracts of newton cite.
-pub mod Newton
-pub mod Places

@@ -1,0 +1,3 @@
+-- The definitions that the contracts of ridge cite.
+pub mod Ridge
+pub mod Layout

@@ -1,0 +1,132 @@
+-- Demand 3 holds of every problem whose primal objective is a NaN or has a clear sign.
+use mathlib.Core.Path.{_≡_, refl, sym, ap, subst}
+use mathlib.Core.Logic.{_⊎_, inl, inr}
+use Prim.Native.Nat.{ℕ, zero, suc, _+_, _*_, _≤_, _<_, zero-le}
+use native.Mathlib.Omega.{arith}
+use mathlib.Core.Bool.{Bool, true, false, not, _||_}
+use lib.Signed.{≤ℤ-refl}
+use lib.IntN.{pos, _*ℤ_}
+use lib.Dec.{T}
+use lib.Ieee.{Float, nan, inf, fin, binary64, mul, lt, isNan, ofBits}
+use lib.Ieee.Fits.{sub-fits}
+use lib.Ieee.Positive.{positive, above}
+use Rattle.search.specs.Search.{Problem, Point, Ended, Reason, small, spent, stalled, pivot, mark, gap, start, ended, enough, better, searched}
+use Rattle.search.specs.Demand3.{units, Kept, Alike, Demand3, clear}
+use Rattle.search.proofs.Trace.{Trace, closes, spends, stalls, loses, gains, stays, trace, traced, steps-grow, steps-within, idle}
+use Rattle.search.proofs.Falls.{Falls, here, lower, falls-whole, few-improvements}
+use Rattle.search.proofs.Clear.{goes-on}
+
+is-on : (b : Bool) → b ≡ true → T b
+is-on b e = subst T (sym e) tt
+
+is-off : (b : Bool) → b ≡ false → T (not b)
+is-off b e = subst (λ (x : Bool). T (not x)) (sym e) tt
+
+-- no gap is below 0.99 times a NaN
+nan-never : (g : Float) → T (lt g (mul binary64 mark nan)) → ⊥
+unfolding lt mul ofBits
+nan-never nan t = t
+nan-never (inf s) t = t
+nan-never (fin s m e) t = t
+
+above-of : (g b : Float) → T (isNan b || above b) → T (lt g (mul binary64 mark b)) → T (above b)
+unfolding isNan
+above-of g nan h t = absurd (nan-never g t)
+above-of g (inf s) h t = h
+above-of g (fin s m e) h t = h
+
+-- the best gap is a NaN or above zero, or else the gap of the state at hand, which is yet to be tested
+abbrev Live : {S : Type 0} → Problem S → Point S → Type 0
+Live L p = T (isNan (p .best) || above (p .best)) ⊎ (p .best ≡ gap L (p .state))
+
+module _ {S : Type 0} (L : Problem S) (tol : Float) (tol-pos : T (positive tol)) (sign : (s : S) → T (clear (L .primal s))) where
+  awake : (p : Point S) → Live L p → enough L tol p ≡ false → T (isNan (p .best) || above (p .best))
+  awake p (inl h) s = h
+  awake p (inr e) s =
+      subst (λ (b : Float). T (isNan b || above b)) (sym e)
+      (goes-on binary64 tol (L .primal (p .state)) (L .dual (p .state)) tol-pos (sign (p .state)) (is-off (enough L tol p) s))
+
+  falls : {a : Float} {r : ℕ} {p : Point S} {e : Ended S} → Trace L tol r p e → Live L p → Falls a (p .gains) (p .best) → Falls a (e .gains) (e .best)
+  falls (closes r p s) v f = f
+  falls (spends p s) v f = f
+  falls (stalls r p s n) v f = f
+  falls (loses r p s n m) v f = f
+  falls (gains {p = p} t s n m b tr) v f =
+      let l = is-on (better L p t) b in falls tr (inr refl) (lower (gap L t) f (above-of (gap L t) (p .best) (awake p v s) l) l (sub-fits binary64 (L .primal t) (L .dual t)))
+  falls (stays {p = p} t s n m b tr) v f = falls tr (inl (awake p v s)) f
+
+  improvements : (max : ℕ) (s : S) → Falls (gap L s) (searched L tol max s .gains) (searched L tol max s .best)
+  improvements max s = falls (trace L tol max (start L s)) (inr refl) (here (sub-fits binary64 (L .primal s) (L .dual s)))
+
+  within-limit : (max : ℕ) (s : S) → searched L tol max s .steps ≤ max
+  within-limit max s = let h = steps-within (trace L tol max (start L s)) in omega arith
+
+  within-ten : (max : ℕ) (s : S) → searched L tol max s .steps ≤ 10 * searched L tol max s .gains + 10
+  within-ten max s = idle (trace L tol max (start L s)) zero-le zero-le
+
+  gains-few : (max : ℕ) (s : S) → searched L tol max s .gains ≤ 144763
+  gains-few max s = few-improvements (improvements max s)
+
+  pub kept : (max : ℕ) (s : S) → Kept max (searched L tol max s .steps) (searched L tol max s .gains) (gap L s) (searched L tol max s .best)
+  kept max s = record { limit = within-limit max s; ten = within-ten max s; few = gains-few max s; shrunk = falls-whole (improvements max s) }
+
+  steps-few : (max : ℕ) (s : S) → searched L tol max s .steps ≤ 1447640
+  steps-few max s = let h = within-ten max s in let g = gains-few max s in omega arith
+
+-- ---- the same search under another limit
+abbrev retold : {S : Type 0} → Ended S → Reason → Ended S
+retold e r = record { state = e .state; steps = e .steps; best = e .best; gains = e .gains; reason = r }
+
+record Again {S : Type 0} (L : Problem S) (tol : Float) (k : ℕ) (p : Point S) (e : Ended S) : Type 0 where
+  why : Reason
+  goes : Trace L tol k p (retold e why)
+
+module _ {S : Type 0} {L : Problem S} {tol : Float} where
+  -- a limit that is at least where it ended: the same but for the reason
+  again : {r : ℕ} {p : Point S} {e : Ended S} (k : ℕ) → Trace L tol r p e → e .steps < p .steps + r → e .steps ≤ p .steps + k → Again L tol k p e
+  again k (closes r p s) h g = record { why = small; goes = closes k p s }
+  again k (spends p s) h g = absurd (omega arith)
+  again zero (stalls r p s n) h g = record { why = spent; goes = spends p s }
+  again (suc k) (stalls r p s n) h g = record { why = stalled; goes = stalls k p s n }
+  again zero (loses r p s n m) h g = absurd (omega arith)
+  again (suc k) (loses r p s n m) h g = record { why = pivot; goes = loses k p s n m }
+  again zero (gains t s n m b tr) h g = let z = steps-grow tr in absurd (omega arith)
+  again (suc k) (gains t s n m b tr) h g = let a = again k tr (omega arith) (omega arith) in record { why = a .why; goes = gains t s n m b (a .goes) }
+  again zero (stays t s n m b tr) h g = let z = steps-grow tr in absurd (omega arith)
+  again (suc k) (stays t s n m b tr) h g = let a = again k tr (omega arith) (omega arith) in record { why = a .why; goes = stays t s n m b (a .goes) }
+
+  -- a limit above where it ended: the same
+  beyond : {r : ℕ} {p : Point S} {e : Ended S} (k : ℕ) → Trace L tol r p e → e .steps < p .steps + r → e .steps < p .steps + k → Trace L tol k p e
+  beyond k (closes r p s) h g = closes k p s
+  beyond k (spends p s) h g = absurd (omega arith)
+  beyond zero (stalls r p s n) h g = absurd (omega arith)
+  beyond (suc k) (stalls r p s n) h g = stalls k p s n
+  beyond zero (loses r p s n m) h g = absurd (omega arith)
+  beyond (suc k) (loses r p s n m) h g = loses k p s n m
+  beyond zero (gains t s n m b tr) h g = let z = steps-grow tr in absurd (omega arith)
+  beyond (suc k) (gains t s n m b tr) h g = gains t s n m b (beyond k tr (omega arith) (omega arith))
+  beyond zero (stays t s n m b tr) h g = let z = steps-grow tr in absurd (omega arith)
+  beyond (suc k) (stays t s n m b tr) h g = stays t s n m b (beyond k tr (omega arith) (omega arith))
+
+module _ {S : Type 0} (L : Problem S) (tol : Float) where
+  pub same-end : (max other : ℕ) (s : S) → searched L tol max s .steps < max → searched L tol max s .steps ≤ other → Alike (searched L tol other s) (searched L tol max s)
+  same-end max other s h g =
+      let a = again other (trace L tol max (start L s)) (omega (arith, h)) (omega (arith, g)) in
+      let q : searched L tol other s ≡ retold (searched L tol max s) (a .why) = traced L tol (a .goes) in
+      record { state = ap (λ (e : Ended S). e .state) q; steps = ap (λ (e : Ended S). e .steps) q; best = ap (λ (e : Ended S). e .best) q; gains = ap (λ (e : Ended S). e .gains) q }
+
+  pub same-reason : (max other : ℕ) (s : S) → searched L tol max s .steps < max → searched L tol max s .steps < other → searched L tol other s ≡ searched L tol max s
+  same-reason max other s h g = traced L tol (beyond other (trace L tol max (start L s)) (omega (arith, h)) (omega (arith, g)))
+
+-- ---- the whole
+pub demand3 : {S : Type 0} (L : Problem S) (tol : Float) → T (positive tol) → ((s : S) → T (clear (L .primal s))) → (s : S) → Demand3 L tol s
+demand3 L tol p q s = record {
+  kept = λ max. kept L tol p q max s;
+  alike = λ max other. same-end L tol max other s;
+  reason = λ max other. same-reason L tol max other s;
+  settled = λ max other h g. let k = steps-few L tol p q max s in same-reason L tol max other s (omega arith) (omega arith);
+}
+
+-- the closed paths: no iteration, no improvement, and the first and best gap are the gap, whatever it is
+pub kept-closed : (max : ℕ) (g : Float) → Kept max 0 0 g g
+kept-closed max g = record { limit = zero-le; ten = zero-le; few = zero-le; shrunk = λ p q. ≤ℤ-refl (units g *ℤ pos 1) }
