@@ -12,7 +12,7 @@ use lib.Ieee.{Float}
 use Rattle.float64.specs.Ops.{_⊖_}
 use Rattle.vectors.specs.Vec.{at}
 use Rattle.vectors.proofs.Laws.{length-list, at-list, cond-cong}
-use Rattle.differences.specs.Diff.{rise, diff, diffK, trail, before, here, fall, diffT, diffKT}
+use Rattle.differences.specs.Diff.{rise, diff, diffK, before, here, fall, diffT, diffKT}
 
 -- ---- D
 
@@ -44,14 +44,6 @@ at-diff-2 v i h =
     at-diff (diff v) i (omega arith) ∙ rw (a, at-diff v i (omega arith))
 
 -- the places that differencing in place leaves behind D
-pub length-trail : (k : ℕ) (v : List Float) → length (trail k v) ≡ k
-unfolding trail
-length-trail zero v = refl
-length-trail (suc k) v = ap suc (length-trail k v)
-
-pub take-trail : (k : ℕ) (v : List Float) → take (length v - k) (diffK k v ++ trail k v) ≡ diffK k v
-take-trail k v = take-at (diffK k v) (trail k v) (length v - k) (length-diffK k v)
-
 -- ---- D'
 
 pub length-diffT : (v : List Float) → length (diffT v) ≡ length v + 1

@@ -21,11 +21,6 @@ unfoldable pub diffK : ℕ → List Float → List Float
 diffK zero w = w
 diffK (suc k) w = diff (diffK k w)
 
--- what k differences in place leave in the last k places: the last place of each series on the way to D, that of the series itself behind all
-unfoldable pub trail : ℕ → List Float → List Float
-trail zero w = []
-trail (suc k) w = at (diffK k w) (length w - suc k) ∷ trail k w
-
 -- w[j-1] and w[j] of a series of m places, +0 beyond either end
 abbrev pub before : (ℕ → Float) → ℕ → Float
 before w j = cond (ltb 0 j) (w (j - 1)) c0

@@ -1,2 +1,3 @@
 -- The definitions that the contracts of differences cite.
 pub mod Diff
+pub mod Series

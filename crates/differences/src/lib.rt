@@ -1,10 +1,10 @@
-// Differences of a series, in place, and their transpose.
+// The differences of a series and their transpose, the stencil and the Gram row.
 ghost use mathlib.Core.Path.{_≡_};
 ghost use Prim.Native.Nat.{_≤_, _<_, _-_, _+_};
-ghost use lib.ListN.{length, take};
-ghost use mathlib.Core.List.{_++_};
-ghost use Rattle.vectors.specs.Vec.{at, put, Written};
-ghost use Rattle.differences.specs.Diff.{rise, diffK, trail, before, here, fall, diffKT, stencil as stencil_of, gramRow};
+ghost use lib.ListN.{length};
+ghost use Rattle.vectors.specs.Vec.{at, put};
+ghost use Rattle.differences.specs.Diff.{diffK, before, here, fall, diffKT, stencil as stencil_of, gramRow};
+ghost use Rattle.differences.specs.Series.{Order, Series};
 
 // The row of D. The last place is not used for order 1.
 pub fn stencil(k: usize) -> [f64; 3]
@@ -28,33 +28,6 @@ pub fn gram_offsets(k: usize) -> [f64; 3]
     }
 }
 
-// The first differences of v, in all places of it but the last, which stays.
-fn diff_1(v: &mut [f64])
-    requires { ⌜ 1 ≤ length (now v) ⌝ }
-    ensures { λ _. ⌜ Written 0 (length (now (v .entry)) - 1) (rise (now (v .entry))) (now (v .entry)) (now (v .exit)) ⌝ }
-{
-    let n = v.len() - 1;
-    let mut i = 0;
-    while i < n {
-        v[i] = v[i + 1] - v[i];
-        i += 1;
-    }
-}
-
-// k successive differences of v, in its first n - k places. Each series on the way there leaves its last place behind them.
-pub fn diff_k(v: &mut [f64], k: usize)
-    requires { ⌜ k < length (now v) ⌝ }
-    ensures { λ _. ⌜ now (v .exit) ≡ diffK k (now (v .entry)) ++ trail k (now (v .entry)) ⌝ }
-{
-    let n = v.len();
-    let mut j = 0;
-    while j < k {
-        let e = n - j;
-        diff_1(&mut v[0..e]);
-        j += 1;
-    }
-}
-
 fn before(v: &[f64], j: usize) -> f64
     requires { ⌜ j ≤ length (now v) ⌝ }
     ensures { λ r. ⌜ r ≡ before (at (now (v .entry))) j ⌝ }
@@ -69,38 +42,9 @@ fn here(v: &[f64], m: usize, j: usize) -> f64
     if j < m { v[j] } else { 0.0 }
 }
 
-// The transposed difference of all places of v but the last, in all places of v.
-fn diff_1_transpose(v: &mut [f64])
-    requires { ⌜ 1 ≤ length (now v) ⌝ }
-    ensures { λ _. ⌜ Written 0 (length (now (v .entry))) (fall (length (now (v .entry)) - 1) (at (now (v .entry)))) (now (v .entry)) (now (v .exit)) ⌝ }
-{
-    let m = v.len() - 1;
-    let mut j = v.len();
-    while 0 < j {
-        j -= 1;
-        let a = before(v, j);
-        let b = here(v, m, j);
-        v[j] = a - b;
-    }
-}
-
-// k successive transposed differences of the first n - k places of v, in all places of v.
-pub fn diff_k_transpose(v: &mut [f64], k: usize)
-    requires { ⌜ k < length (now v) ⌝ }
-    ensures { λ _. ⌜ now (v .exit) ≡ diffKT k (take (length (now (v .entry)) - k) (now (v .entry))) ⌝ }
-{
-    let m = v.len() - k;
-    let mut j = 0;
-    while j < k {
-        let e = m + j + 1;
-        diff_1_transpose(&mut v[0..e]);
-        j += 1;
-    }
-}
-
 // Place i of D y, for order 1 and 2.
 pub fn diff_at(y: &[f64], k: usize, i: usize) -> f64
-    requires { ⌜ (1 ≤ k) × ((k ≤ 2) × (i + k < length (now y))) ⌝ }
+    requires { ⌜ Order k × (i + k < length (now y)) ⌝ }
     ensures { λ r. ⌜ r ≡ at (diffK k (now (y .entry))) i ⌝ }
 {
     if k == 1 {
@@ -110,8 +54,8 @@ pub fn diff_at(y: &[f64], k: usize, i: usize) -> f64
 }
 
 // The first places of d become D y.
-pub fn diff_into(d: &mut [f64], y: &[f64], k: usize)
-    requires { ⌜ (1 ≤ k) × ((k ≤ 2) × ((k < length (now y)) × (length (now y) - k ≤ length (now d)))) ⌝ }
+pub fn diff_k(d: &mut [f64], y: &[f64], k: usize)
+    requires { ⌜ Series k (length (now y)) × (length (now y) - k ≤ length (now d)) ⌝ }
     ensures { λ _. ⌜ now (d .exit) ≡ put (now (d .entry)) 0 (diffK k (now (y .entry))) ⌝ }
 {
     let m = y.len() - k;
@@ -149,7 +93,7 @@ fn fall_here(v: &[f64], j: usize) -> f64
 
 // Place j of D' z, for order 1 and 2.
 pub fn diff_t_at(z: &[f64], k: usize, j: usize) -> f64
-    requires { ⌜ (1 ≤ k) × ((k ≤ 2) × (j < length (now z) + k)) ⌝ }
+    requires { ⌜ Order k × (j < length (now z) + k) ⌝ }
     ensures { λ r. ⌜ r ≡ at (diffKT k (now (z .entry))) j ⌝ }
 {
     if k <= j {

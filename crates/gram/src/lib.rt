@@ -56,7 +56,7 @@ fn star(s: &mut [f64], y: &[f64], g: [f64; 3], k: usize, m: usize) -> bool
     fill_gram(s, g, k, m);
     let b = m * (k + 1);
     let e = b + m;
-    differences::diff_into(&mut s[b..e], y, k);
+    differences::diff_k(&mut s[b..e], y, k);
     substitution::factor_solve(s, k, m)
 }
 

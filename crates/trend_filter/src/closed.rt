@@ -94,7 +94,7 @@ pub fn fit_flat(
     let a = rows_end(m, k);
     let s = a - y.len();
     let e = a + m;
-    differences::diff_into(cycle, y, k);
+    differences::diff_k(cycle, y, k);
     let p = certificate::certify_l1(&mut work[s..e], y, cycle, lam, k);
     let count = write_out(trend, cycle, knots, y, &work[s..a], k);
     closed(count, lam_max, p.primal - p.dual, p.primal)

@@ -100,7 +100,7 @@ pub fn fit_search(
         × (Kept 0 (40 * length (now (y .entry))) (now (work .entry)) (now (work .exit))
         × KeptOf 0 0 (2 * length (now (y .entry))) (now (marks .entry)) (now (marks .exit))) ⌝ }
 {
-    differences::diff_into(cycle, y, k);
+    differences::diff_k(cycle, y, k);
     let r = search_polish(work, marks, y, cycle, lam, tol, max_iter, k);
     let x = polish::winner(work, y.len(), r.second);
     let count = crate::closed::write_out(trend, cycle, knots, y, x, k);

@@ -31,7 +31,7 @@ certify-l1-requires c κs = let q = c .before .before .before .before .before .b
           h .long,
           (
             search needs,
-            ap (take (length y - p .k)) (c .before .before .before .before .diff-into .ensures) ∙ take-put (p .cycle .now) (diffK (p .k) y) (length y - p .k) (length-diffK (p .k) y),
+            ap (take (length y - p .k)) (c .before .before .before .before .diff-k .ensures) ∙ take-put (p .cycle .now) (diffK (p .k) y) (length y - p .k) (length-diffK (p .k) y),
           ),
         ),
       ),
@@ -68,7 +68,7 @@ returns c = let q = c .before .before .before .before .before .before .before .b
       λ tol limit penalty.
           closed-shows (asking y (p .lam) tol limit k penalty) (d .trend) (gapOf d) (d .primal)
           (c .closed .ensures ∙ ap₂ (λ (u v : Float). closedOf (wo .result) (p .lam-max) (u ⊖ v) u) pr du) (q .pre .1 .1 .0)
-          (wrote-over (p .cycle .now) (diffK k y) _ (c .before .before .before .before .before .before .before .before .before .before .before .before .before .before .before .before .before .before .before .before .before .diff-into .ensures) (omega (arith, length-diffK k y)) (wrote-as _ (d .trend) tr (wo .ensures))),
+          (wrote-over (p .cycle .now) (diffK k y) _ (c .before .before .before .before .before .before .before .before .before .before .before .before .before .before .before .before .before .before .before .before .before .diff-k .ensures) (omega (arith, length-diffK k y)) (wrote-as _ (d .trend) tr (wo .ensures))),
       flat-kept k y (p .lam) w x z (ce .result .primal) (ce .result .dual) s a e le st refl fi sz star (ce .ensures) (40 * n) (omega (arith, h .long, ra .1 .1)),
     )
 

@@ -29,7 +29,7 @@ search-polish-requires c κs = let q = c .before .before .before .before .before
               omega (arith, q .pre .1 .0),
               (
                 q .pre .1 .1 .0,
-                ap (take (length y - p .k)) (c .before .before .before .before .before .diff-into .ensures) ∙ take-put (p .cycle .now) (diffK (p .k) y) (length y - p .k) (length-diffK (p .k) y),
+                ap (take (length y - p .k)) (c .before .before .before .before .before .diff-k .ensures) ∙ take-put (p .cycle .now) (diffK (p .k) y) (length y - p .k) (length-diffK (p .k) y),
               ),
             ),
           ),
@@ -44,12 +44,12 @@ write-out-requires c κs = let q = c .before .before .before .before .before .be
     let h = q .pre .0 in
     let wi = c .before .before .before .winner in
     let w = c .before .before .before .before .before .before .before .before .before .search-polish .last .0 in (
-      record { low = h .low; high = h .high; long = h .long; short = h .short; trend = h .trend; cycle = omega (arith, h .cycle, c .before .before .before .before .before .before .before .before .before .before .before .before .before .before .before .diff-into .kept .0); knots = h .knots },
+      record { low = h .low; high = h .high; long = h .long; short = h .short; trend = h .trend; cycle = omega (arith, h .cycle, c .before .before .before .before .before .before .before .before .before .before .before .before .before .before .before .diff-k .kept .0); knots = h .knots },
       ap length (wi .ensures) ∙ length-either (c .before .before .before .before .before .before .before .before .before .search-polish .result .second) n w,
     )
 
 same-length-2 : tie.Need-same-length-2
-same-length-2 c = c .before .before .before .before .before .before .before .write-out .kept .1 .0 ∙ c .before .before .before .before .before .before .before .before .before .before .before .before .before .before .before .before .before .before .before .before .before .before .before .diff-into .kept .0
+same-length-2 c = c .before .before .before .before .before .before .before .write-out .kept .1 .0 ∙ c .before .before .before .before .before .before .before .before .before .before .before .before .before .before .before .before .before .before .before .before .before .before .before .diff-k .kept .0
 
 returns : tie.Need-returns
 returns c = let q = c .before .before .before .before .before .before .before .before .before .before .before .before .before .before .before .before .before .before .before .before .before .before .before .before .before .before .before .before .before .before .before in
@@ -58,7 +58,7 @@ returns c = let q = c .before .before .before .before .before .before .before .b
     let k = p .k in
     let n = length y in
     let h = q .pre .0 in
-    let di = c .before .before .before .before .before .before .before .before .before .before .before .before .before .before .before .before .before .before .before .before .before .before .before .diff-into in
+    let di = c .before .before .before .before .before .before .before .before .before .before .before .before .before .before .before .before .before .before .before .before .before .before .before .diff-k in
     let sp = c .before .before .before .before .before .before .before .before .before .before .before .before .before .before .before .before .before .search-polish in
     let wi = c .before .before .before .before .before .before .before .before .before .before .before .winner in
     let wo = c .before .before .before .before .before .before .before .write-out in
