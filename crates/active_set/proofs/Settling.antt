@@ -14,7 +14,7 @@ use Rattle.vectors.proofs.Laws.{list-ext, cond-cong}
 use Rattle.vectors.proofs.Parts.{range-part, at-part, putBack, kept-put, part-put}
 use Rattle.banded.specs.Rows.{Matrix, rows, sound, matrix, concat}
 use Rattle.banded.specs.Solve.{solve, forward, divided, back}
-use Rattle.substitution.proofs.Laws.{kept-take}
+use Rattle.vectors.proofs.Parts.{kept-take}
 use Rattle.active_set.specs.ActiveSet.{Hold, isFree, heldAt, freeTo, compressed, rightOf, solved}
 use Rattle.active_set.specs.Marks.{holdOf, heldBy, Marks}
 use Rattle.active_set.proofs.Laws.{hold-mark, free-index, free-ext, matrix-ext, band-ext, right-ext}

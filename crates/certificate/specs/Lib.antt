@@ -1,3 +1,4 @@
 -- The definitions that the contracts of certificate cite.
 pub mod Certificate
 pub mod Run
+pub mod Ready

@@ -1,5 +1,6 @@
-// Helpers on doubles, each equal to its definition for every double: abs, max, min, clamp, is_finite.
+// Helpers on doubles, each equal to its definition for every double: abs, max, min, clamp, is_finite; a double's bits and back.
 ghost use mathlib.Core.Path.{_≡_};
+ghost use lib.Ieee.{binary64, ofBits, toBits};
 ghost use Rattle.float64.specs.Helpers.{absOf, isFinite, maxOf, minOf, clampOf};
 
 pub fn is_finite(x: f64) -> bool
@@ -41,4 +42,26 @@ pub fn clamp(z: f64, lam: f64) -> f64
         return -lam;
     }
     if z > lam { lam } else { z }
+}
+
+// The double that a bit pattern spells; each NaN's pattern is the NaN.
+pub fn double(b: u64) -> f64
+    ensures { λ r. ⌜ r ≡ ofBits binary64 b ⌝ }
+{
+    if b % 0x8000_0000_0000_0000 > 0x7ff0_0000_0000_0000 {
+        0.0 / 0.0
+    } else {
+        f64::from_bits(b)
+    }
+}
+
+// The bits of a double; a NaN's are 7ff8000000000000.
+pub fn pattern(x: f64) -> u64
+    ensures { λ r. ⌜ r ≡ toBits binary64 x ⌝ }
+{
+    if x != x {
+        0x7ff8_0000_0000_0000
+    } else {
+        f64::to_bits(x)
+    }
 }

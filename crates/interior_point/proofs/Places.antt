@@ -10,7 +10,7 @@ use lib.ListN.{length, take, drop, length-take}
 use lib.Seq.{getD-take, getD-drop}
 use lib.Ieee.{Float, nan}
 use Rattle.vectors.specs.Vec.{at, part, Kept}
-use Rattle.vectors.proofs.Parts.{putBack, getD-put, kept-put, part-put, partOf-range}
+use Rattle.vectors.proofs.Parts.{putBack, getD-put, kept-put, part-put, partOf-range, kept-within}
 use Rattle.differences.specs.Diff.{diffK}
 use Rattle.differences.proofs.Laws.{length-diffK}
 use Rattle.banded.specs.Rows.{sound}
@@ -19,9 +19,6 @@ use Rattle.line_search.specs.LineSearch.{searchLine, taken}
 use Rattle.dual_point.specs.Places.{point}
 use Rattle.newton_step.specs.Stepped.{stepOf, Stepped}
 use Rattle.newton_step.specs.declared.Step.{Step}
-
-split : (a b : ℕ) → (a < b) ⊎ (b ≤ a)
-split a b = ⊎-elim (λ (e : b - a ≡ zero). inr (omega arith)) (λ (h : zero < b - a). inl (omega arith)) (eq-zero-or-pos (b - a))
 
 -- rows of at most 3 places
 pub rows-small : (k m : ℕ) → k ≤ 2 → m * (k + 1) ≤ 3 * m
@@ -47,29 +44,6 @@ point-in a n m s h f =
       mu1 = (partOf-range nan (0 + m) m a (a + n) s (omega arith) f (omega arith) ∙ ap (λ (q : ℕ). part q m s) y) i;
       mu2 = (partOf-range nan (0 + m + m) m a (a + n) s (omega arith) f (omega arith) ∙ ap (λ (q : ℕ). part q m s) x) i;
     }
-
--- a part of the run that changed within it
-pub kept-within : (a n b l : ℕ) (s x : List Float) → a + n ≤ length s → length x ≡ n → Kept b l (take n (drop a s)) x → Kept (a + b) l s (putBack a n s x)
-kept-within a n b l s x f e w = record {
-  size = kept-put a n s x f e nan .size;
-  below = λ j h. ⊎-elim
-      (λ (o : j < a). kept-put a n s x f e nan .below j o)
-      (λ (o : a ≤ j). let q : a + (j - a) ≡ j = omega arith in
-      ⊎-elim
-      (λ (u : j - a < n). within j (j - a) q u (w .below (j - a) (omega arith)))
-      (λ (u : n ≤ j - a). kept-put a n s x f e nan .above j (omega arith))
-      (split (j - a) n))
-      (split j a);
-  above = λ j h. let q : a + (j - a) ≡ j = omega arith in
-      ⊎-elim
-      (λ (u : j - a < n). within j (j - a) q u (w .above (j - a) (omega arith)))
-      (λ (u : n ≤ j - a). kept-put a n s x f e nan .above j (omega arith))
-      (split (j - a) n);
-}
-  where
-    within : (j i : ℕ) → a + i ≡ j → i < n → at x i ≡ at (take n (drop a s)) i → at (putBack a n s x) j ≡ at s j
-    within j i q u o =
-        ap (at (putBack a n s x)) (sym q) ∙ sym (getD-put a n s x f e nan i u) ∙ o ∙ getD-take n (drop a s) i nan u ∙ getD-drop a s i nan ∙ ap (at s) q
 
 -- a step on the part from a on, d places
 module _ (k : ℕ) (g dy : List Float) (lam u : Float) (a m n : ℕ) (s x : List Float) (r : Step)

@@ -8,7 +8,7 @@ use lib.ListN.{length, take, drop, getD, length-drop}
 use lib.Seq.{take-all, drop-drop, length-take-le, getD-drop}
 use lib.Ieee.{Float, nan}
 use Rattle.vectors.specs.Vec.{put, part, KeptOf, Wrote}
-use Rattle.vectors.proofs.Parts.{putBack, mid-put, first-put, kept-put, range-part}
+use Rattle.vectors.proofs.Parts.{putBack, mid-put, first-put, kept-put, range-part, kept-drop, mid-is}
 use Rattle.vectors.proofs.Texts.{wrote-take}
 use Rattle.differences.specs.Diff.{stencil}
 use Rattle.banded.specs.Rows.{Matrix, rows, sound, matrix, concat}
@@ -17,20 +17,6 @@ use Rattle.banded.proofs.Laws.{kept-after}
 use Rattle.ridge.specs.Ridge.{ridge}
 use Rattle.l2.specs.L2.{soundL2, trendL2}
 use Rattle.l2.specs.Solved.{SolvedL2}
-
--- a run of which all places from q on stayed
-pub kept-drop : {A : Type 0} (z : A) (q : ℕ) (s₀ s : List A) → length s ≡ length s₀ → drop q s ≡ drop q s₀ → KeptOf z 0 q s₀ s
-kept-drop {A} z q s₀ s n e = record {
-  size = n;
-  below = λ j h. absurd (omega arith);
-  above = λ j h.
-      let r : q + (j - q) ≡ j = omega arith in
-      ap (λ (p : ℕ). getD s p z) (sym r) ∙ sym (getD-drop q s (j - q) z) ∙ ap (λ (v : List A). getD v (j - q) z) e ∙ getD-drop q s₀ (j - q) z ∙ ap (λ (p : ℕ). getD s₀ p z) r;
-}
-
--- the n places from b on, as a part
-pub taken-part : (b n : ℕ) (s : List Float) → b + n ≤ length s → take n (drop b s) ≡ part b n s
-taken-part b n s h = let sp : b + n - b ≡ n = omega arith in rw sp at (range-part b (b + n) n s refl h)
 
 module _ (k : ℕ) (lam : Float) (y s₀ s₁ x s₃ : List Float) (ok : Bool) (room : length y * (k + 1) + length y ≤ length s₁) (l : length x ≡ length y)
     (held : take (length y * (k + 1)) s₁ ≡ concat (matrix k (ridge k (stencil k) lam (length y)) (length y))) (kept : drop (length y * (k + 1)) s₁ ≡ drop (length y * (k + 1)) s₀)
@@ -60,6 +46,6 @@ module _ (k : ℕ) (lam : Float) (y s₀ s₁ x s₃ : List Float) (ok : Bool) (
       let stays = after ∙ kept-after (b + n) (putBack b n s₁ x) s₁ (f .size) (f .above) ∙ two s₁ ∙ ap (drop n) kept ∙ sym (two s₀) in
       record {
         sound = r .0;
-        trend = λ t. sym (taken-part b n s₃ (omega arith)) ∙ r .1 t .1 ∙ ap (solve k (rows k a n)) (mid-put b n s₁ x room l ∙ series);
+        trend = λ t. sym (mid-is b n s₃ (omega arith)) ∙ r .1 t .1 ∙ ap (solve k (rows k a n)) (mid-put b n s₁ x room l ∙ series);
         kept = kept-drop nan (b + n) s₀ s₃ size₃ stays;
       }

@@ -4,7 +4,6 @@ ghost use mathlib.Core.Path.{_≡_};
 ghost use mathlib.Core.Bool.{cond};
 ghost use mathlib.Core.List.{[], _∷_};
 ghost use Prim.Native.Nat.{_+_, _*_, _≤_, _<_};
-ghost use lib.Ieee.{binary64, toBits};
 ghost use lib.ListN.{length};
 ghost use Rattle.vectors.specs.Vec.{Wrote};
 ghost use Rattle.listing.specs.Listing.{decimal, hexOf, field, hexField, hourLine, knotLine, hourLines, knotLines, three, fitLine, numbersLine, listingOf, refusedLine};
@@ -45,17 +44,6 @@ fn put_all(out: &mut [u8], at: usize, src: &[u8]) -> usize
     at + i
 }
 
-// The bits of a double; a NaN's are those that the listing prints for any NaN.
-pub fn pattern(x: f64) -> u64
-    ensures { λ r. ⌜ r ≡ toBits binary64 x ⌝ }
-{
-    if x != x {
-        0x7ff8_0000_0000_0000
-    } else {
-        f64::to_bits(x)
-    }
-}
-
 // A whole number in decimal.
 fn put_decimal(out: &mut [u8], at: usize, n: u64) -> usize
     requires { ⌜ at + 20 ≤ length (now out) ⌝ }
@@ -72,7 +60,7 @@ fn put_hex(out: &mut [u8], at: usize, x: f64) -> usize
     ensures { λ r. ⌜ (Wrote (now (out .entry)) at (hexOf x) (now (out .exit)) r) × (r ≤ at + 16) ⌝ }
 {
     let mut text = [0u8; 16];
-    let k = io::hex(pattern(x), 16, &mut text);
+    let k = io::hex(float64::pattern(x), 16, &mut text);
     put_all(out, at, &text[..k])
 }
 

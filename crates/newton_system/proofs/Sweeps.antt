@@ -14,7 +14,7 @@ use borrow.Author.Tests.{lt-ltb, le-ltb}
 use Rattle.vectors.specs.Sums.{sumTo}
 use Rattle.vectors.specs.Vec.{at, part, Written, Kept}
 use Rattle.vectors.proofs.Laws.{length-list, at-list, none, up, kept-then}
-use Rattle.vectors.proofs.Parts.{length-part, at-part, first-part, range-part, partOf-range, putBack, mid-put, length-put, kept-put, part-put}
+use Rattle.vectors.proofs.Parts.{length-part, at-part, first-part, range-part, partOf-range, putBack, mid-put, length-put, kept-put, part-put, head-is, mid-is, side-is}
 use Rattle.vectors.proofs.Sums.{sum-more}
 use Rattle.banded.specs.Rows.{Matrix, rows, concat}
 use Rattle.banded.specs.Solve.{forward, divided, back, solve}
@@ -97,26 +97,6 @@ module _ (m r : ℕ) (g : List Float) (d x : Float) (s : List Float) (h : r < m)
       let t : Written (r * 3) (r * 3 + 2) f s (set (set s (r * 3) (at g 2)) (r * 3 + 1) (at g 1)) = rw i at v in
       let c : Written (r * 3) (r * 3 + 2 + 1) f s (set (set (set s (r * 3) (at g 2)) (r * 3 + 1) (at g 1)) (r * 3 + 2) d) = up t (omega arith) (omega arith) (rw a) in
       put-row (r * 3) (m * 3 + r) refl refl h fits (rw e at c)
-
--- ---- the n places of a run from a on, and then the m after them
-
-pub head-is : (a n m : ℕ) (s : List Float) → a + (n + m) ≤ length s → take n (take (n + m) (drop a s)) ≡ part a n s
-head-is a n m s room =
-    let t = take (n + m) (drop a s) in
-    let l : length t ≡ n + m = length-take-le (n + m) (drop a s) (omega (arith, length-drop a s)) in
-    let d : a + (n + m) - a ≡ n + m = omega arith in
-    let z : a + 0 ≡ a = omega arith in
-    first-part n t (omega arith) ∙ rw (d, z) at (partOf-range nan 0 n a (a + (n + m)) s (omega arith) room (omega arith))
-
-pub mid-is : (n m : ℕ) (s : List Float) → n + m ≤ length s → take m (drop n s) ≡ part n m s
-mid-is n m s h = let d : n + m - n ≡ m = omega arith in rw d at (range-part n (n + m) m s refl h)
-
-pub side-is : (a n m : ℕ) (s : List Float) → a + (n + m) ≤ length s → take m (drop n (take (n + m) (drop a s))) ≡ part (a + n) m s
-side-is a n m s room =
-    let t = take (n + m) (drop a s) in
-    let l : length t ≡ n + m = length-take-le (n + m) (drop a s) (omega (arith, length-drop a s)) in
-    let d : a + (n + m) - a ≡ n + m = omega arith in
-    mid-is n m t (omega arith) ∙ rw d at (partOf-range nan n m a (a + (n + m)) s (omega arith) room (omega arith))
 
 -- ---- r rows of the system of the point in s₀, made and factored
 

@@ -11,10 +11,10 @@ use lib.Seq.{getD-drop, length-take-le}
 use lib.Ieee.{Float, nan}
 use Rattle.vectors.specs.Vec.{at, list, partOf, part, Kept}
 use Rattle.vectors.proofs.Laws.{list-ext, cond-cong}
-use Rattle.vectors.proofs.Parts.{range-part, at-part, putBack, kept-put, part-put}
+use Rattle.vectors.proofs.Parts.{range-part, at-part, putBack, kept-put, part-put, kept-part, part-size}
 use Rattle.banded.specs.Rows.{Matrix, rows, sound, matrix, concat}
 use Rattle.banded.specs.Solve.{solve, forward, divided, back}
-use Rattle.substitution.proofs.Laws.{kept-take}
+use Rattle.vectors.proofs.Parts.{kept-take}
 use Rattle.active_set.specs.ActiveSet.{Hold, isFree, heldAt, freeTo, compressed, rightOf, solved}
 use Rattle.polish.specs.Polish.{candidateAt, candidate}
 use Rattle.active_set.specs.Marks.{holdOf, heldBy, Marks}
@@ -28,15 +28,6 @@ pub place-is : (lam : Float) (h : ℕ → Hold) (b m i q : ℕ) (s₀ s : List F
 unfolding candidateAt
 place-is lam h b m i q s₀ s x c l p e =
     e ∙ ap (λ (t : Float). cond (isFree (h i)) t (heldAt lam (h i))) (p ∙ sym (at-part b m s₀ q (b + q) l refl) ∙ ap (at (part b m s₀)) c)
-
--- what a call on the l places from a on leaves, within the n places from a on
-pub kept-part : (a l n : ℕ) (s x : List Float) → a + l ≤ length s → length x ≡ l → l ≤ n → Kept a n s (putBack a l s x)
-kept-part a l n s x fits e h =
-    let k = kept-put a l s x fits e nan in
-    record { size = k .size; below = k .below; above = λ j u. k .above j (omega arith) }
-
-pub part-size : (a l : ℕ) (s x : List Float) → a + l ≤ length s → length x ≡ length (take l (drop a s)) → length x ≡ l
-part-size a l s x fits e = e ∙ length-take-le l (drop a s) (omega (arith, length-drop a s))
 
 module _ {h : ℕ → Hold} {n m q : ℕ} {v : List ℕ} (w : Marks h n m v q) where
   pub held-by : (j : ℕ) → j < m → heldBy n v j ≡ h j

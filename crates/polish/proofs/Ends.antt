@@ -26,7 +26,7 @@ use Rattle.certificate.specs.Run.{Certified}
 use Rattle.certificate.proofs.Laws.{room}
 use Rattle.polish.specs.declared.Candidate.{Candidate}
 use Rattle.active_set.proofs.Laws.{count-le, free-lt}
-use Rattle.polish.proofs.Candidates.{kept-part}
+use Rattle.vectors.proofs.Parts.{kept-part}
 
 -- dy holds D y in its first places
 module _ (k : ℕ) (y dy : List Float) (is : take (length y - k) dy ≡ diffK k y) where

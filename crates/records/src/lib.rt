@@ -4,7 +4,7 @@ ghost use mathlib.Core.Bool.{cond};
 ghost use mathlib.Core.Option.{none};
 ghost use Prim.Native.Nat.{_+_, _*_, _-_, _≤_, _<_};
 ghost use lib.Dec.{eqb};
-ghost use lib.Ieee.{binary64, ofBits, ofInt};
+ghost use lib.Ieee.{binary64, ofInt};
 ghost use lib.ListN.{length};
 ghost use Rattle.vectors.specs.Vec.{Wrote};
 ghost use Rattle.records.specs.Bytes.{two·at, four·at, eight·at, signed32};
@@ -73,17 +73,6 @@ pub fn eight(s: &[u8], at: usize) -> u64
     ensures { λ r. ⌜ r ≡ eight·at (now (s .entry)) at ⌝ }
 {
     four(s, at) + 4294967296 * four(s, at + 4)
-}
-
-// The double that a bit pattern spells; each NaN's pattern is the NaN.
-pub fn double(b: u64) -> f64
-    ensures { λ r. ⌜ r ≡ ofBits binary64 b ⌝ }
-{
-    if b % 0x8000_0000_0000_0000 > 0x7ff0_0000_0000_0000 {
-        0.0 / 0.0
-    } else {
-        f64::from_bits(b)
-    }
 }
 
 // A number of 32 bits, read as a signed one, as a double.
@@ -234,8 +223,8 @@ fn first_settings(s: &[u8]) -> Settings
     ensures { λ r. ⌜ r ≡ settingsAt (now (s .entry)) 4 ⌝ }
 {
     Settings {
-        lam: double(eight(s, 4)),
-        tol: double(eight(s, 12)),
+        lam: float64::double(eight(s, 4)),
+        tol: float64::double(eight(s, 12)),
         max_iter: eight(s, 20),
         order: number(s[28]),
         penalty: number(s[29]),

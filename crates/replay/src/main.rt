@@ -39,7 +39,7 @@ fn load(y: &mut [f64], s: &[u8; 131072], at: usize, n: usize)
 {
     let mut i = 0;
     while i < n {
-        y[i] = records::double(word(s, at + i));
+        y[i] = float64::double(word(s, at + i));
         i += 1;
     }
 }
@@ -50,7 +50,7 @@ fn same_places(x: &[f64; 168], s: &[u8; 131072], at: usize, n: usize) -> bool
 {
     let mut i = 0;
     while i < n {
-        if listing::pattern(x[i]) != word(s, at + i) {
+        if float64::pattern(x[i]) != word(s, at + i) {
             return false;
         }
         i += 1;
@@ -79,19 +79,19 @@ fn same_knots(x: &[u32; 168], s: &[u8; 131072], at: usize, n: usize) -> bool
 fn same_doubles(f: Summary, s: &[u8; 131072], at: usize) -> bool
     requires { ⌜ at < 65536 ⌝ }
 {
-    if listing::pattern(f.lam_max) != word(s, at) {
+    if float64::pattern(f.lam_max) != word(s, at) {
         return false;
     }
-    if listing::pattern(f.gap) != word(s, at + 1) {
+    if float64::pattern(f.gap) != word(s, at + 1) {
         return false;
     }
-    if listing::pattern(f.first_gap) != word(s, at + 2) {
+    if float64::pattern(f.first_gap) != word(s, at + 2) {
         return false;
     }
-    if listing::pattern(f.best_gap) != word(s, at + 3) {
+    if float64::pattern(f.best_gap) != word(s, at + 3) {
         return false;
     }
-    listing::pattern(f.objective) == word(s, at + 4)
+    float64::pattern(f.objective) == word(s, at + 4)
 }
 
 fn one_if(b: bool) -> u64 {
@@ -182,7 +182,7 @@ fn options_at(s: &[u8; 131072], at: usize) -> TrendFilterOptions
     TrendFilterOptions {
         order: option_at(s, at + 1),
         penalty: option_at(s, at + 2),
-        tol: records::double(word(s, at + 10)),
+        tol: float64::double(word(s, at + 10)),
         max_iter: word(s, at + 11),
     }
 }
@@ -266,7 +266,7 @@ fn case_at(s: &[u8; 131072], at: usize) -> Tried
     let places = at + 12;
     load(&mut y, s, places, n);
     let opts = options_at(s, at);
-    let lam = records::double(word(s, at + 9));
+    let lam = float64::double(word(s, at + 9));
     fit_at(&y, l, lam, opts, s, places + n)
 }
 

@@ -13,7 +13,7 @@ use lib.Ieee.{Float, nan}
 use Rattle.float64.specs.Ops.{_⊘_}
 use Rattle.vectors.specs.Vec.{at, list, part, Kept}
 use Rattle.vectors.proofs.Laws.{length-list, at-list, kept-none}
-use Rattle.vectors.proofs.Parts.{putBack, first-part, range-part, partOf-range, kept-put, part-put}
+use Rattle.vectors.proofs.Parts.{putBack, first-part, range-part, partOf-range, kept-put, part-put, kept-take}
 use Rattle.banded.specs.Rows.{Matrix, look, less, rows, sound, matrix, concat}
 use Rattle.banded.specs.Solve.{backAt, forward, divided, back, solve}
 use Rattle.banded.specs.Run.{flat, Shape, Holds, Stands}
@@ -94,13 +94,6 @@ module _ {k m t : ℕ} {s₀ s : List Float} {x : Float} (i q : ℕ) (w : Backed
 pub solve-is : (k m : ℕ) (f : List (List Float)) (b : List Float) → length b ≡ m → solve k f b ≡ back k f (divided k f (forward k f b m)) m
 unfolding solve
 solve-is k m f b l = rw (l, length-divided k f (forward k f b m), length-forward k f b m)
-
-pub kept-take : {b n : ℕ} {s₀ s : List Float} → Kept b n s₀ s → b ≤ length s₀ → take b s ≡ take b s₀
-kept-take {b} {n} {s₀} {s} w h =
-    let e = w .size in
-    let l : length (take b s) ≡ b = length-take-le b s (omega arith) in
-    ext-getD nan (take b s) (take b s₀) (l ∙ sym (length-take-le b s₀ h))
-    (λ i u. let c : i < b = omega arith in getD-take b s i nan c ∙ w .below i c ∙ sym (getD-take b s₀ i nan c))
 
 -- where the last min k m places are not all, there are more than k
 pub more-than : (k m n : ℕ) → n ≡ min k m → (n ≡ m → ⊥) → k < m

@@ -1,13 +1,14 @@
 -- Laws of a part of a run, and of a run with a part put back. Assumes nothing.
 use mathlib.Core.Path.{_≡_, refl, sym, ap, _∙_}
+use mathlib.Core.Logic.{_⊎_, inl, inr, ⊎-elim}
 use mathlib.Core.List.{List, _++_, append-assoc}
-use Prim.Native.Nat.{ℕ, _+_, _-_, _≤_, _<_}
-use native.Mathlib.Nat.{zero-add}
+use Prim.Native.Nat.{ℕ, zero, _+_, _-_, _≤_, _<_}
+use native.Mathlib.Nat.{zero-add, eq-zero-or-pos}
 use native.Mathlib.Omega.{arith}
 use lib.ListN.{length, getD, take, drop, length-append, length-drop}
 use lib.Seq.{ext-getD, take-at, drop-at, drop-drop, length-take-le, getD-drop, getD-take}
 use lib.Ieee.{Float, nan}
-use Rattle.vectors.specs.Vec.{at, list, partOf, part, WrittenOf, KeptOf}
+use Rattle.vectors.specs.Vec.{at, list, partOf, part, WrittenOf, KeptOf, Kept}
 use Rattle.vectors.proofs.Laws.{length-list, getD-list, list-ext}
 
 module _ {A : Type 0} (z : A) where
@@ -110,4 +111,76 @@ module _ {A : Type 0} (a n : ℕ) (s x : List A) (fits : a + n ≤ length s) (e 
       partOf-ext z (a + b) b m (putBack a n s x) x
       (λ j l. let q : a + (b + j) ≡ a + b + j = omega arith in ap (λ (p : ℕ). getD (putBack a n s x) p z) (sym q) ∙ sym (getD-put z (b + j) (omega arith)))
 
--- the same where the part starts at place 0
+-- ---- the n places of a run from a on, and then the m after them
+
+pub head-is : (a n m : ℕ) (s : List Float) → a + (n + m) ≤ length s → take n (take (n + m) (drop a s)) ≡ part a n s
+head-is a n m s room =
+    let t = take (n + m) (drop a s) in
+    let l : length t ≡ n + m = length-take-le (n + m) (drop a s) (omega (arith, length-drop a s)) in
+    let d : a + (n + m) - a ≡ n + m = omega arith in
+    let z : a + 0 ≡ a = omega arith in
+    first-part n t (omega arith) ∙ rw (d, z) at (partOf-range nan 0 n a (a + (n + m)) s (omega arith) room (omega arith))
+
+pub mid-is : (n m : ℕ) (s : List Float) → n + m ≤ length s → take m (drop n s) ≡ part n m s
+mid-is n m s h = let d : n + m - n ≡ m = omega arith in rw d at (range-part n (n + m) m s refl h)
+
+pub side-is : (a n m : ℕ) (s : List Float) → a + (n + m) ≤ length s → take m (drop n (take (n + m) (drop a s))) ≡ part (a + n) m s
+side-is a n m s room =
+    let t = take (n + m) (drop a s) in
+    let l : length t ≡ n + m = length-take-le (n + m) (drop a s) (omega (arith, length-drop a s)) in
+    let d : a + (n + m) - a ≡ n + m = omega arith in
+    mid-is n m t (omega arith) ∙ rw d at (partOf-range nan n m a (a + (n + m)) s (omega arith) room (omega arith))
+
+-- ---- what a call on a part leaves of the run
+
+split : (a b : ℕ) → (a < b) ⊎ (b ≤ a)
+split a b = ⊎-elim (λ (e : b - a ≡ zero). inr (omega arith)) (λ (h : zero < b - a). inl (omega arith)) (eq-zero-or-pos (b - a))
+
+-- a part of the run that changed within it
+pub kept-within : (a n b l : ℕ) (s x : List Float) → a + n ≤ length s → length x ≡ n → Kept b l (take n (drop a s)) x → Kept (a + b) l s (putBack a n s x)
+kept-within a n b l s x f e w = record {
+  size = kept-put a n s x f e nan .size;
+  below = λ j h. ⊎-elim
+      (λ (o : j < a). kept-put a n s x f e nan .below j o)
+      (λ (o : a ≤ j). let q : a + (j - a) ≡ j = omega arith in
+      ⊎-elim
+      (λ (u : j - a < n). within j (j - a) q u (w .below (j - a) (omega arith)))
+      (λ (u : n ≤ j - a). kept-put a n s x f e nan .above j (omega arith))
+      (split (j - a) n))
+      (split j a);
+  above = λ j h. let q : a + (j - a) ≡ j = omega arith in
+      ⊎-elim
+      (λ (u : j - a < n). within j (j - a) q u (w .above (j - a) (omega arith)))
+      (λ (u : n ≤ j - a). kept-put a n s x f e nan .above j (omega arith))
+      (split (j - a) n);
+}
+  where
+    within : (j i : ℕ) → a + i ≡ j → i < n → at x i ≡ at (take n (drop a s)) i → at (putBack a n s x) j ≡ at s j
+    within j i q u o =
+        ap (at (putBack a n s x)) (sym q) ∙ sym (getD-put a n s x f e nan i u) ∙ o ∙ getD-take n (drop a s) i nan u ∙ getD-drop a s i nan ∙ ap (at s) q
+
+-- what a call on the l places from a on leaves, within the n places from a on
+pub kept-part : (a l n : ℕ) (s x : List Float) → a + l ≤ length s → length x ≡ l → l ≤ n → Kept a n s (putBack a l s x)
+kept-part a l n s x fits e h =
+    let k = kept-put a l s x fits e nan in
+    record { size = k .size; below = k .below; above = λ j u. k .above j (omega arith) }
+
+pub part-size : (a l : ℕ) (s x : List Float) → a + l ≤ length s → length x ≡ length (take l (drop a s)) → length x ≡ l
+part-size a l s x fits e = e ∙ length-take-le l (drop a s) (omega (arith, length-drop a s))
+
+-- a run of which all places from q on stayed
+pub kept-drop : {A : Type 0} (z : A) (q : ℕ) (s₀ s : List A) → length s ≡ length s₀ → drop q s ≡ drop q s₀ → KeptOf z 0 q s₀ s
+kept-drop {A} z q s₀ s n e = record {
+  size = n;
+  below = λ j h. absurd (omega arith);
+  above = λ j h.
+      let r : q + (j - q) ≡ j = omega arith in
+      ap (λ (p : ℕ). getD s p z) (sym r) ∙ sym (getD-drop q s (j - q) z) ∙ ap (λ (v : List A). getD v (j - q) z) e ∙ getD-drop q s₀ (j - q) z ∙ ap (λ (p : ℕ). getD s₀ p z) r;
+}
+
+pub kept-take : {b n : ℕ} {s₀ s : List Float} → Kept b n s₀ s → b ≤ length s₀ → take b s ≡ take b s₀
+kept-take {b} {n} {s₀} {s} w h =
+    let e = w .size in
+    let l : length (take b s) ≡ b = length-take-le b s (omega arith) in
+    ext-getD nan (take b s) (take b s₀) (l ∙ sym (length-take-le b s₀ h))
+    (λ i u. let c : i < b = omega arith in getD-take b s i nan c ∙ w .below i c ∙ sym (getD-take b s₀ i nan c))

@@ -1,12 +1,13 @@
 // Sums and the greatest size of a vector, whether it lies within a bound, and a copy of one.
 ghost use mathlib.Core.Path.{_≡_};
 ghost use mathlib.Core.Bool.{_&&_};
-ghost use Prim.Native.Nat.{_≤_, _-_, min};
+ghost use mathlib.Core.Logic.{_⊎_};
+ghost use Prim.Native.Nat.{_≤_, _+_, _-_, min};
 ghost use lib.ListN.{length};
 ghost use lib.Ieee.{lt};
 ghost use Rattle.float64.specs.Helpers.{absOf};
-ghost use Rattle.vectors.specs.Vec.{put, apart};
-ghost use Rattle.vectors.specs.Sums.{norm2Sq, dot, sumAbs, maxAbs, inside};
+ghost use Rattle.vectors.specs.Vec.{put, apart, part, Kept};
+ghost use Rattle.vectors.specs.Sums.{norm2Sq, maxAbs, inside};
 
 pub fn norm2_sq(v: &[f64]) -> f64
     ensures { λ r. ⌜ r ≡ norm2Sq (now (v .entry)) ⌝ }
@@ -16,33 +17,6 @@ pub fn norm2_sq(v: &[f64]) -> f64
     while i < v.len() {
         let x = v[i];
         sum = sum + x * x;
-        i += 1;
-    }
-    sum
-}
-
-// The products of a and b, place by place, over the places of a.
-pub fn dot(a: &[f64], b: &[f64]) -> f64
-    requires { ⌜ length (now a) ≤ length (now b) ⌝ }
-    ensures { λ r. ⌜ r ≡ dot (now (a .entry)) (now (b .entry)) ⌝ }
-{
-    let mut sum = 0.0;
-    let mut i = 0;
-    while i < a.len() {
-        sum = sum + a[i] * b[i];
-        i += 1;
-    }
-    sum
-}
-
-// The sum of the sizes.
-pub fn sum_abs(v: &[f64]) -> f64
-    ensures { λ r. ⌜ r ≡ sumAbs (now (v .entry)) ⌝ }
-{
-    let mut sum = 0.0;
-    let mut i = 0;
-    while i < v.len() {
-        sum = sum + float64::abs(v[i]);
         i += 1;
     }
     sum
@@ -93,6 +67,18 @@ pub fn copy(t: &mut [f64], x: &[f64])
     let mut i = 0;
     while i < x.len() {
         t[i] = x[i];
+        i += 1;
+    }
+}
+
+// The n places of s from b on become those from a on; the two stretches lie apart.
+pub fn copy_within(s: &mut [f64], a: usize, b: usize, n: usize)
+    requires { ⌜ ((a + n ≤ b) ⊎ (b + n ≤ a)) × ((a + n ≤ length (now s)) × (b + n ≤ length (now s))) ⌝ }
+    ensures { λ _. ⌜ (part b n (now (s .exit)) ≡ part a n (now (s .entry))) × Kept b n (now (s .entry)) (now (s .exit)) ⌝ }
+{
+    let mut i = 0;
+    while i < n {
+        s[b + i] = s[a + i];
         i += 1;
     }
 }

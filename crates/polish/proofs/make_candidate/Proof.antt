@@ -2,7 +2,8 @@ use borrow.Author.Needs.{needs}
 use mathlib.Core.Path.{_≡_, refl, sym, _∙_}
 use native.Mathlib.Omega.{arith}
 use Rattle.active_set.proofs.Settling.{room}
-use Rattle.polish.proofs.Candidates.{kept-part, part-size, solution-at, candidate-none, candidate-some}
+use Rattle.polish.proofs.Candidates.{solution-at, candidate-none, candidate-some}
+use Rattle.vectors.proofs.Parts.{kept-part, part-size}
 use Rattle.active_set.specs.Marks.{heldBy}
 use Rattle.active_set.specs.ActiveSet.{freeTo}
 use Rattle.polish.specs.Polish.{candidateAt}

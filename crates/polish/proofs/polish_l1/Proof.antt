@@ -2,7 +2,7 @@ use borrow.Author.Needs.{needs}
 use mathlib.Core.Path.{_≡_, refl, _∙_}
 use native.Mathlib.Omega.{arith}
 use Rattle.polish.proofs.Ends.{dy-long, polish-is, marks-in, ended-none, ended-some}
-use Rattle.polish.proofs.Candidates.{part-size}
+use Rattle.vectors.proofs.Parts.{part-size}
 use Rattle.active_set.specs.ActiveSet.{holdAt}
 use Rattle.dual_point.specs.Places.{point}
 use lib.ListN.{length, take, drop}

@@ -6,7 +6,8 @@ use lib.ListN.{length, take, drop, length-drop}
 use lib.Seq.{length-take-le}
 use Rattle.banded.specs.Solve.{divided, back}
 use Rattle.banded.proofs.Laws.{holds-of, kept-after, part-stands, stands-part}
-use Rattle.substitution.proofs.Laws.{backed-none, length-back, kept-take}
+use Rattle.substitution.proofs.Laws.{backed-none, length-back}
+use Rattle.vectors.proofs.Parts.{kept-take}
 use borrow.Author.Needs.{needs}
 use Rattle.substitution.proofs.solve.Statement.{statement}
 use Rattle.substitution.proofs.solve.Tie as tie

@@ -6,7 +6,7 @@ use native.Mathlib.Omega.{arith}
 use lib.ListN.{length}
 use lib.Ieee.{nan}
 use Rattle.vectors.proofs.Laws.{kept-none, kept-then}
-use Rattle.l2.proofs.System.{kept-drop, taken-part}
+use Rattle.vectors.proofs.Parts.{kept-drop, mid-is}
 use Rattle.trend_filter.proofs.prepare.Statement.{statement}
 use Rattle.trend_filter.proofs.prepare.Tie as tie
 
@@ -33,7 +33,7 @@ returns c = let q = c .before .before .before .before .before .before .before in
     record {
       good = f .0;
       top = λ t. f .1 .1 t .0;
-      star = λ t. sym (taken-part b m w (omega (arith, q .pre))) ∙ f .1 .1 t .1 .1;
+      star = λ t. sym (mid-is b m w (omega (arith, q .pre))) ∙ f .1 .1 t .1 .1;
       kept = kept-then 0 (40 * length y) (kept-drop nan (b + m) (p .work .now) w size (f .1 .0)) (kept-none 0 0 w) (omega arith) (omega arith) (omega (arith, q .pre)) (omega arith);
     }
 

@@ -1,9 +1,9 @@
 use mathlib.Core.Path.{_≡_, refl, sym, _∙_}
 use lib.Ieee.{binary64, nan, div, ofBits}
-use Rattle.records.proofs.Floats.{not-nan-bits, nan-bits}
+use Rattle.float64.proofs.Bits.{not-nan-bits, nan-bits}
 use borrow.Author.Needs.{needs}
-use Rattle.records.proofs.double.Statement.{statement}
-use Rattle.records.proofs.double.Tie as tie
+use Rattle.float64.proofs.double.Statement.{statement}
+use Rattle.float64.proofs.double.Tie as tie
 
 -- what the source's 0.0 / 0.0 is
 div-zero : div binary64 (ofBits binary64 0) (ofBits binary64 0) ≡ nan

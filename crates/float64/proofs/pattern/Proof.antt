@@ -1,11 +1,11 @@
 use mathlib.Core.Path.{_≡_, refl, sym, ap, _∙_}
 use lib.Ieee.{binary64, nan, toBits}
 use Rattle.float64.proofs.Helpers.{is-nan, no-nan}
 use borrow.Author.Needs.{needs}
-use Rattle.listing.proofs.pattern.Statement.{statement}
-use Rattle.listing.proofs.pattern.Tie as tie
+use Rattle.float64.proofs.pattern.Statement.{statement}
+use Rattle.float64.proofs.pattern.Tie as tie
 
--- what the listing prints for any NaN
+-- the bits of the NaN
 nan-shown : toBits binary64 nan ≡ 0x7ff8_0000_0000_0000
 unfolding toBits
 nan-shown = refl
