@@ -6,7 +6,7 @@ ghost use lib.ListN.{length, take, drop};
 ghost use Rattle.vectors.specs.Vec.{Written};
 ghost use Rattle.banded.specs.Rows.{rows, sound, matrix, concat};
 ghost use Rattle.gram.specs.Gram.{gram, product as product_of, zstar, lamMax};
-ghost use Rattle.vectors.specs.Vec.{apart};
+ghost use Rattle.differences.specs.Series.{Series};
 
 // Place c of row r of D D'.
 fn gram_at(g: [f64; 3], k: usize, r: usize, c: usize) -> f64
@@ -47,7 +47,7 @@ fn fill_gram(s: &mut [f64], g: [f64; 3], k: usize, m: usize)
 
 // The factor of D D' and then z* in the first places of s; whether every pivot was good. What comes after them stays.
 fn star(s: &mut [f64], y: &[f64], g: [f64; 3], k: usize, m: usize) -> bool
-    requires { ⌜ (1 ≤ k) × ((k ≤ 2) × ((1 ≤ m) × ((length (now y) ≡ m + k) × (m * (k + 1) + m ≤ length (now s))))) ⌝ }
+    requires { ⌜ Series k (length (now y)) × ((length (now y) ≡ m + k) × (m * (k + 1) + m ≤ length (now s))) ⌝ }
     ensures { λ ok. ⌜ (ok ≡ sound k (gram k g) m)
         × ((drop (m * (k + 1) + m) (now (s .exit)) ≡ drop (m * (k + 1) + m) (now (s .entry)))
         × (ok ≡ true → (take (m * (k + 1)) (now (s .exit)) ≡ concat (rows k (gram k g) m))
@@ -67,7 +67,7 @@ pub struct Peak {
 
 // The same, with the largest size in z*.
 pub fn prepare(s: &mut [f64], y: &[f64], g: [f64; 3], k: usize, m: usize) -> Peak
-    requires { ⌜ (1 ≤ k) × ((k ≤ 2) × ((1 ≤ m) × ((length (now y) ≡ m + k) × (m * (k + 1) + m ≤ length (now s))))) ⌝ }
+    requires { ⌜ Series k (length (now y)) × ((length (now y) ≡ m + k) × (m * (k + 1) + m ≤ length (now s))) ⌝ }
     ensures { λ r. ⌜ (r .good ≡ sound k (gram k g) m)
         × ((drop (m * (k + 1) + m) (now (s .exit)) ≡ drop (m * (k + 1) + m) (now (s .entry)))
         × (r .good ≡ true → (r .top ≡ lamMax k g m (now (y .entry)))
