@@ -1,4 +1,16 @@
 // The closed paths: what they have in common, L1 with lam at least lam_max, and L2.
+ghost use mathlib.Core.Path.{_≡_};
+ghost use mathlib.Core.List.{List};
+ghost use Prim.Native.Nat.{ℕ, _+_, _≤_};
+ghost use lib.Ieee.{Float};
+ghost use lib.ListN.{length};
+ghost use Rattle.differences.specs.Series.{Series};
+ghost use Rattle.gram.specs.Prepared.{preparation};
+ghost use Rattle.dual_point.specs.Lanes.{searchArea};
+ghost use Rattle.fit.specs.Fit.{pathFlat, pathL2};
+ghost use Rattle.questions.specs.Groups.{asking};
+ghost use Rattle.paths.specs.Trends.{closedOf};
+ghost use Rattle.paths.specs.Taken.{Prepared, Room, Finds, Took};
 use crate::Found;
 use crate::Path;
 use crate::Trend;
@@ -21,6 +33,9 @@ pub fn closed(trend: Trend, gap: f64, objective: f64) -> Found
 
 // L1 with lam at least lam_max: the certificate at z*, which is read from the preparation. cycle holds D y meanwhile.
 pub fn flat_path(work: &mut [f64], cycle: &mut [f64], y: &[f64], lam: f64, k: usize) -> Found
+    requires { ⌜ Prepared k (now y) (now work) × Room (length (now y)) (now work) (now cycle) ⌝ }
+    ensures { λ r. ⌜ Finds (λ (i : Float × (ℕ × ℕ)). pathFlat (asking (now (y .entry)) lam (i .0) (i .1 .0) k (i .1 .1))) k (now (y .entry))
+        (now (work .entry)) (now (work .exit)) (now (cycle .entry)) (now (cycle .exit)) r ⌝ }
 {
     let n = y.len();
     let m = n - k;
@@ -35,6 +50,9 @@ pub fn flat_path(work: &mut [f64], cycle: &mut [f64], y: &[f64], lam: f64, k: us
 
 // L2: lost where a pivot of its system is bad. The system's rows end where the trend is to stand.
 pub fn l2_path(work: &mut [f64], y: &[f64], lam: f64, k: usize) -> Path
+    requires { ⌜ Series k (length (now y)) × (preparation (length (now y)) + searchArea (length (now y)) ≤ length (now work)) ⌝ }
+    ensures { λ r. ⌜ ((tol : Float) (m p : ℕ) (c : List Float) → Took (pathL2 (asking (now (y .entry)) lam tol m k p)) k (now (y .entry))
+        (now (work .entry)) (now (work .exit)) c c r) ⌝ }
 {
     let n = y.len();
     let b = 8 * n;

@@ -4,12 +4,14 @@ mod closed;
 mod searched;
 
 ghost use mathlib.Core.Path.{_≡_};
-ghost use Prim.Native.Nat.{_≤_};
+ghost use Prim.Native.Nat.{ℕ, _≤_, _*_};
 ghost use lib.ListN.{length};
-ghost use Rattle.fit.specs.Fit.{path as path_of, pathL1, pathZero};
+ghost use Rattle.vectors.specs.Vec.{part, put, KeptOf};
+ghost use Rattle.gram.specs.Prepared.{diffLane, preparation};
+ghost use Rattle.fit.specs.Fit.{pathL1, path};
 ghost use Rattle.questions.specs.Groups.{asking};
 ghost use Rattle.paths.specs.Trends.{trendOf, reach};
-ghost use Rattle.paths.specs.Taken.{Prepared, Room, Took, TookL1};
+ghost use Rattle.paths.specs.Taken.{Asks, Finds, Took};
 
 // Where a trend stands: the series is the trend; after the system of L2; or in the search's area, the candidate's if it won and else the iterate's.
 pub enum Trend {
@@ -57,6 +59,16 @@ pub fn trend_of<'a>(y: &'a [f64], work: &'a [f64], t: Trend) -> &'a [f64]
     }
 }
 
+// The first m places of cycle become D y, which stands in the preparation.
+fn differences_to(cycle: &mut [f64], work: &[f64], n: usize, m: usize)
+    requires { ⌜ (m ≤ n) × ((n ≤ 65536) × ((preparation n ≤ length (now work)) × (n ≤ length (now cycle)))) ⌝ }
+    ensures { λ _. ⌜ now (cycle .exit) ≡ put (now (cycle .entry)) 0 (part (diffLane n) m (now (work .entry))) ⌝ }
+{
+    let a = 4 * n;
+    let e = a + m;
+    vectors::copy(cycle, &work[a..e]);
+}
+
 // L1 by lam: 0, at least lam_max, or between.
 fn l1_path(
     work: &mut [f64],
@@ -69,9 +81,10 @@ fn l1_path(
     k: usize,
     lam_max: f64,
 ) -> Found
-    requires { ⌜ Prepared k (now y) «lam_max» (now work) × Room (length (now y)) (now work) (now cycle) (now marks) ⌝ }
-    ensures { λ r. ⌜ TookL1 (λ p. asking (now (y .entry)) lam tol «max_iter» k p) pathL1
-        (now (work .entry)) (now (work .exit)) (now (cycle .entry)) (now (cycle .exit)) (now (marks .entry)) (now (marks .exit)) r ⌝ }
+    requires { ⌜ Asks k (now y) «lam_max» (now work) (now cycle) (now marks) ⌝ }
+    ensures { λ r. ⌜ Finds (λ (p : ℕ). pathL1 (asking (now (y .entry)) lam tol «max_iter» k p)) k (now (y .entry))
+        (now (work .entry)) (now (work .exit)) (now (cycle .entry)) (now (cycle .exit)) r
+        × KeptOf 0 0 (2 * length (now (y .entry))) (now (marks .entry)) (now (marks .exit)) ⌝ }
 {
     if lam == 0.0 {
         return closed::closed(Trend::Series, 0.0, 0.0);
@@ -83,7 +96,7 @@ fn l1_path(
 }
 
 // The path that a fit takes, by its penalty.
-pub fn path(
+pub fn take_path(
     work: &mut [f64],
     marks: &mut [u32],
     cycle: &mut [f64],
@@ -95,9 +108,10 @@ pub fn path(
     penalty: u32,
     lam_max: f64,
 ) -> Path
-    requires { ⌜ Prepared k (now y) «lam_max» (now work) × Room (length (now y)) (now work) (now cycle) (now marks) ⌝ }
-    ensures { λ r. ⌜ Took (asking (now (y .entry)) lam tol «max_iter» k penalty)
-        (now (work .entry)) (now (work .exit)) (now (cycle .entry)) (now (cycle .exit)) (now (marks .entry)) (now (marks .exit)) r ⌝ }
+    requires { ⌜ Asks k (now y) «lam_max» (now work) (now cycle) (now marks) ⌝ }
+    ensures { λ r. ⌜ Took (path (asking (now (y .entry)) lam tol «max_iter» k penalty)) k (now (y .entry))
+        (now (work .entry)) (now (work .exit)) (now (cycle .entry)) (now (cycle .exit)) r
+        × KeptOf 0 0 (2 * length (now (y .entry))) (now (marks .entry)) (now (marks .exit)) ⌝ }
 {
     if penalty == 2 {
         return closed::l2_path(work, y, lam, k);
