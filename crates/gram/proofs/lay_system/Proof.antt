@@ -1,36 +1,23 @@
 use borrow.Author.Needs.{needs}
-use mathlib.Core.Path.{_≡_, refl}
+use mathlib.Core.Path.{_≡_}
 use mathlib.Core.Logic.{inr}
-use Prim.Native.Nat.{_+_, _-_, _*_, _≤_}
+use Prim.Native.Nat.{_+_, _-_, _≤_}
 use native.Mathlib.Omega.{arith}
 use lib.ListN.{length}
-use Rattle.vectors.proofs.Parts.{part-size, kept-put}
+use Rattle.vectors.proofs.Parts.{part-size}
 use Rattle.gram.specs.Prepared.{diffLane, preparation}
 use Rattle.gram.proofs.System.{system-fits, system-laid}
 use Rattle.gram.proofs.lay_system.Statement.{statement}
 use Rattle.gram.proofs.lay_system.Tie as tie
 
--- src/lib.rt:54:13
--- src/lib.rt:55:9
--- src/lib.rt:56:5
 fill-gram-requires : tie.Need-fill-gram-requires
 fill-gram-requires c κs = let st = c .before .before .before .before in
     (search needs, omega (arith, system-fits (st .pre .0), st .pre .1))
 
--- src/lib.rt:57:13
--- src/lib.rt:58:13
--- src/lib.rt:59:25
--- src/lib.rt:59:25
--- src/lib.rt:59:25
--- src/lib.rt:59:25
--- src/lib.rt:59:5
--- src/lib.rt:60:37
--- src/lib.rt:60:32
 mul-copy-within : tie.Need-mul-copy-within
 mul-copy-within c = let st = c .before .before .before .before .before .before .before .before .before .before .before .before in
     omega (arith, system-fits (st .pre .0))
 
--- src/lib.rt:60:5
 copy-within-requires : tie.Need-copy-within-requires
 copy-within-requires c κs = let cd = c .before .before .before in
     let st = cd .before .before .before .before .before .before .before .before .before in
@@ -38,8 +25,6 @@ copy-within-requires c κs = let cd = c .before .before .before in
     let n = length (st .args .y .now) in
     (inr (omega arith), (omega arith, omega arith))
 
--- src/lib.rt:49:1
--- src/lib.rt:49:1
 returns : tie.Need-returns
 returns c = let cw = c .before .before in
     let cd = cw .before .before .before .before in

@@ -1,19 +1,15 @@
 use borrow.Author.Needs.{needs}
-use mathlib.Core.Path.{_≡_, sym, ap, _∙_}
-use Prim.Native.Nat.{_+_, _-_, _*_, _≤_}
+use mathlib.Core.Path.{_≡_, ap, _∙_}
+use Prim.Native.Nat.{_+_, _-_}
 use native.Mathlib.Omega.{arith}
-use native.Mathlib.Nat.{zero-add}
 use lib.ListN.{length}
 use Rattle.vectors.specs.Sums.{maxAbs}
 use Rattle.vectors.proofs.Parts.{mid-is}
-use Rattle.gram.specs.Prepared.{starLane, preparation}
+use Rattle.gram.specs.Prepared.{starLane}
 use Rattle.gram.proofs.System.{system-fits, system-solved}
 use Rattle.gram.proofs.prepare.Statement.{statement}
 use Rattle.gram.proofs.prepare.Tie as tie
 
--- src/lib.rt:73:5
--- src/lib.rt:74:13
--- src/lib.rt:75:9
 factor-solve-at-requires : tie.Need-factor-solve-at-requires
 factor-solve-at-requires c κs = let cl = c .before .before .before in
     let st = cl .before .before .before .before in
@@ -21,25 +17,18 @@ factor-solve-at-requires c κs = let cl = c .before .before .before in
     let size = cl .lay-system .ensures .kept .size in
     (omega arith, omega arith)
 
--- src/lib.rt:76:18
--- src/lib.rt:76:13
 mul-b : tie.Need-mul-b
 mul-b c = let cl = c .before .before .before .before .before .before in
     omega (arith, system-fits (cl .before .before .before .before .pre .0))
 
--- src/lib.rt:77:13
 add-e : tie.Need-add-e
 add-e c = let cl = c .before .before .before .before .before .before in
     omega (arith, system-fits (cl .before .before .before .before .pre .0))
 
--- src/lib.rt:78:32
 mul-max-abs : tie.Need-mul-max-abs
 mul-max-abs c = let cl = c .before .before .before .before .before .before in
     omega (arith, system-fits (cl .before .before .before .before .pre .0))
 
--- src/lib.rt:78:32
--- src/lib.rt:78:32
--- src/lib.rt:78:32
 part-max-abs-end : tie.Need-part-max-abs-end
 part-max-abs-end c = let cq = c .before .before .before in
     let cl = cq .before .before .before .before in
@@ -48,9 +37,6 @@ part-max-abs-end c = let cq = c .before .before .before in
     let size = cl .lay-system .ensures .kept .size in
     omega (arith, cq .factor-solve-at .ensures .kept .size)
 
--- src/lib.rt:78:9
--- src/lib.rt:69:1
--- src/lib.rt:69:1
 returns : tie.Need-returns
 returns c = let cq = c .before .before .before .before .before in
     let cl = cq .before .before .before .before in
