@@ -1,56 +1,24 @@
 use borrow.Author.Needs.{needs}
+use mathlib.Core.Path.{_≡_, ap, _∙_}
+use mathlib.Core.List.{List}
+use Prim.Native.Nat.{_+_, _-_, _*_, _≤_}
+use native.Mathlib.Omega.{arith}
+use lib.ListN.{length}
+use lib.Ieee.{Float}
+use Rattle.vectors.specs.Vec.{put}
+use Rattle.vectors.proofs.Parts.{range-part}
 use Rattle.paths.proofs.differences_to.Statement.{statement}
 use Rattle.paths.proofs.differences_to.Tie as tie
-use Rattle.paths.proofs.differences_to.Reads as reads
-use Rattle.paths.proofs.differences_to.Lts as lts
-use Rattle.vectors.proofs.copy.Reads as copy-reads
 
--- src/lib.rt:67:13
-mul-a : tie.Need-mul-a
-mul-a c = search needs
-
--- src/lib.rt:68:13
-add-e : tie.Need-add-e
-add-e c = search needs
-
--- src/lib.rt:69:26
-mul-copy : tie.Need-mul-copy
-mul-copy c = search needs
-
--- src/lib.rt:69:26
-sub-copy : tie.Need-sub-copy
-sub-copy c = search needs
-
--- src/lib.rt:69:26
-part-copy-start : tie.Need-part-copy-start
-part-copy-start c = search needs
-
--- src/lib.rt:69:26
-part-copy-end : tie.Need-part-copy-end
-part-copy-end c = search needs
-
--- src/lib.rt:69:5
-copy-requires : tie.Need-copy-requires
-copy-requires c κs = search needs
-
--- src/lib.rt:63:1
-same-length : tie.Need-same-length
-same-length c = search needs
-
--- src/lib.rt:63:1
 returns : tie.Need-returns
-returns c = ?
+returns c = let cp = c .before .before in
+    let st = cp .before .before .before .before .before in
+    let a = st .args in
+    let fits : 4 * a .n + a .m ≤ length (a .work .now) = omega arith in
+    cp .copy .ensures ∙ ap (put (a .cycle .now) 0) (range-part (4 * a .n) (4 * a .n + a .m) (a .m) (a .work .now) (omega arith) fits)
 
 pub differences-to-spec : {M : Type 1} → statement M
 differences-to-spec =
     tie.close
-    (tie.spec
-    mul-a
-    add-e
-    mul-copy
-    sub-copy
-    part-copy-start
-    part-copy-end
-    copy-requires
-    same-length
-    returns)
+    (tie.spec (λ c. search needs) (λ c. search needs) (λ c. search needs) (λ c. search needs) (λ c. search needs)
+    (λ c. search needs) (λ c κs. search needs) (λ c. search needs) returns)

@@ -1,52 +1,50 @@
 use borrow.Author.Needs.{needs}
+use mathlib.Core.Path.{_≡_, sym, ap, subst, _∙_}
+use mathlib.Core.List.{List}
+use mathlib.Core.Option.{Option, none, some}
+use Prim.Native.Nat.{ℕ, _*_}
+use lib.ListN.{length}
+use Rattle.vectors.proofs.Laws.{kept-none}
+use Rattle.questions.specs.Groups.{asking}
+use Rattle.fit.specs.Fit.{Found as FoundOf, path}
+use Rattle.paths.specs.Trends.{said, reached}
+use Rattle.paths.specs.Taken.{Took}
+use Rattle.paths.proofs.Areas.{some-none}
+use Rattle.paths.proofs.Ways.{by-1, by-2}
 use Rattle.paths.proofs.take_path.Statement.{statement}
 use Rattle.paths.proofs.take_path.Tie as tie
-use Rattle.paths.proofs.take_path.Reads as reads
-use Rattle.paths.proofs.take_path.Lts as lts
-use Rattle.paths.proofs.closed.l2_path.Reads as l2-path-reads
-use Rattle.paths.proofs.l1_path.Reads as l1-path-reads
 
--- src/lib.rt:117:9
-l2-path-requires : tie.Need-l2-path-requires
-l2-path-requires c κs = search needs
-
--- src/lib.rt:117:9
-same-length : tie.Need-same-length
-same-length c = search needs
-
--- src/lib.rt:117:9
 returns : tie.Need-returns
-returns c = ?
+returns c = let lp = c .before .before in
+    let th = lp .before .before in
+    let st = th .before .before .before .before .before in
+    let a = st .args in
+    let y = a .y .now in
+    let q = asking y (a .lam) (a .tol) (a .max-iter) (a .k) (a .penalty) in
+    let e = by-2 q (th .if1 .taken) in
+    let t = lp .l2-path .ensures (a .tol) (a .max-iter) (a .penalty) (a .cycle .now) in
+    (record { says = t .says ∙ sym e; stands = t .stands; lost = λ z. t .lost (sym e ∙ z); changed = t .changed }, kept-none 0 (2 * length y) (a .marks .now))
 
--- src/lib.rt:119:9
-l1-path-requires : tie.Need-l1-path-requires
-l1-path-requires c κs = search needs
-
--- src/lib.rt:99:1
-same-length-2 : tie.Need-same-length-2
-same-length-2 c = search needs
-
--- src/lib.rt:99:1
-same-length-3 : tie.Need-same-length-3
-same-length-3 c = search needs
-
--- src/lib.rt:99:1
-same-length-4 : tie.Need-same-length-4
-same-length-4 c = search needs
-
--- src/lib.rt:99:1
 returns-2 : tie.Need-returns-2
-returns-2 c = ?
+unfolding said reached
+returns-2 c = let lp = c .before .before .before .before .before .before in
+    let el = lp .before .before .before .before in
+    let st = el .before .before .before .before .before in
+    let a = st .args in
+    let y = a .y .now in
+    let e = by-1 (asking y (a .lam) (a .tol) (a .max-iter) (a .k) (a .penalty)) (el .if1 .left) in
+    let f = lp .l1-path .ensures in (
+      record {
+        says = ap some (f .0 .says (a .penalty)) ∙ sym e;
+        stands = f .0 .stands;
+        lost = λ z. absurd (some-none _ (sym e ∙ z));
+        changed = f .0 .changed;
+      },
+      f .1,
+    )
 
 pub take-path-spec : {M : Type 1} → statement M
 take-path-spec =
     tie.close
-    (tie.spec
-    l2-path-requires
-    same-length
-    returns
-    l1-path-requires
-    same-length-2
-    same-length-3
-    same-length-4
-    returns-2)
+    (tie.spec (λ c κs. search needs) (λ c. search needs) returns (λ c κs. search needs) (λ c. search needs)
+    (λ c. search needs) (λ c. search needs) returns-2)

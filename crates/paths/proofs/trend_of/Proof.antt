@@ -1,106 +1,77 @@
 use borrow.Author.Needs.{needs}
+use mathlib.Core.Path.{_≡_, sym, ap, subst, _∙_}
+use mathlib.Core.Bool.{Bool, cond}
+use Prim.Native.Nat.{ℕ, _+_, _-_, _*_, _≤_}
+use native.Mathlib.Omega.{arith}
+use lib.ListN.{length, take, drop}
+use lib.Ieee.{nan}
+use Rattle.vectors.specs.Vec.{part}
+use Rattle.vectors.proofs.Parts.{range-part, partOf-range}
+use Rattle.gram.specs.Prepared.{preparation}
+use Rattle.dual_point.specs.Lanes.{candidateTrend, searchArea}
+use Rattle.paths.specs.Trends.{solutionLane, trendOf, reach}
+use Rattle.paths.specs.declared.Trend.{Trend}
+use Rattle.paths.specs.declared.Trend.the-variants.{Solution, Won}
 use Rattle.paths.proofs.trend_of.Statement.{statement}
 use Rattle.paths.proofs.trend_of.Tie as tie
-use Rattle.paths.proofs.trend_of.Reads as reads
-use Rattle.paths.proofs.trend_of.Lts as lts
-use Rattle.polish.proofs.winner.Reads as winner-reads
 
--- src/lib.rt:48:26
-enum-told : tie.Need-enum-told
-enum-told c = search needs
+-- how far the trend reaches, from where it stands
+solution-fits : (t : Trend) (n w : ℕ) → t ≡ Solution → reach t n ≤ w → solutionLane n + n ≤ w
+unfolding reach
+solution-fits t n w e h = subst (λ (u : Trend). reach u n ≤ w) e h
 
--- src/lib.rt:50:21
-enum-told-2 : tie.Need-enum-told-2
-enum-told-2 c = search needs
+won-fits : (t : Trend) (b : Bool) (n w : ℕ) → t ≡ Won b → reach t n ≤ w → preparation n + searchArea n ≤ w
+unfolding reach
+won-fits t b n w e h = subst (λ (u : Trend). reach u n ≤ w) e h
 
--- src/lib.rt:50:21
-mul-a : tie.Need-mul-a
-mul-a c = search needs
-
--- src/lib.rt:51:21
-mul-e : tie.Need-mul-e
-mul-e c = search needs
-
--- src/lib.rt:52:13
 mul-result : tie.Need-mul-result
-mul-result c = ?
+mul-result c = let st = c .before .before .before .before in omega (arith, solution-fits _ _ _ (c .enum-told2 .given .1) (st .pre))
 
--- src/lib.rt:52:13
-sub-result : tie.Need-sub-result
-sub-result c = search needs
-
--- src/lib.rt:52:13
-part-result-start : tie.Need-part-result-start
-part-result-start c = search needs
-
--- src/lib.rt:52:13
 part-result-end : tie.Need-part-result-end
-part-result-end c = ?
+part-result-end c = let st = c .before .before .before .before in omega (arith, solution-fits _ _ _ (c .enum-told2 .given .1) (st .pre))
 
--- src/lib.rt:54:20
-enum-known-t : tie.Need-enum-known-t
-enum-known-t c = search needs
-
--- src/lib.rt:55:21
-mul-a-2 : tie.Need-mul-a-2
-mul-a-2 c = search needs
-
--- src/lib.rt:56:21
 mul-e-2 : tie.Need-mul-e-2
-mul-e-2 c = ?
+mul-e-2 c = let st = c .before .before .before .before .before in omega (arith, won-fits _ _ _ _ (c .before .t .given .1) (st .pre))
 
--- src/lib.rt:57:28
 mul-winner : tie.Need-mul-winner
-mul-winner c = ?
+mul-winner c = let st = c .before .before .before .before .before in omega (arith, won-fits _ _ _ _ (c .before .t .given .1) (st .pre))
 
--- src/lib.rt:57:28
-sub-winner : tie.Need-sub-winner
-sub-winner c = search needs
-
--- src/lib.rt:57:28
-part-winner-start : tie.Need-part-winner-start
-part-winner-start c = search needs
-
--- src/lib.rt:57:28
 part-winner-end : tie.Need-part-winner-end
-part-winner-end c = ?
+part-winner-end c = let st = c .before .before .before .before .before in omega (arith, won-fits _ _ _ _ (c .before .t .given .1) (st .pre))
 
--- src/lib.rt:57:13
-winner-requires : tie.Need-winner-requires
-winner-requires c κs = search needs
-
--- src/lib.rt:42:1
 returns : tie.Need-returns
-returns c = ?
+unfolding trendOf
+returns c = let a = c .before .before .before .before .args in sym (ap (trendOf (a .y .now) (a .work .now)) (c .enum-told .given .1))
 
--- src/lib.rt:42:1
 returns-2 : tie.Need-returns-2
-returns-2 c = ?
+unfolding trendOf
+returns-2 c = let st = c .before .before .before .before .before in
+    let a = st .args in
+    let n = length (a .y .now) in
+    let e = c .before .enum-told2 .given .1 in
+    range-part (8 * n) (9 * n) n (a .work .now) (omega arith) (omega (arith, solution-fits _ _ _ e (st .pre)))
+    ∙ sym (ap (trendOf (a .y .now) (a .work .now)) e)
 
--- src/lib.rt:42:1
 returns-3 : tie.Need-returns-3
-returns-3 c = ?
+unfolding trendOf
+returns-3 c = let kt = c .before .before in
+    let st = kt .before .before .before .before .before in
+    let a = st .args in
+    let y = a .y .now in
+    let w = a .work .now in
+    let n = length y in
+    let e = kt .before .t .given .1 in
+    let f : 18 * n ≤ length w = omega (arith, won-fits _ _ _ _ e (st .pre)) in
+    let area = take (18 * n - 5 * n) (drop (5 * n) w) in
+    let z : 5 * n + 0 ≡ 5 * n = omega arith in
+    let first = partOf-range nan 0 n (5 * n) (18 * n) w (omega arith) f (omega arith) ∙ ap (λ (q : ℕ). part q n w) z in
+    c .winner .ensures
+    ∙ (λ i. cond (kt .before .t .given .0 .0) (partOf-range nan (candidateTrend n) n (5 * n) (18 * n) w (omega arith) f (omega arith) i) (first i))
+    ∙ sym (ap (trendOf y w) e)
 
 pub trend-of-spec : {M : Type 1} → statement M
 trend-of-spec =
     tie.close
-    (tie.spec
-    enum-told
-    enum-told-2
-    mul-a
-    mul-e
-    mul-result
-    sub-result
-    part-result-start
-    part-result-end
-    enum-known-t
-    mul-a-2
-    mul-e-2
-    mul-winner
-    sub-winner
-    part-winner-start
-    part-winner-end
-    winner-requires
-    returns
-    returns-2
-    returns-3)
+    (tie.spec (λ c. search needs) (λ c. search needs) (λ c. search needs) (λ c. search needs) mul-result
+    (λ c. search needs) (λ c. search needs) part-result-end (λ c. search needs) (λ c. search needs) mul-e-2 mul-winner
+    (λ c. search needs) (λ c. search needs) part-winner-end (λ c κs. search needs) returns returns-2 returns-3)
