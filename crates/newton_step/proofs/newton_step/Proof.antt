@@ -13,7 +13,7 @@ returns c = let nz = c .before .before .before .before in
     let a = nz .before .before .before .before .args in
     let z = nz .newton-z in
     let n : z .result .good ≡ false = not-true _ (c .if1 .taken) in
-    lost-step (a .k) (a .g) (a .dy .now) (a .lam) (a .u) (a .m) (a .m * (a .k + 1)) (a .s .now) (z .last .0) (z .result .good) refl (z .ensures .0) (z .ensures .1 .1) n
+    lost-step (a .k) (a .g) (a .dy .now) (a .lam) (a .u) (a .m) (a .m * (a .k + 1)) (a .s .now) (z .last .0) (z .result .good) refl (z .ensures .answer) (z .ensures .kept) n
 
 line-search-requires : tie.Need-line-search-requires
 line-search-requires c κs = let dr = c .before .before .before .before in
@@ -22,7 +22,7 @@ line-search-requires c κs = let dr = c .before .before .before .before in
     record {
       order = p .order .high;
       after = omega arith;
-      room = omega (arith, nz .newton-z .ensures .1 .1 .size, dr .directions .ensures .kept .size, p .room);
+      room = omega (arith, nz .newton-z .ensures .kept .size, dr .directions .ensures .kept .size, p .room);
       dy = p .dy;
     }
 
@@ -30,7 +30,7 @@ take-trial-requires : tie.Need-take-trial-requires
 take-trial-requires c κs = let ls = c .before .before .before in
     let dr = ls .before .before .before .before .before in
     let nz = dr .before .before .before .before .before .before in
-    omega (arith, nz .newton-z .ensures .1 .1 .size, dr .directions .ensures .kept .size, ls .line-search .ensures .kept .size, nz .before .before .before .before .pre .room)
+    omega (arith, nz .newton-z .ensures .kept .size, dr .directions .ensures .kept .size, ls .line-search .ensures .kept .size, nz .before .before .before .before .pre .room)
 
 returns-2 : tie.Need-returns-2
 returns-2 c = let tk = c .before .before in
@@ -42,10 +42,9 @@ returns-2 c = let tk = c .before .before in
     let a = nz .before .before .before .before .args in
     let z = nz .newton-z in
     let y : z .result .good ≡ true = not-false _ (el .if1 .left) in
-    let f = z .ensures .1 .0 y in
-    moved-step (a .k) (a .g) (a .dy .now) (a .lam) (a .u) (a .m) (a .m * (a .k + 1)) (a .s .now) (z .last .0) (z .result .good) refl (z .ensures .0) (z .ensures .1 .1)
+    moved-step (a .k) (a .g) (a .dy .now) (a .lam) (a .u) (a .m) (a .m * (a .k + 1)) (a .s .now) (z .last .0) (z .result .good) refl (z .ensures .answer) (z .ensures .kept)
     (z .result .acc) (dr .directions .result) (sq .sqrt .result) (ls .line-search .result .step) (ls .line-search .result .inside) (dr .directions .last .0) (ls .line-search .last .0) (tk .take-trial .last .0)
-    (6 * a .m + a .m * (a .k + 1)) y refl (f .0) (f .1) (dr .directions .ensures) (sq .sqrt .ensures) (ls .line-search .ensures) (tk .take-trial .ensures .0) (tk .take-trial .ensures .1)
+    (6 * a .m + a .m * (a .k + 1)) y refl (z .ensures .norm y) (z .ensures .dz y) (dr .directions .ensures) (sq .sqrt .ensures) (ls .line-search .ensures) (tk .take-trial .ensures .0) (tk .take-trial .ensures .1)
 
 pub newton-step-spec : {M : Type 1} → statement M
 newton-step-spec =
