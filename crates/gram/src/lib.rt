@@ -51,12 +51,13 @@ fn lay_system(s: &mut [f64], y: &[f64], k: usize)
 {
     let n = y.len();
     let m = n - k;
+    let b = m * (k + 1);
     let g = differences::gram_offsets(k);
     fill_gram(s, g, k, m);
     let d = 4 * n;
     let e = d + m;
     differences::diff_k(&mut s[d..e], y, k);
-    vectors::copy_within(s, d, m * (k + 1), m);
+    vectors::copy_within(s, d, b, m);
 }
 
 pub struct Peak {
