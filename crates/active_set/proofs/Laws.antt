@@ -12,12 +12,11 @@ use lib.Dec.{eqb}
 use lib.ListN.{length, getD, set, length-append, length-set, List·getD-append}
 use lib.Seq.{getD-at, getD-set-same, getD-set-other}
 use lib.Ieee.{Float}
-use Rattle.vectors.specs.Vec.{at, list, part, KeptOf}
+use Rattle.vectors.specs.Vec.{at, KeptOf}
 use Rattle.vectors.proofs.Laws.{list-ext}
-use Rattle.vectors.proofs.Parts.{at-part}
 use Rattle.banded.specs.Rows.{Matrix, matrix}
-use Rattle.active_set.specs.ActiveSet.{Hold, free, at-lam, at-minus-lam, isFree, heldAt, freeTo, compressed, lessHeld, lessTo, rightOf}
-use Rattle.active_set.specs.Marks.{markOf, holdOf, heldBy, Marks}
+use Rattle.active_set.specs.ActiveSet.{Hold, free, at-lam, at-minus-lam, isFree, freeTo, compressed, lessHeld, lessTo, rightOf}
+use Rattle.active_set.specs.Marks.{markOf, holdOf, Marks}
 
 -- ---- marks
 

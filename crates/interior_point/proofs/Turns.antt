@@ -9,6 +9,7 @@ use borrow.Author.Tests.{ltb-true, ltb-false}
 use lib.Dec.{eqb, ltb}
 use lib.ListN.{length}
 use lib.Ieee.{Float, nan, lt, le}
+use Rattle.float64.proofs.Clash.{clash}
 use Rattle.float64.specs.Ops.{_⊖_, _⊗_, _⊘_, c0, c1, c1e-10, infinity}
 use Rattle.vectors.specs.Vec.{at, partOf, part, Kept, Written}
 use Rattle.vectors.proofs.Laws.{kept-then, kept-none, list-ext, written-kept}
@@ -21,13 +22,14 @@ use Rattle.search.proofs.Trace.{run-small, run-spent, run-stalled, run-lost, ru
 use Rattle.dual_point.specs.Dual.{Dual}
 use Rattle.newton_system.specs.Newton.{system}
 use Rattle.line_search.specs.LineSearch.{searchLine, taken}
+use Rattle.dual_point.specs.Lanes.{searchArea}
 use Rattle.dual_point.specs.Places.{point}
 use Rattle.dual_point.proofs.Points.{point-above}
-use Rattle.newton_step.specs.Stepped.{stepOf, Stepped}
+use Rattle.newton_step.specs.Stepped.{stepArea, stepOf, Stepped}
 use Rattle.newton_step.specs.declared.Step.{Step}
 use Rattle.newton_step.specs.declared.Step.the-variants.{Lost, Moved}
 use Rattle.interior_point.specs.InteriorPoint.{State, nextT, landed, move, problem, origin, interiorPoint}
-use Rattle.interior_point.specs.Account.{stateOf, pointOf, Standing, leftOf, goes, improves, Settled, Turned, searchOf, Found}
+use Rattle.interior_point.specs.Account.{stateOf, pointOf, Standing, Started, leftOf, goes, improves, Settled, Turned, searchOf, Found}
 use Rattle.interior_point.specs.declared.Run.{Run}
 
 -- ---- the start
@@ -61,19 +63,19 @@ start-is k g y lam n m s v p e f = λ i. record {
 pub started : (k : ℕ) (y : List Float) (lam : Float) (n m : ℕ) (s₀ s₁ s₂ s₃ : List Float) (p d : Float) → m ≤ n
     → Written n (n + m) (λ j. c0) s₀ s₁ → Written (n + m) (n + m + m + m) (λ j. c1) s₁ s₂
     → part 0 n s₃ ≡ certify k y lam (part n m s₂) .trend → p ≡ certify k y lam (part n m s₂) .primal → d ≡ certify k y lam (part n m s₂) .dual → Kept 0 n s₂ s₃
-    → ((g : List Float) → pointOf n m s₃ (startRun (p ⊖ d) p) ≡ start (problem k g y lam) (origin m))
-    × (Standing k y lam n m s₃ (startRun (p ⊖ d) p) × ((p ⊖ d ≡ p ⊖ d) × ((false ≡ false) × Kept 0 (13 * n) s₀ s₃)))
+    → Started k y lam n m s₀ s₃ (startRun (p ⊖ d) p)
 started k y lam n m s₀ s₁ s₂ s₃ p d o v w e f h q =
     let z : part n m s₃ ≡ part n m s₂ = part-above nan n m q (omega arith) in
     let x : p ⊖ d ≡ gapOf (certify k y lam (part n m s₃)) = λ i. (f ∙ λ j. certify k y lam (sym z j) .primal) i ⊖ (h ∙ λ j. certify k y lam (sym z j) .dual) i in
     let b : Kept (n + m) (m + m) s₁ s₂ = record { size = w .size; below = w .below; above = λ j u. w .above j (omega arith) } in
-    let a = kept-then 0 (13 * n) (written-kept v) b (omega arith) (omega arith) (omega arith) (omega arith) in (
-      (λ g. start-is k g y lam n m s₃ (p ⊖ d) p (origin-stands n m s₀ s₁ s₂ s₃ v w q) x),
-      (
-        record { trend = e ∙ (λ i. certify k y lam (sym z i) .trend); primal = f ∙ (λ i. certify k y lam (sym z i) .primal); gap = x },
-        (refl, (refl, kept-then 0 (13 * n) a q (omega arith) (omega arith) (omega arith) (omega arith))),
-      ),
-    )
+    let a = kept-then 0 (searchArea n) (written-kept v) b (omega arith) (omega arith) (omega arith) (omega arith) in
+    record {
+      begins = λ g. start-is k g y lam n m s₃ (p ⊖ d) p (origin-stands n m s₀ s₁ s₂ s₃ v w q) x;
+      standing = record { trend = e ∙ (λ i. certify k y lam (sym z i) .trend); primal = f ∙ (λ i. certify k y lam (sym z i) .primal); gap = x };
+      first = refl;
+      lost = refl;
+      kept = kept-then 0 (searchArea n) a q (omega arith) (omega arith) (omega arith) (omega arith);
+    }
 
 -- ---- one iteration
 
@@ -100,9 +102,12 @@ was-lost false x e = refl
 abbrev pub lostRun : Run → Run
 lostRun r = record { t = r .t; step = r .step; gap = r .gap; primal = r .primal; first = r .first; best = r .best; «n_iter» = r .«n_iter» + 1; improvements = r .improvements; stalled = r .stalled; lost = true }
 
-module _ (k : ℕ) (g y dy : List Float) (lam : Float) (n m : ℕ) (s₀ s₁ : List Float) (r : Run) (t₁ : Float) (w : Step)
-    (is-dy : dy ≡ diffK k y) (room : 6 * m + (m * (k + 1) + 3 * m) ≤ 12 * n) (stands : Standing k y lam n m s₀ r)
-    (next : t₁ ≡ nextT m (r .gap) (stateOf n m s₀ r)) (stepped : Stepped k g dy lam (c1 ⊘ t₁) n m s₀ s₁ w) where
+module _ (k : ℕ) (g y : List Float) (lam : Float) (n m : ℕ) (s₀ s₁ : List Float) (r : Run) (t₁ : Float) (w : Step)
+    (room : stepArea k m ≤ 12 * n) (stands : Standing k y lam n m s₀ r)
+    (next : t₁ ≡ nextT m (r .gap) (stateOf n m s₀ r)) (stepped : Stepped k g (diffK k y) lam (c1 ⊘ t₁) n m s₀ s₁ w) where
+  abbrev dy : List Float
+  dy = diffK k y
+
   abbrev L : Problem State
   L = problem k g y lam
 
@@ -110,7 +115,7 @@ module _ (k : ℕ) (g y dy : List Float) (lam : Float) (n m : ℕ) (s₀ s₁ : 
       → move k g y lam (stateOf n m s₀ r) ≡ cond b (moved (landed lam (stateOf n m s₀ r) t₁ (searchLine k g dy lam (c1 ⊘ t₁) (point n m s₀)))) lost
   by-flag b e =
       move-is k g y lam m (point n m s₀) (r .t) (r .step) (r .gap) t₁ (length-part n m s₀) (stands .gap) next
-      ∙ λ i. cond (e i) (moved (landed lam (stateOf n m s₀ r) t₁ (searchLine k g (sym is-dy i) lam (c1 ⊘ t₁) (point n m s₀)))) lost
+      ∙ λ i. cond (e i) (moved (landed lam (stateOf n m s₀ r) t₁ (searchLine k g dy lam (c1 ⊘ t₁) (point n m s₀)))) lost
 
   -- the definition's test of the gap is the code's
   gap-test : (tol : Float) (b : Bool) → le (r .gap) (tol ⊗ r .primal) ≡ b → enough L tol (pointOf n m s₀ r) ≡ b
@@ -139,7 +144,7 @@ module _ (k : ℕ) (g y dy : List Float) (lam : Float) (n m : ℕ) (s₀ s₁ : 
         steps = refl;
         gains = omega arith;
         stall = omega arith;
-        kept = kept-then 0 (13 * n) (stepped .kept) (kept-none 0 0 s₁) (omega arith) (omega arith) (omega arith) (omega arith);
+        kept = kept-then 0 (searchArea n) (stepped .kept) (kept-none 0 0 s₁) (omega arith) (omega arith) (omega arith) (omega arith);
       }
 
   -- a step, and the certificate at the point that it left
@@ -203,7 +208,7 @@ module _ (k : ℕ) (g y dy : List Float) (lam : Float) (n m : ℕ) (s₀ s₁ : 
       steps = new .steps;
       gains = rw (new .gains) (at-most (improves r p d) (r .improvements + 1) (r .improvements) (omega arith));
       stall = rw (new .stall) (no-more (improves r p d));
-      kept = kept-then 0 (13 * n) (stepped .kept) kept (omega arith) (omega arith) (omega arith) (omega arith);
+      kept = kept-then 0 (searchArea n) (stepped .kept) kept (omega arith) (omega arith) (omega arith) (omega arith);
     }
       where
         no-more : (b : Bool) → cond b 0 (r .stalled + 1) ≤ r .stalled + 1
@@ -212,12 +217,19 @@ module _ (k : ℕ) (g y dy : List Float) (lam : Float) (n m : ℕ) (s₀ s₁ : 
 
 -- ---- the loop
 
-pub go-on : (a b c d : Bool) → cond a false (cond b false (cond c (not d) false)) ≡ true → (a ≡ false) × ((b ≡ false) × ((c ≡ true) × (d ≡ false)))
-go-on true b c d e = let z : _≡_ {A = ℕ} 0 1 = cc in absurd (omega arith)
-go-on false true c d e = let z : _≡_ {A = ℕ} 0 1 = cc in absurd (omega arith)
-go-on false false false d e = let z : _≡_ {A = ℕ} 0 1 = cc in absurd (omega arith)
-go-on false false true true e = let z : _≡_ {A = ℕ} 0 1 = cc in absurd (omega arith)
-go-on false false true false e = (refl, (refl, (refl, refl)))
+-- what is so where another iteration is made
+pub record GoesOn (a b c d : Bool) : Type 0 where
+  pub found : a ≡ false
+  pub wide : b ≡ false
+  pub within : c ≡ true
+  pub lively : d ≡ false
+
+go-on : (a b c d : Bool) → cond a false (cond b false (cond c (not d) false)) ≡ true → GoesOn a b c d
+go-on true b c d e = absurd (clash e refl)
+go-on false true c d e = absurd (clash e refl)
+go-on false false false d e = absurd (clash e refl)
+go-on false false true true e = absurd (clash e refl)
+go-on false false true false e = record { found = refl; wide = refl; within = refl; lively = refl }
 
 -- the search ended at p
 pub record EndsAt (e : Ended State) (p : Point State) : Type 0 where
@@ -247,7 +259,7 @@ module _ (L : Problem State) (tol : Float) (limit : ℕ) (e : Ended State) (p : 
       let o : p .steps < limit = ltb-true (p .steps) limit w in
       let z : limit - p .steps ≡ suc (limit - suc (p .steps)) = omega arith in
       ended-at e p stalled (sym (run-stalled L tol (limit - suc (p .steps)) p v x) ∙ sym (ap (λ (j : ℕ). run L tol j p) z) ∙ sym (ap (leftOf L tol (limit - p .steps) p) u) ∙ left)
-  finish false false true false u v w x q = let z : _≡_ {A = ℕ} 0 1 = cc in absurd (omega arith)
+  finish false false true false u v w x q = absurd (clash refl q)
 
 -- the definition's test of the gap
 pub enough-is : (k : ℕ) (g y : List Float) (lam tol : Float) (n m : ℕ) (s : List Float) (r : Run) → Standing k y lam n m s r
@@ -263,50 +275,54 @@ pub record Looping (k : ℕ) (g y : List Float) (lam tol : Float) (limit n m : �
   pub within : r .«n_iter» ≤ limit
   pub fewer : r .improvements ≤ r .«n_iter»
   pub idle : r .stalled ≤ 10
-  pub kept : Kept 0 (13 * n) s₀ s
+  pub kept : Kept 0 (searchArea n) s₀ s
 
 module _ (k : ℕ) (g y : List Float) (lam tol : Float) (limit n m : ℕ) (s₀ s : List Float) (r : Run) where
   abbrev P : Problem State
   P = problem k g y lam
 
-  pub loop-starts : pointOf n m s r ≡ start P (origin m) → Standing k y lam n m s r → r .first ≡ r .gap → r .lost ≡ false → Looping k g y lam tol limit n m s s r
-  loop-starts e w f o =
+  pub loop-starts : Started k y lam n m s₀ s r → Looping k g y lam tol limit n m s s r
+  loop-starts w =
+      let e = w .begins g in
       let none : r .«n_iter» ≡ 0 = ap (λ (p : Point State). p .steps) e in
       let gains : r .improvements ≡ 0 = ap (λ (p : Point State). p .gains) e in
       let stall : r .stalled ≡ 0 = ap (λ (p : Point State). p .stall) e in
       let all : limit - r .«n_iter» ≡ limit = omega arith in
       record {
-        left = ap (leftOf P tol (limit - r .«n_iter») (pointOf n m s r)) o ∙ λ i. run P tol (all i) (e i);
-        standing = w;
-        first = f ∙ w .gap ∙ λ i. gapOf (certify k y lam (e i .state .point .z));
+        left = ap (leftOf P tol (limit - r .«n_iter») (pointOf n m s r)) (w .lost) ∙ λ i. run P tol (all i) (e i);
+        standing = w .standing;
+        first = w .first ∙ w .standing .gap ∙ λ i. gapOf (certify k y lam (e i .state .point .z));
         within = omega arith;
         fewer = omega arith;
         idle = omega arith;
-        kept = kept-none 0 (13 * n) s;
+        kept = kept-none 0 (searchArea n) s;
       }
 
   module _ (w : Looping k g y lam tol limit n m s₀ s r) where
-    pub goes-on : goes r tol limit ≡ true → (r .lost ≡ false) × ((le (r .gap) (tol ⊗ r .primal) ≡ false) × ((ltb (r .«n_iter») limit ≡ true) × (eqb (r .stalled) 10 ≡ false)))
+    goes-on : goes r tol limit ≡ true → GoesOn (r .lost) (le (r .gap) (tol ⊗ r .primal)) (ltb (r .«n_iter») limit) (eqb (r .stalled) 10)
     goes-on h = go-on (r .lost) (le (r .gap) (tol ⊗ r .primal)) (ltb (r .«n_iter») limit) (eqb (r .stalled) 10) h
+
+    pub still : goes r tol limit ≡ true → r .«n_iter» < limit
+    still h = ltb-true (r .«n_iter») limit (goes-on h .within)
 
     pub loop-goes : goes r tol limit ≡ true → (s′ : List Float) (x : Run) → Turned k g y lam n m s s′ r x → Looping k g y lam tol limit n m s₀ s′ x
     loop-goes h s′ x t =
         let o = goes-on h in
-        let b : r .«n_iter» < limit = ltb-true (r .«n_iter») limit (o .1 .1 .0) in
+        let b = still h in
         let c = t .steps in
         let one : limit - r .«n_iter» ≡ suc (limit - x .«n_iter») = omega arith in
-        let d : suc (r .stalled) ≤ 10 = idle-room (r .stalled) (w .idle) (o .1 .1 .1) in
+        let d : suc (r .stalled) ≤ 10 = idle-room (r .stalled) (w .idle) (o .lively) in
         record {
-          left = sym (t .ahead tol (limit - x .«n_iter») (o .1 .0) (o .1 .1 .1))
+          left = sym (t .ahead tol (limit - x .«n_iter») (o .wide) (o .lively))
               ∙ sym (ap (λ (j : ℕ). run P tol j (pointOf n m s r)) one)
-              ∙ sym (ap (leftOf P tol (limit - r .«n_iter») (pointOf n m s r)) (o .0))
+              ∙ sym (ap (leftOf P tol (limit - r .«n_iter») (pointOf n m s r)) (o .found))
               ∙ w .left;
           standing = t .standing;
           first = t .first ∙ w .first;
           within = omega arith;
           fewer = omega (arith, t .gains, w .fewer);
           idle = omega (arith, t .stall);
-          kept = kept-then 0 (13 * n) (w .kept) (t .kept) (omega arith) (omega arith) (omega arith) (omega arith);
+          kept = kept-then 0 (searchArea n) (w .kept) (t .kept) (omega arith) (omega arith) (omega arith) (omega arith);
         }
 
     pub loop-ends : goes r tol limit ≡ false → EndsAt (run P tol limit (start P (origin m))) (pointOf n m s r)
@@ -315,7 +331,7 @@ module _ (k : ℕ) (g y : List Float) (lam tol : Float) (limit n m : ℕ) (s₀ 
         (r .lost) (le (r .gap) (tol ⊗ r .primal)) (ltb (r .«n_iter») limit) (eqb (r .stalled) 10) refl (enough-is k g y lam tol n m s r (w .standing)) refl refl h
 
 -- the whole search
-pub all-found : (k : ℕ) (g y : List Float) (lam tol : Float) (limit : ℕ) (s₀ s₁ s : List Float) (r : Run) → g ≡ gramRow k → Kept 0 (13 * length y) s₀ s₁
+pub all-found : (k : ℕ) (g y : List Float) (lam tol : Float) (limit : ℕ) (s₀ s₁ s : List Float) (r : Run) → g ≡ gramRow k → Kept 0 (searchArea (length y)) s₀ s₁
     → Looping k g y lam tol limit (length y) (length y - k) s₁ s r → goes r tol limit ≡ false → Found k y lam tol limit s₀ s r
 unfolding interiorPoint
 all-found k g y lam tol limit s₀ s₁ s r isg v w h =
@@ -334,5 +350,5 @@ all-found k g y lam tol limit s₀ s₁ s r isg v w h =
       best = e .best ∙ ap (λ (x : Ended State). x .best) q;
       steps = e .steps ∙ ap (λ (x : Ended State). x .steps) q;
       gains = e .gains ∙ ap (λ (x : Ended State). x .gains) q;
-      kept = kept-then 0 (13 * n) v (w .kept) (omega arith) (omega arith) (omega arith) (omega arith);
+      kept = kept-then 0 (searchArea n) v (w .kept) (omega arith) (omega arith) (omega arith) (omega arith);
     }

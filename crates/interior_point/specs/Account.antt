@@ -2,7 +2,7 @@
 use mathlib.Core.Path.{_≡_}
 use mathlib.Core.Bool.{Bool, true, false, cond, not}
 use mathlib.Core.List.{List}
-use Prim.Native.Nat.{ℕ, suc, _+_, _-_, _*_, _≤_}
+use Prim.Native.Nat.{ℕ, suc, _+_, _-_, _≤_, _<_, _^_}
 use lib.Dec.{eqb, ltb}
 use lib.ListN.{length}
 use lib.Ieee.{Float, lt, le}
@@ -10,7 +10,9 @@ use Rattle.float64.specs.Ops.{_⊖_, _⊗_}
 use Rattle.vectors.specs.Vec.{part, Kept}
 use Rattle.differences.specs.Diff.{gramRow}
 use Rattle.certificate.specs.Certificate.{Certificate, certify, gapOf}
-use Rattle.search.specs.Search.{Problem, Point, Ended, ended, pivot, mark, run}
+use Rattle.certificate.specs.Ready.{Ready}
+use Rattle.search.specs.Search.{Problem, Point, Ended, ended, pivot, mark, start, run}
+use Rattle.dual_point.specs.Lanes.{searchArea}
 use Rattle.dual_point.specs.Places.{point}
 use Rattle.interior_point.specs.InteriorPoint.{State, problem, origin, interiorPoint}
 use Rattle.interior_point.specs.declared.Run.{Run}
@@ -28,6 +30,14 @@ pub record Standing (k : ℕ) (y : List Float) (lam : Float) (n m : ℕ) (s : Li
   pub primal : r .primal ≡ certify k y lam (part n m s) .primal
   pub gap : r .gap ≡ gapOf (certify k y lam (part n m s))
 
+-- the start: the definition's, its trend and certificate, and the first gap
+pub record Started (k : ℕ) (y : List Float) (lam : Float) (n m : ℕ) (s₀ s : List Float) (r : Run) : Type 0 where
+  pub begins : (g : List Float) → pointOf n m s r ≡ start (problem k g y lam) (origin m)
+  pub standing : Standing k y lam n m s r
+  pub first : r .first ≡ r .gap
+  pub lost : r .lost ≡ false
+  pub kept : Kept 0 (searchArea n) s₀ s
+
 -- what is left of the search from p on, unless a pivot was lost
 abbrev pub leftOf : Problem State → Float → ℕ → Point State → Bool → Ended State
 leftOf L tol j p true = ended p pivot
@@ -36,6 +46,12 @@ leftOf L tol j p false = run L tol j p
 -- whether the next iteration is made
 abbrev pub goes : Run → Float → ℕ → Bool
 goes r tol limit = cond (r .lost) false (cond (le (r .gap) (tol ⊗ r .primal)) false (cond (ltb (r .«n_iter») limit) (not (eqb (r .stalled) 10)) false))
+
+-- one more iteration can be counted
+pub record Countable (r : Run) : Type 0 where
+  pub steps : r .«n_iter» + 1 < 2 ^ 64
+  pub gains : r .improvements ≤ r .«n_iter»
+  pub stall : r .stalled ≤ 10
 
 -- what an iteration adds to r, where it ends with P and G and is an improvement or not
 abbrev pub improves : Run → Float → Float → Bool
@@ -53,6 +69,12 @@ pub record Settled (r : Run) (t₁ step₁ p d : Float) (x : Run) : Type 0 where
   pub stall : x .stalled ≡ cond (improves r p d) 0 (r .stalled + 1)
   pub lost : x .lost ≡ false
 
+-- what an iteration asks
+pub record Turnable (k : ℕ) (y dy : List Float) (lam : Float) (s : List Float) (r : Run) : Type 0 where
+  pub ready : Ready k y dy (searchArea (length y)) (length s)
+  pub counts : Countable r
+  pub standing : Standing k y lam (length y) (length y - k) s r
+
 -- one iteration: of the definition's search from s₀ and r what is left from s and x is left
 pub record Turned (k : ℕ) (g y : List Float) (lam : Float) (n m : ℕ) (s₀ s : List Float) (r x : Run) : Type 0 where
   pub ahead : (tol : Float) (j : ℕ) → le (r .gap) (tol ⊗ r .primal) ≡ false → eqb (r .stalled) 10 ≡ false
@@ -62,7 +84,7 @@ pub record Turned (k : ℕ) (g y : List Float) (lam : Float) (n m : ℕ) (s₀ s
   pub steps : x .«n_iter» ≡ r .«n_iter» + 1
   pub gains : x .improvements ≤ r .improvements + 1
   pub stall : x .stalled ≤ r .stalled + 1
-  pub kept : Kept 0 (13 * n) s₀ s
+  pub kept : Kept 0 (searchArea n) s₀ s
 
 -- the whole search: the point that it ended at stands in s after its trend; r has its gaps and counts
 abbrev pub searchOf : ℕ → List Float → Float → Float → ℕ → Ended State
@@ -80,4 +102,4 @@ pub record Found (k : ℕ) (y : List Float) (lam tol : Float) (limit : ℕ) (s�
   pub best : r .best ≡ searchOf k y lam tol limit .best
   pub steps : r .«n_iter» ≡ searchOf k y lam tol limit .steps
   pub gains : r .improvements ≡ searchOf k y lam tol limit .gains
-  pub kept : Kept 0 (13 * length y) s₀ s
+  pub kept : Kept 0 (searchArea (length y)) s₀ s

@@ -1,5 +1,4 @@
 use borrow.Author.Needs.{needs}
-use Prim.Native.Nat.{_-_}
 use borrow.Author.Tests.{le-ltb, lt-ltb}
 use Rattle.interior_point.proofs.going.Statement.{statement}
 use Rattle.interior_point.proofs.going.Tie as tie
