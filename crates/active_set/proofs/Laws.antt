@@ -31,7 +31,7 @@ free-cond false true = refl
 free-cond false false = refl
 
 -- the mark of a free place is 0
-pub free-mark : (x : ℕ) → isFree (holdOf x) ≡ eqb x 0
+free-mark : (x : ℕ) → isFree (holdOf x) ≡ eqb x 0
 free-mark x = free-cond (eqb x 0) (eqb x 1)
 
 pub free-place : {A : Type 0} (x : ℕ) (u v : A) → x ≡ 0 → cond (isFree (holdOf x)) u v ≡ u
@@ -50,7 +50,7 @@ pub one-le : (b : Bool) → cond b 1 0 ≤ 1
 one-le true = omega arith
 one-le false = omega arith
 
-pub count-suc : (h : ℕ → Hold) (n : ℕ) → length (freeTo h (suc n)) ≡ length (freeTo h n) + cond (isFree (h n)) 1 0
+count-suc : (h : ℕ → Hold) (n : ℕ) → length (freeTo h (suc n)) ≡ length (freeTo h n) + cond (isFree (h n)) 1 0
 unfolding freeTo
 count-suc h n =
     length-append (freeTo h n) (cond (isFree (h n)) (n ∷ []) [])

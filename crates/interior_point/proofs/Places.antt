@@ -11,12 +11,13 @@ use Rattle.vectors.proofs.Parts.{putBack, kept-within}
 use Rattle.banded.specs.Rows.{sound}
 use Rattle.newton_system.specs.Newton.{system}
 use Rattle.line_search.specs.LineSearch.{searchLine, taken}
+use Rattle.dual_point.specs.Lanes.{searchArea}
 use Rattle.dual_point.proofs.Points.{point-range, point-put}
 use Rattle.newton_step.specs.Stepped.{stepArea, stepOf, Stepped}
 use Rattle.newton_step.specs.declared.Step.{Step}
 
 -- the places of a step, in rows of at most 3
-pub step-small : (k m n : ℕ) → k ≤ 2 → m ≤ n → stepArea k m ≤ 12 * n
+pub step-small : (k m n : ℕ) → k ≤ 2 → m ≤ n → n + stepArea k m ≤ searchArea n
 step-small k m n h l = let f : m * (k + 1) ≤ m * 3 = mul-le-mul-left m (omega arith) in omega arith
 
 pub first-places : (m : ℕ) (s : List Float) → take (m - 0) (drop 0 s) ≡ take m s

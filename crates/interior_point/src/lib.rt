@@ -43,7 +43,7 @@ fn fill(s: &mut [f64], a: usize, e: usize, v: f64)
 // z = 0, mu1 = mu2 = 1, t = 1e-10, step infinite; the best gap is the first.
 fn start(work: &mut [f64], y: &[f64], dy: &[f64], lam: f64, k: usize) -> Run
     requires { ⌜ Ready k (now y) (now dy) (searchArea (length (now y))) (length (now work)) ⌝ }
-    ensures { λ r. ⌜ Started k (now (y .entry)) lam (length (now (y .entry))) (length (now (y .entry)) - k) (now (work .entry)) (now (work .exit)) r ⌝ }
+    ensures { λ r. ⌜ Started k (now (y .entry)) lam (now (work .entry)) (now (work .exit)) r ⌝ }
 {
     let n = y.len();
     let a = n + (n - k);
@@ -161,7 +161,7 @@ fn pivot_lost(r: Run) -> Run
 // One iteration: a Newton step with the next t, and the certificate at the point that it leaves.
 fn iterate(work: &mut [f64], y: &[f64], dy: &[f64], lam: f64, k: usize, g: [f64; 3], r: Run) -> Run
     requires { ⌜ Turnable k (now y) (now dy) lam (now work) r ⌝ }
-    ensures { λ x. ⌜ Turned k g (now (y .entry)) lam (length (now (y .entry))) (length (now (y .entry)) - k) (now (work .entry)) (now (work .exit)) r x ⌝ }
+    ensures { λ x. ⌜ Turned k g (now (y .entry)) lam (now (work .entry)) (now (work .exit)) r x ⌝ }
 {
     let n = y.len();
     let t = next_t(r.t, r.step, r.gap, n - k);

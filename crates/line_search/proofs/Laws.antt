@@ -26,7 +26,7 @@ cap-more b m s i x y h e f =
       at-part (b + m + m) m s i (b + m + m + i) h refl,
     )
 
-pub stepped-part : (a b e m : ℕ) (step : Float) (s₀ s : List Float)
+stepped-part : (a b e m : ℕ) (step : Float) (s₀ s : List Float)
     → ((j : ℕ) → j < m → at s (e + j) ≡ add binary64 (at s₀ (a + j)) (mul binary64 step (at s₀ (b + j)))) → part e m s ≡ stepped step (part a m s₀) (part b m s₀)
 unfolding partOf stepped
 stepped-part a b e m step s₀ s h =

@@ -34,7 +34,7 @@ module _ {h : ℕ → Hold} {n m q : ℕ} {v : List ℕ} (w : Marks h n m v q) w
       ∙ sym (at-part (c + b) q (putBack c l s x) j (c + b + j) u refl)
       ∙ ap (λ (z : List Float). at z j) (part-put c l s x fits e nan b q r ∙ is)
 
-  pub place-same : (lam : Float) (x y : List Float) → ((j : ℕ) → j < q → at x j ≡ at y j) → (i : ℕ) → i < m
+  place-same : (lam : Float) (x y : List Float) → ((j : ℕ) → j < q → at x j ≡ at y j) → (i : ℕ) → i < m
       → candidateAt lam (heldBy n v) x i ≡ candidateAt lam h y i
   unfolding candidateAt
   place-same lam x y e i l =

@@ -1,5 +1,5 @@
 -- How a polish ends, from the marks, the candidate and its certificate. Assumes nothing.
-use mathlib.Core.Bool.{true, false, _&&_}
+use mathlib.Core.Bool.{true, false}
 use mathlib.Core.List.{List}
 use mathlib.Core.Option.{Option, none, some}
 use mathlib.Core.Path.{_≡_, sym, ap, _∙_}
@@ -8,8 +8,7 @@ use native.Mathlib.Nat.{add-zero}
 use native.Mathlib.Omega.{arith}
 use lib.ListN.{length, getD, take, drop}
 use lib.Seq.{getD-take}
-use lib.Ieee.{Float, nan, lt}
-use Rattle.float64.specs.Helpers.{isFinite}
+use lib.Ieee.{Float, nan}
 use Rattle.float64.specs.Ops.{_⊖_}
 use Rattle.vectors.specs.Vec.{at, part, Kept, KeptOf}
 use Rattle.vectors.proofs.Laws.{list-ext, kept-then}
@@ -20,10 +19,8 @@ use Rattle.dual_point.specs.Lanes.{settleLane, candidateTrend, candidateLane, p
 use Rattle.active_set.specs.ActiveSet.{Hold, holdAt, freeTo, rightOf, solved}
 use Rattle.polish.specs.Polish.{candidate, polish}
 use Rattle.active_set.specs.Marks.{Marks, Freed}
-use Rattle.polish.specs.Places.{polishFrom, Polished, wins}
-use Rattle.certificate.specs.Certificate.{certify, gapOf}
+use Rattle.polish.specs.Places.{polishFrom, Polished}
 use Rattle.certificate.specs.Run.{Certified}
-use Rattle.certificate.proofs.Laws.{room}
 use Rattle.polish.specs.declared.Candidate.{Candidate}
 use Rattle.active_set.proofs.Laws.{count-le, free-lt}
 use Rattle.vectors.proofs.Parts.{kept-part}
@@ -108,12 +105,3 @@ module _ (k : ℕ) (y : List Float) (lam : Float) {w₀ w₁ : List Float} {v₀
           kept = kept-then (settleLane n) (polishArea n) kept (kept-part (candidateTrend n) l l w₁ x (omega arith) size (omega arith)) (omega arith) (omega arith) (omega arith) (omega arith);
           marks = marks-all (length y) k marks;
         }
-
--- ---- for the caller: whether the candidate wins over an iterate with this gap
-
-module _ {k : ℕ} {y : List Float} {lam : Float} {w₀ w : List Float} {v₀ v : List ℕ} {r : Candidate} (p : Polished k y lam w₀ w v₀ v r) (gap : Float) where
-  pub wins-none : polishFrom k y lam w₀ ≡ none → wins r gap ≡ false
-  wins-none e = rw (p .there, e)
-
-  pub wins-some : (z : List Float) → polishFrom k y lam w₀ ≡ some z → wins r gap ≡ (isFinite (gapOf (certify k y lam z)) && lt (gapOf (certify k y lam z)) gap)
-  wins-some z e = rw (p .there, e, p .rated z e .gap)

@@ -2,13 +2,12 @@ use borrow.Author.Needs.{needs}
 use mathlib.Core.Path.{sym, _∙_}
 use Prim.Native.Nat.{_-_}
 use native.Mathlib.Omega.{arith}
-use lib.ListN.{length}
 use Rattle.interior_point.proofs.Turns.{Looping, loop-starts, still, loop-goes, all-found}
 use Rattle.interior_point.proofs.ipm_l1.Statement.{statement}
 use Rattle.interior_point.proofs.ipm_l1.Tie as tie
 
 abbrev Inv-loop : tie.InvT-loop
-Inv-loop work₀ y dy lam tol max-iter k g r₀ work r = Looping k g y lam tol max-iter (length y) (length y - k) work₀ work r
+Inv-loop work₀ y dy lam tol max-iter k g r₀ work r = Looping k y lam g tol max-iter work₀ work r
 
 abbrev μ-loop : tie.MeasureT-loop
 μ-loop work₀ y dy lam tol max-iter k g r₀ work r = max-iter - r .«n_iter»
@@ -20,8 +19,7 @@ loop-holds : tie.Need-loop-holds Inv-loop μ-loop
 loop-holds c = let st = c .before .before in
     let go = st .before .before in
     let a = go .before .before .before .before .args in
-    let n = length (a .y .now) in
-    loop-starts (a .k) (go .gram-offsets .result) (a .y .now) (a .lam) (a .tol) (a .max-iter) n (n - a .k) (a .work .now) (st .start .last .0) (st .start .result) (st .start .ensures)
+    loop-starts (a .k) (a .y .now) (a .lam) (go .gram-offsets .result) (a .tol) (a .max-iter) (a .work .now) (st .start .last .0) (st .start .result) (st .start .ensures)
 
 iterate-requires : tie.Need-iterate-requires Inv-loop μ-loop
 iterate-requires c κs = let lc = c .before .before .before in
@@ -30,10 +28,9 @@ iterate-requires c κs = let lc = c .before .before .before in
     let b = go .before .before .before .before in
     let a = b .args in
     let p = b .pre in
-    let n = length (a .y .now) in
     let l = lc .loop in
     let h = sym (c .before .before .going .ensures) ∙ c .before .if1 .taken in
-    let o = still (a .k) (go .gram-offsets .result) (a .y .now) (a .lam) (a .tol) (a .max-iter) n (n - a .k) (st .start .last .0) (l .work) (l .r) (l .inv) h in
+    let o = still (a .k) (a .y .now) (a .lam) (go .gram-offsets .result) (a .tol) (a .max-iter) (st .start .last .0) (l .work) (l .r) (l .inv) h in
     record {
       ready = record { series = p .series; room = omega (arith, p .room, l .inv .kept .size, st .start .ensures .kept .size); known = p .known };
       counts = record { steps = omega (arith, o); gains = l .inv .fewer; stall = l .inv .idle };
@@ -47,10 +44,9 @@ loop-less c = let it = c .before .before in
     let st = lc .before .before .before in
     let go = st .before .before in
     let a = go .before .before .before .before .args in
-    let n = length (a .y .now) in
     let l = lc .loop in
     let h = sym (gc .going .ensures) ∙ it .before .before .if1 .taken in
-    let o = still (a .k) (go .gram-offsets .result) (a .y .now) (a .lam) (a .tol) (a .max-iter) n (n - a .k) (st .start .last .0) (l .work) (l .r) (l .inv) h in
+    let o = still (a .k) (a .y .now) (a .lam) (go .gram-offsets .result) (a .tol) (a .max-iter) (st .start .last .0) (l .work) (l .r) (l .inv) h in
     omega (arith, o, it .iterate .ensures .steps)
 
 loop-again : tie.Need-loop-again Inv-loop μ-loop
@@ -60,9 +56,8 @@ loop-again c = let it = c .before .before in
     let st = lc .before .before .before in
     let go = st .before .before in
     let a = go .before .before .before .before .args in
-    let n = length (a .y .now) in
     let l = lc .loop in
-    loop-goes (a .k) (go .gram-offsets .result) (a .y .now) (a .lam) (a .tol) (a .max-iter) n (n - a .k) (st .start .last .0) (l .work) (l .r) (l .inv) (sym (gc .going .ensures) ∙ it .before .before .if1 .taken)
+    loop-goes (a .k) (a .y .now) (a .lam) (go .gram-offsets .result) (a .tol) (a .max-iter) (st .start .last .0) (l .work) (l .r) (l .inv) (sym (gc .going .ensures) ∙ it .before .before .if1 .taken)
     (it .iterate .last .0) (it .iterate .result) (it .iterate .ensures)
 
 same-length : tie.Need-same-length Inv-loop μ-loop
@@ -74,7 +69,7 @@ returns c = let lc = c .before .before in
     let st = lc .before .before .before in
     let go = st .before .before in
     let a = go .before .before .before .before .args in
-    all-found (a .k) (go .gram-offsets .result) (a .y .now) (a .lam) (a .tol) (a .max-iter) (a .work .now) (st .start .last .0) (lc .loop .work) (lc .loop .r) (go .gram-offsets .ensures) (st .start .ensures .kept) (lc .loop .inv)
+    all-found (a .k) (a .y .now) (a .lam) (go .gram-offsets .result) (a .tol) (a .max-iter) (a .work .now) (st .start .last .0) (lc .loop .work) (lc .loop .r) (go .gram-offsets .ensures) (st .start .ensures .kept) (lc .loop .inv)
     (sym (c .before .going .ensures) ∙ c .if1 .left)
 
 pub ipm-l1-spec : {M : Type 1} → statement M

@@ -13,7 +13,8 @@ step-at-requires c κs = c .before .before .before .before .before .pre .ready
 
 pivot-lost-requires : tie.Need-pivot-lost-requires
 pivot-lost-requires c κs = let sa = c .before .before .before .before in
-    sa .before .before .before .before .before .before .pre .counts .steps
+    let nt = sa .before .before in
+    nt .before .before .before .before .pre .counts .steps
 
 returns : tie.Need-returns
 returns c = let sa = c .before .before .before .before .before in
@@ -24,18 +25,20 @@ returns c = let sa = c .before .before .before .before .before in
     let m = n - a .k in
     let w = sa .step-at in
     rw (c .pivot-lost .ensures)
-    (turned-lost (a .k) (a .g) (a .y .now) (a .lam) n m (a .work .now) (w .last .0) (a .r) (nt .next-t .result) (w .result)
+    (turned-lost (a .k) (a .y .now) (a .lam) (a .g) (a .work .now) (w .last .0) (a .r) (nt .next-t .result) (w .result)
     (step-small (a .k) m n (st .pre .ready .series .order .high) (omega arith)) (st .pre .standing) (nt .next-t .ensures (point n m (a .work .now))) (w .ensures) (c .before .enum-told .given .1))
 
 certify-l1-requires : tie.Need-certify-l1-requires
 certify-l1-requires c κs = let sa = c .before .before .before .before .before .before in
-    let p = sa .before .before .before .before .before .before .pre .ready in
+    let nt = sa .before .before in
+    let p = nt .before .before .before .before .pre .ready in
     record { series = p .series; room = omega (arith, p .room, sa .step-at .ensures .kept .size); known = p .known }
 
 settled-requires : tie.Need-settled-requires
 settled-requires c κs = let cl = c .before .before in
     let sa = cl .before .before .before .before .before .before .before in
-    sa .before .before .before .before .before .before .pre .counts
+    let nt = sa .before .before in
+    nt .before .before .before .before .pre .counts
 
 returns-2 : tie.Need-returns-2
 returns-2 c = let cl = c .before .before .before in
@@ -48,7 +51,7 @@ returns-2 c = let cl = c .before .before .before in
     let m = n - a .k in
     let w = sa .step-at in
     let f = cl .certify-l1 in
-    turned-moved (a .k) (a .g) (a .y .now) (a .lam) n m (a .work .now) (w .last .0) (a .r) (nt .next-t .result) (w .result)
+    turned-moved (a .k) (a .y .now) (a .lam) (a .g) (a .work .now) (w .last .0) (a .r) (nt .next-t .result) (w .result)
     (step-small (a .k) m n (st .pre .ready .series .order .high) (omega arith)) (st .pre .standing) (nt .next-t .ensures (point n m (a .work .now))) (w .ensures)
     (to .w .given .0 .0) (f .result .primal) (f .result .dual) (f .last .0) (c .settled .result) (f .ensures .trend) (f .ensures .primal-is) (f .ensures .dual-is) (f .ensures .kept) (c .settled .ensures)
     (to .w .given .1)

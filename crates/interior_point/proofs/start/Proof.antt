@@ -1,7 +1,5 @@
 use borrow.Author.Needs.{needs}
-use Prim.Native.Nat.{_-_}
 use native.Mathlib.Omega.{arith}
-use lib.ListN.{length}
 use lib.Ieee.{nanBits}
 use Rattle.interior_point.proofs.Turns.{started}
 use Rattle.interior_point.proofs.start.Statement.{statement}
@@ -22,9 +20,8 @@ returns c = let f = c .before .before .before in
     let two = f .before .before .before .before in
     let one = two .before .before .before .before in
     let a = one .before .before .before .before .before .args in
-    let n = length (a .y .now) in
     let e = f .certify-l1 .ensures in
-    started (a .k) (a .y .now) (a .lam) n (n - a .k) (a .work .now) (one .fill .last .0) (two .fill2 .last .0) (f .certify-l1 .last .0) (f .certify-l1 .result .primal) (f .certify-l1 .result .dual) (omega arith)
+    started (a .k) (a .y .now) (a .lam) (a .work .now) (one .fill .last .0) (two .fill2 .last .0) (f .certify-l1 .last .0) (f .certify-l1 .result .primal) (f .certify-l1 .result .dual)
     (one .fill .ensures) (two .fill2 .ensures) (e .trend) (e .primal-is) (e .dual-is) (e .kept)
 
 pub start-spec : {M : Type 1} → statement M

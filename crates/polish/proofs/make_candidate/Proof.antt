@@ -39,15 +39,18 @@ returns c = let cs = c .before .before .before in
     }
 
 mul-b : tie.Need-mul-b
-mul-b c = let a = c .before .before .before .before .before .before .before .before .args in
+mul-b c = let cs = c .before .before .before in
+    let a = cs .before .before .before .before .before .args in
     record { fits = omega (arith, room (a .k) (a .q) (a .n) (omega arith) (omega arith)) }
 
 add-b-2 : tie.Need-add-b-2
-add-b-2 c = let a = c .before .before .before .before .before .before .before .before .args in
+add-b-2 c = let cs = c .before .before .before in
+    let a = cs .before .before .before .before .before .args in
     record { fits = omega (arith, room (a .k) (a .q) (a .n) (omega arith) (omega arith)) }
 
 fill-candidate-requires : tie.Need-fill-candidate-requires
-fill-candidate-requires c κs = let a = c .before .before .before .before .before .before .before .before .before .args in
+fill-candidate-requires c κs = let cs = c .before .before .before .before in
+    let a = cs .before .before .before .before .before .args in
     let r = room (a .k) (a .q) (a .n) (omega arith) (omega arith) in
     record { marked = omega arith; apart = omega arith; room = omega arith }
 

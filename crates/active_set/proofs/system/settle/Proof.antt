@@ -8,7 +8,8 @@ returns : tie.Need-returns
 returns c = settled-none _ _ _ _ _ _ _ (c .if1 .taken)
 
 fill-right-requires : tie.Need-fill-right-requires
-fill-right-requires c κs = let st = c .before .before .before .before .before .before .before .before .before .before in
+fill-right-requires c κs = let cg = c .before .before .before .before .before in
+    let st = cg .before .before .before .before .before in
     (st .pre .0, omega arith)
 
 returns-2 : tie.Need-returns-2
