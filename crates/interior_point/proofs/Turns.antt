@@ -29,7 +29,7 @@ use Rattle.newton_step.specs.Stepped.{stepArea, stepOf, Stepped}
 use Rattle.newton_step.specs.declared.Step.{Step}
 use Rattle.newton_step.specs.declared.Step.the-variants.{Lost, Moved}
 use Rattle.interior_point.specs.InteriorPoint.{State, nextT, landed, move, problem, origin, interiorPoint}
-use Rattle.interior_point.specs.Account.{stateOf, pointOf, Standing, Started, leftOf, goes, improves, Settled, Turned, searchOf, Found}
+use Rattle.interior_point.specs.Account.{stateOf, pointOf, Standing, Started, leftOf, goes, improves, lostRun, Settled, Turned, searchOf, Found}
 use Rattle.interior_point.specs.declared.Run.{Run}
 
 -- the account of the start, where v is its gap
@@ -44,9 +44,6 @@ was-moved false x step e = let z : _≡_ {A = ℕ} 0 1 = cc in absurd (omega ari
 was-lost : (b : Bool) (x : Float) → stepOf b x ≡ Lost → b ≡ false
 was-lost true x e = let z : _≡_ {A = ℕ} 0 1 = cc in absurd (omega arith)
 was-lost false x e = refl
-
-abbrev pub lostRun : Run → Run
-lostRun r = record { t = r .t; step = r .step; gap = r .gap; primal = r .primal; first = r .first; best = r .best; «n_iter» = r .«n_iter» + 1; improvements = r .improvements; stalled = r .stalled; lost = true }
 
 -- what is so where another iteration is made
 pub record GoesOn (a b c d : Bool) : Type 0 where

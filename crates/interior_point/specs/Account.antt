@@ -74,6 +74,21 @@ pub record Settled (r : Run) (t₁ step₁ p d : Float) (x : Run) : Type 0 where
   pub stall : x .stalled ≡ cond (improves r p d) 0 (r .stalled + 1)
   pub lost : x .lost ≡ false
 
+-- after a lost pivot: the iteration counts, and nothing else changes
+abbrev pub lostRun : Run → Run
+lostRun r = record {
+  t = r .t;
+  step = r .step;
+  gap = r .gap;
+  primal = r .primal;
+  first = r .first;
+  best = r .best;
+  «n_iter» = r .«n_iter» + 1;
+  improvements = r .improvements;
+  stalled = r .stalled;
+  lost = true;
+}
+
 -- what an iteration asks
 pub record Turnable (k : ℕ) (y dy : List Float) (lam : Float) (s : List Float) (r : Run) : Type 0 where
   pub ready : Ready k y dy (searchArea (length y)) (length s)

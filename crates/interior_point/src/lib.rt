@@ -10,7 +10,7 @@ ghost use Rattle.dual_point.specs.Dual.{Dual};
 ghost use Rattle.dual_point.specs.Lanes.{searchArea};
 ghost use Rattle.newton_step.specs.Stepped.{Stepped};
 ghost use Rattle.interior_point.specs.InteriorPoint.{nextT};
-ghost use Rattle.interior_point.specs.Account.{Started, goes, Countable, Settled, Turnable, Turned, Found};
+ghost use Rattle.interior_point.specs.Account.{Started, goes, Countable, lostRun, Settled, Turnable, Turned, Found};
 use certificate::Pair;
 use newton_step::Step;
 
@@ -141,7 +141,7 @@ fn settled(r: Run, t: f64, step: f64, p: Pair) -> Run
 // The account after a lost pivot: the iteration counts, and nothing else changes.
 fn pivot_lost(r: Run) -> Run
     requires { ⌜ r .«n_iter» + 1 < 2 ^ 64 ⌝ }
-    ensures { λ x. ⌜ (x ≡ record { t = r .t; step = r .step; gap = r .gap; primal = r .primal; first = r .first; best = r .best; «n_iter» = r .«n_iter» + 1; improvements = r .improvements; stalled = r .stalled; lost = true }) ⌝ }
+    ensures { λ x. ⌜ x ≡ lostRun r ⌝ }
 {
     let n_iter = r.n_iter + 1;
     Run {

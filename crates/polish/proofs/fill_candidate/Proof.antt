@@ -41,7 +41,7 @@ loop-again c = let l = c .before .before .before .before .before in
       omega (arith, c .one-if-free .ensures, one-le (isFree (h i))),
       count-more h i (l .loop .inv .2) (c .one-if-free .ensures),
       store-more (a .a) i (candidateAt (a .lam) h (part (a .b) (a .m) (a .s .now))) (a .s .now) (l .loop .s) x w (omega arith)
-              (place-is (a .lam) h (a .b) (a .m) i q (a .s .now) (l .loop .s) x (l .loop .inv .2) (omega arith) (w .below (a .b + q) (omega arith)) (c .before .candidate-at .ensures)),
+          (place-is (a .lam) h (a .b) (a .m) i q (a .s .now) (l .loop .s) x (l .loop .inv .2) (omega arith) (w .below (a .b + q) (omega arith)) (c .before .candidate-at .ensures)),
     )
 
 returns : tie.Need-returns Inv-loop μ-loop

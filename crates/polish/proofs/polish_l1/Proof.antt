@@ -19,8 +19,7 @@ make-candidate-requires c κs = let ck = c .before .before .before .before in
     let st = ck .before .before .before .before .before .before .before in
     let a = st .args in
     let p = st .pre .ready in
-    let size = ck .mark .ensures .1 .size in
-    (
+    let size = ck .mark .ensures .1 .size in (
       freed (a .k) (length (a .dy .now)) (ck .mark .ensures .0) (p .series .order .high) (omega arith) (omega arith) (dy-long (a .k) (a .y .now) (a .dy .now) (p .known)),
       p .room,
     )
