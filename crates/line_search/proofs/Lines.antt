@@ -1,4 +1,4 @@
--- What stays where a run is written elsewhere, and the ways through the line search.
+-- The direction written after dz, and the ways through the line search. Assumes nothing.
 use mathlib.Core.Path.{_≡_, refl, sym, ap, _∙_}
 use mathlib.Core.List.{List}
 use mathlib.Core.Bool.{Bool, true, false, _&&_}

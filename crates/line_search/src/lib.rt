@@ -1,7 +1,9 @@
 // The direction of a Newton step from a dual point, and the line search along it. A point stands in a run as z, mu1, mu2, m places each.
 ghost use mathlib.Core.Path.{_≡_};
+ghost use mathlib.Core.Bool.{false};
 ghost use Prim.Native.Nat.{_≤_, _+_, _*_};
 ghost use lib.ListN.{length};
+ghost use lib.Ieee.{isNan};
 ghost use Rattle.vectors.specs.Vec.{at, list, part, Kept};
 ghost use Rattle.newton_system.specs.Newton.{squareAt, squares, norm};
 ghost use Rattle.dual_point.specs.Places.{point};
@@ -48,12 +50,17 @@ fn dmu_at(z: f64, mu: f64, dz: f64, lam: f64, u: f64, lower: bool) -> f64
     -(mu + (u + dz * mu) / f1)
 }
 
-// The lesser of step and the step at which mu is left at a hundredth, if it falls.
+// The lesser of step and the step at which mu is left at a hundredth, if it falls: document 01's min, of which a number on the left leaves one comparison.
 fn cap_of(step: f64, mu: f64, dmu: f64) -> f64
-    ensures { λ r. ⌜ r ≡ capped step mu dmu ⌝ }
+    requires { ⌜ isNan step ≡ false ⌝ }
+    ensures { λ r. ⌜ (r ≡ capped step mu dmu) × (isNan r ≡ false) ⌝ }
 {
     if dmu < 0.0 {
-        return float64::min(step, 0.99 * (-mu / dmu));
+        let q = 0.99 * (-mu / dmu);
+        if q < step {
+            return q;
+        }
+        return step;
     }
     step
 }

@@ -21,7 +21,7 @@ use Rattle.newton_step.specs.Stepped.{stepArea, Stepped}
 use Rattle.newton_step.specs.declared.Step.the-variants.{Lost, Moved}
 
 -- the line search from a point s₀, whose direction and greatest step stand in s₁
-pub line-done : (k : ℕ) (g dy : List Float) (lam u : Float) (m b : ℕ) (cap old : Float) (s₀ s₁ s₂ : List Float) (step : Float) (within : Bool)
+line-done : (k : ℕ) (g dy : List Float) (lam u : Float) (m b : ℕ) (cap old : Float) (s₀ s₁ s₂ : List Float) (step : Float) (within : Bool)
     → point 0 m s₁ ≡ point 0 m s₀
     → point b m s₁ ≡ direction lam u (point 0 m s₀) (newtonZ k g dy lam u (point 0 m s₀))
     → cap ≡ capTo (point 0 m s₀) (direction lam u (point 0 m s₀) (newtonZ k g dy lam u (point 0 m s₀))) m
@@ -37,7 +37,7 @@ line-done k g dy lam u m b cap old s₀ s₁ s₂ step within e f c o w =
     ∙ w .ends
 
 -- what is taken of it, in s₃
-pub take-done : (lam : Float) (m : ℕ) (p : Dual) (e : Trial) (s₁ s₂ s₃ : List Float) (step : Float) (within : Bool)
+take-done : (lam : Float) (m : ℕ) (p : Dual) (e : Trial) (s₁ s₂ s₃ : List Float) (step : Float) (within : Bool)
     → e ≡ record { point = point (3 * m) m s₂; step = step } → within ≡ inside lam (part (3 * m) m s₂) → point 0 m s₁ ≡ p → Kept (3 * m) (3 * m) s₁ s₂
     → point 0 m s₃ ≡ cond within (point (3 * m) m s₂) (point 0 m s₂)
     → point 0 m s₃ ≡ taken lam p e
