@@ -6,15 +6,9 @@ use borrow.Author.Needs.{needs}
 use Rattle.framing.proofs.one.Statement.{statement}
 use Rattle.framing.proofs.one.Tie as tie
 
-shared-slice-read-small : tie.Need-shared-slice-read-small
-shared-slice-read-small c = search needs
-
-small-requires : tie.Need-small-requires
-small-requires c κs = search needs
-
 returns : tie.Need-returns
 returns c = let a = c .before .before .before .args in
     c .small .ensures ∙ one-is (now (a .s)) (a .at) (omega arith)
 
 pub one-spec : {M : Type 1} → statement M
-one-spec = tie.close (tie.spec shared-slice-read-small small-requires returns)
+one-spec = tie.close (tie.spec (λ c. search needs) (λ c κs. search needs) returns)
