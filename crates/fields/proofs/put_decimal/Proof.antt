@@ -1,12 +1,12 @@
 use mathlib.Core.Path.{_∙_}
 use Prim.Native.Nat.{_≤_}
 use lib.Dec.{lit<, lit≤}
-use Rattle.listing.specs.Listing.{decimal}
-use Rattle.listing.proofs.Decimals.{fewest-le, fewest-decimal}
+use Rattle.fields.specs.Fields.{decimal}
+use Rattle.fields.proofs.Decimals.{fewest-le, fewest-decimal}
 use native.Mathlib.Omega.{arith}
 use borrow.Author.Needs.{needs}
-use Rattle.listing.proofs.put_decimal.Statement.{statement}
-use Rattle.listing.proofs.put_decimal.Tie as tie
+use Rattle.fields.proofs.put_decimal.Statement.{statement}
+use Rattle.fields.proofs.put_decimal.Tie as tie
 
 -- pre{
 -- twenty digits hold it
@@ -24,9 +24,9 @@ unfolding decimal
 returns c = let p = c .before .before in
     let d = p .before .before .before in
     let e = d .decimal .ensures in
-    let w = p .put-all .ensures in
+    let w = p .put-all .ensures .wrote in
     let n = d .before .before .before in
-    (rw (e .1 .1 ∙ fewest-decimal 19 _ (n .args .n) (omega (arith, n .fits .n)) (e .1 .0)) at w, omega (arith, w .next, e .0 .1, few d))
+    record { wrote = rw (e .1 .1 ∙ fewest-decimal 19 _ (n .args .n) (omega (arith, n .fits .n)) (e .1 .0)) at w; short = omega (arith, w .next, e .0 .1, few d) }
 
 pub put-decimal-spec : {M : Type 1} → statement M
 put-decimal-spec =

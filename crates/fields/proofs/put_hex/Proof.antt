@@ -3,11 +3,11 @@ use mathlib.Core.Path.{_≡_, ap₂, _∙_}
 use Prim.Native.Nat.{ℕ, _≤_}
 use lib.Dec.{lit<, lit≤}
 use Rattle.io.specs.Digits.{digits}
-use Rattle.listing.specs.Listing.{hexOf}
-use Rattle.listing.proofs.Decimals.{fewest-le}
+use Rattle.fields.specs.Fields.{hexOf}
+use Rattle.fields.proofs.Decimals.{fewest-le}
 use borrow.Author.Needs.{needs}
-use Rattle.listing.proofs.put_hex.Statement.{statement}
-use Rattle.listing.proofs.put_hex.Tie as tie
+use Rattle.fields.proofs.put_hex.Statement.{statement}
+use Rattle.fields.proofs.put_hex.Tie as tie
 
 -- pre{
 -- sixteen digits
@@ -27,8 +27,8 @@ unfolding hexOf
 returns c = let p = c .before .before in
     let d = p .before .before .before in
     let e = d .hex .ensures in
-    let w = p .put-all .ensures in
-    (rw (e .1 .1 ∙ ap₂ (λ (k n : ℕ). digits 16 k n) (few d) (d .before .before .pattern .ensures)) at w, omega (arith, w .next, e .0 .1, few d))
+    let w = p .put-all .ensures .wrote in
+    record { wrote = rw (e .1 .1 ∙ ap₂ (λ (k n : ℕ). digits 16 k n) (few d) (d .before .before .pattern .ensures)) at w; short = omega (arith, w .next, e .0 .1, few d) }
 
 pub put-hex-spec : {M : Type 1} → statement M
 put-hex-spec =

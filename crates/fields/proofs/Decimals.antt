@@ -1,4 +1,4 @@
--- The digits that `io` writes are those of the listing. Assumes nothing.
+-- The digits that `io` writes are those of `decimal`. Assumes nothing.
 use mathlib.Core.Path.{_≡_, refl, ap, _∙_}
 use mathlib.Core.Bool.{Bool, true, false, cond}
 use mathlib.Core.List.{List, [], _∷_, _++_}
@@ -8,7 +8,7 @@ use native.Mathlib.Nat.{mod-eq-of-lt, pow-le-pow-right}
 use lib.Dec.{leb, ltb, lit<}
 use borrow.Author.Tests.{ltb-true, ltb-false, leb-true, leb-false}
 use Rattle.io.specs.Digits.{glyph, digits, Fewest}
-use Rattle.listing.specs.Listing.{decimalIn}
+use Rattle.fields.specs.Fields.{decimalIn}
 
 -- no more digits than hold it
 pub fewest-le : (b least n r k : ℕ) → 0 < b → least ≤ k → n < b ^ k → Fewest b least n r → r ≤ k

@@ -6,8 +6,9 @@ use Prim.Native.Nat.{_≤_, _+_, _-_}
 use lib.ListN.{length, take}
 use Rattle.vectors.specs.Vec.{Wrote}
 use Rattle.vectors.proofs.Texts.{wrote-length, copied-none, copied-more, copied-all}
-use Rattle.listing.proofs.put_all.Statement.{statement}
-use Rattle.listing.proofs.put_all.Tie as tie
+use Rattle.fields.proofs.Writers.{puts}
+use Rattle.fields.proofs.put_all.Statement.{statement}
+use Rattle.fields.proofs.put_all.Tie as tie
 
 abbrev Inv-loop : tie.InvT-loop
 Inv-loop out₀ at src i₀ out i = (i ≤ length src) × (length out ≡ length out₀) × Wrote out₀ at (take i src) out (at + i)
@@ -27,7 +28,7 @@ same-length : tie.Need-same-length Inv-loop μ-loop
 same-length c = wrote-length (c .before .loop .inv .2)
 
 returns : tie.Need-returns Inv-loop μ-loop
-returns c = copied-all _ (c .before .loop .inv .2) (c .loop-test .left)
+returns c = puts (copied-all _ (c .before .loop .inv .2) (c .loop-test .left)) (omega arith)
 
 pub put-all-spec : {M : Type 1} → statement M
 put-all-spec =
