@@ -11,9 +11,9 @@ use lib.Ieee.Positive.{positive}
 use Rattle.float64.specs.Helpers.{isFinite}
 use Rattle.float64.specs.Ops.{c0}
 use Rattle.questions.specs.Questions.{Asked, Lent, oneOrTwo, no-1, no-2, no-3, no-4, no-5, no-6, no-7, no-8, no-9, question}
-use Rattle.l2.specs.L2.{soundL2}
-use Rattle.fit.specs.Fit.{Fit, Outcome, refused, fitted, soundDD, fitL2, fitL1, fitBy, fit}
-use Rattle.fit.specs.Demand3.{withLimit}
+use mathlib.Core.Option.{Option, none, some}
+use Rattle.fit.specs.Fit.{Fit, Outcome, refused, fitted, Found, soundDD, path, written, outcome, fit}
+use Rattle.fit.specs.Demand3.{withMaxIter}
 use Rattle.fit.proofs.Sign.{tol-positive}
 
 -- ---- booleans
@@ -130,11 +130,11 @@ abbrev asksWith : Asked → Lent → Bool → ℕ
 asksWith a l b =
     cond (no-1 a) 1 (cond (no-2 a) 2 (cond (no-3 a) 3 (cond (no-4 a) 4 (cond (no-5 a) 5 (cond (no-6 a) 6 (cond b 7 (cond (no-8 a l) 8 (cond (no-9 a l) 9 0))))))))
 
-asks : (a : Asked) (l : Lent) → question a l ≡ asksWith a l (eqb (a .limit) 0)
+asks : (a : Asked) (l : Lent) → question a l ≡ asksWith a l (eqb (a .max-iter) 0)
 unfolding question
 asks a l = refl
 
-asks-other : (a : Asked) (l : Lent) (m : ℕ) → question (withLimit m a) l ≡ asksWith a l (eqb m 0)
+asks-other : (a : Asked) (l : Lent) (m : ℕ) → question (withMaxIter m a) l ≡ asksWith a l (eqb m 0)
 unfolding question
 asks-other a l m = refl
 
@@ -143,10 +143,10 @@ from-one zero h = absurd (omega arith)
 from-one (suc m) h = eqb·suc-zero m
 
 -- the questions do not tell two limits from 1 up apart
-pub same-question : (a : Asked) (l : Lent) (m : ℕ) → eqb (a .limit) 0 ≡ false → 1 ≤ m → question (withLimit m a) l ≡ question a l
+pub same-question : (a : Asked) (l : Lent) (m : ℕ) → eqb (a .max-iter) 0 ≡ false → 1 ≤ m → question (withMaxIter m a) l ≡ question a l
 same-question a l m e h = asks-other a l m ∙ ap (asksWith a l) (from-one m h ∙ sym e) ∙ sym (asks a l)
 
-pub same-questions : (a : Asked) (l : Lent) (m n : ℕ) → 1 ≤ m → 1 ≤ n → question (withLimit m a) l ≡ question (withLimit n a) l
+pub same-questions : (a : Asked) (l : Lent) (m n : ℕ) → 1 ≤ m → 1 ≤ n → question (withMaxIter m a) l ≡ question (withMaxIter n a) l
 same-questions a l m n h k = asks-other a l m ∙ ap (asksWith a l) (from-one m h ∙ sym (from-one n k)) ∙ sym (asks-other a l n)
 
 -- ---- how a fit comes about
@@ -165,13 +165,13 @@ pub fitted-same : {f g : Fit} → fitted f ≡ fitted g → f ≡ g
 fitted-same {f} {g} e = ap (fitOf f) e
 
 -- from the questions answered
-pub fit-passed : (a : Asked) (l : Lent) → question a l ≡ 0 → fit a l ≡ cond (soundDD a) (fitBy a) (refused 10)
+pub fit-passed : (a : Asked) (l : Lent) → question a l ≡ 0 → fit a l ≡ cond (soundDD a) (outcome a (path a)) (refused 10)
 unfolding fit
-fit-passed a l e = ap (λ (q : ℕ). cond (eqb q 0) (cond (soundDD a) (fitBy a) (refused 10)) (refused q)) e
+fit-passed a l e = ap (λ (q : ℕ). cond (eqb q 0) (cond (soundDD a) (outcome a (path a)) (refused 10)) (refused q)) e
 
 pub fit-refused : (a : Asked) (l : Lent) (q : ℕ) → question a l ≡ q → eqb q 0 ≡ false → fit a l ≡ refused q
 unfolding fit
-fit-refused a l q e h = ap (λ (x : ℕ). cond (eqb x 0) (cond (soundDD a) (fitBy a) (refused 10)) (refused x)) e ∙ cond-off (eqb q 0) _ _ h
+fit-refused a l q e h = ap (λ (x : ℕ). cond (eqb x 0) (cond (soundDD a) (outcome a (path a)) (refused 10)) (refused x)) e ∙ cond-off (eqb q 0) _ _ h
 
 -- any series of 65,537 places or more is refused with 3, where order and penalty are right
 pub size-refused : (a : Asked) (l : Lent) → oneOrTwo (a .order) ≡ true → oneOrTwo (a .penalty) ≡ true → 65536 < length (a .y) → fit a l ≡ refused 3
@@ -182,44 +182,41 @@ abbrev refusal : Outcome → ℕ
 refusal (refused n) = n
 refusal (fitted f) = 0
 
-refusal-l2 : (a : Asked) → refusal (fitL2 a) ≡ 3 → ⊥
-unfolding fitL2
-refusal-l2 a = go (soundL2 (a .order) (a .y) (a .lam)) _
-  where
-    go : (b : Bool) (f : Fit) → refusal (cond b (fitted f) (refused 10)) ≡ 3 → ⊥
-    go true f e = omega arith
-    go false f e = omega arith
-
-refusal-by : (a : Asked) → refusal (fitBy a) ≡ 3 → ⊥
-unfolding fitBy
-refusal-by a = go (eqb (a .penalty) 2)
-  where
-    go : (p : Bool) → refusal (cond p (fitL2 a) (fitted (fitL1 a))) ≡ 3 → ⊥
-    go true e = refusal-l2 a e
-    go false e = omega arith
+refusal-path : (a : Asked) (o : Option Found) → refusal (outcome a o) ≡ 3 → ⊥
+unfolding outcome
+refusal-path a none e = omega arith
+refusal-path a (some f) e = omega arith
 
 refusal-fit : (a : Asked) (l : Lent) → length (a .y) ≤ 65536 → refusal (fit a l) ≡ 3 → ⊥
 unfolding fit
 refusal-fit a l h = go (eqb (question a l) 0) (soundDD a)
   where
-    go : (b c : Bool) → refusal (cond b (cond c (fitBy a) (refused 10)) (refused (question a l))) ≡ 3 → ⊥
-    go true true e = refusal-by a e
+    go : (b c : Bool) → refusal (cond b (cond c (outcome a (path a)) (refused 10)) (refused (question a l))) ≡ 3 → ⊥
+    go true true e = refusal-path a (path a) e
     go true false e = omega arith
     go false c e = size-not-asked a l h e
 
 pub size-passes : (a : Asked) (l : Lent) → length (a .y) ≤ 65536 → fit a l ≡ refused 3 → ⊥
 size-passes a l h e = refusal-fit a l h (ap refusal e)
 
+pub outcome-some : (a : Asked) (f : Found) → outcome a (some f) ≡ fitted (written a f)
+unfolding outcome
+outcome-some a f = refl
+
 pub record Passed (a : Asked) (l : Lent) (f : Fit) : Type 0 where
   pub asked : question a l ≡ 0
   pub sound : soundDD a ≡ true
-  pub made : fitBy a ≡ fitted f
+  pub found : Found
+  pub path-is : path a ≡ some found
+  pub made : f ≡ written a found
 
 pub passed : (a : Asked) (l : Lent) (f : Fit) → fit a l ≡ fitted f → Passed a l f
-unfolding fit
-passed a l f e = go (eqb (question a l) 0) (soundDD a) (eqb→eq (question a l) 0) refl e
+unfolding fit outcome
+passed a l f e = go (eqb (question a l) 0) (soundDD a) (path a) (eqb→eq (question a l) 0) refl refl e
   where
-    go : (b c : Bool) → (T b → question a l ≡ 0) → soundDD a ≡ c → cond b (cond c (fitBy a) (refused 10)) (refused (question a l)) ≡ fitted f → Passed a l f
-    go true true h s q = record { asked = h tt; sound = s; made = q }
-    go true false h s q = absurd (not-refused q)
-    go false c h s q = absurd (not-refused q)
+    go : (b c : Bool) (o : Option Found) → (T b → question a l ≡ 0) → soundDD a ≡ c → path a ≡ o
+        → cond b (cond c (outcome a o) (refused 10)) (refused (question a l)) ≡ fitted f → Passed a l f
+    go true true (some x) h s r q = record { asked = h tt; sound = s; found = x; path-is = r; made = sym (fitted-same q) }
+    go true true none h s r q = absurd (not-refused q)
+    go true false o h s r q = absurd (not-refused q)
+    go false c o h s r q = absurd (not-refused q)

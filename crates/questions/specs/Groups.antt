@@ -11,7 +11,7 @@ use Rattle.questions.specs.Questions.{Asked, Lent, oneOrTwo, finiteTo}
 
 -- what is asked for and the lengths lent, from a caller's arguments
 abbrev pub asking : List Float → Float → Float → ℕ → ℕ → ℕ → Asked
-asking y lam tol limit order penalty = record { y = y; lam = lam; tol = tol; limit = limit; order = order; penalty = penalty }
+asking y lam tol max-iter order penalty = record { y = y; lam = lam; tol = tol; max-iter = max-iter; order = order; penalty = penalty }
 
 abbrev pub lending : ℕ → ℕ → ℕ → ℕ → ℕ → Lent
 lending trend cycle knots work marks = record { trend = trend; cycle = cycle; knots = knots; work = work; marks = marks }

@@ -1,10 +1,9 @@
-use mathlib.Core.Path.{_≡_, refl, sym, ap, _∙_}
-use Prim.Native.Nat.{ℕ, suc, _≤_, _<_, _-_, _+_, _*_}
+use mathlib.Core.Path.{_≡_}
+use Prim.Native.Nat.{_≤_, _-_}
 use native.Mathlib.Omega.{arith}
-use lib.ListN.{length}
 use Rattle.banded.proofs.Laws.{rows-fit}
 use Rattle.gram.specs.Gram.{gram}
-use Rattle.banded.proofs.Filling.{laid-none, laid-more, laid-done}
+use Rattle.banded.proofs.Filling.{laid-none, laid-more}
 use Rattle.banded.specs.Layout.{Laid}
 use borrow.Author.Needs.{needs}
 use Rattle.gram.proofs.fill_gram.Statement.{statement}
@@ -33,11 +32,8 @@ same-length : tie.Need-same-length Inv-loop μ-loop
 same-length c = c .before .loop .inv .1 .kept .size
 
 returns : tie.Need-returns Inv-loop μ-loop
-returns c = let a = c .before .before .before .args in
-    let e : c .before .loop .r ≡ a .m = omega arith in
-    let w = rw e at (c .before .loop .inv .1) in
-    let size = w .kept .size in
-    laid-done w (omega arith)
+returns c = let e : c .before .loop .r ≡ c .before .before .before .args .m = omega arith in
+    rw e at (c .before .loop .inv .1)
 
 pub fill-gram-spec : {M : Type 1} → statement M
 fill-gram-spec =

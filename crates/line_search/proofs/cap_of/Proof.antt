@@ -1,26 +1,15 @@
-use Rattle.float64.specs.Helpers.{minOf}
+use borrow.Author.Needs.{needs}
 use Rattle.line_search.specs.LineSearch.{capped}
-use Rattle.line_search.proofs.Laws.{less-number}
 use Rattle.line_search.proofs.cap_of.Statement.{statement}
 use Rattle.line_search.proofs.cap_of.Tie as tie
 
 returns : tie.Need-returns
-unfolding capped minOf
-returns c = let p = c .before .before .pre in
-    let f = c .before .if1 .taken in
-    let g = c .if2 .taken in
-    (rw (f, p, g), less-number _ _ g)
+unfolding capped
+returns c = rw (c .before .if1 .taken) (c .min .ensures)
 
 returns-2 : tie.Need-returns-2
-unfolding capped minOf
-returns-2 c = let p = c .before .before .pre in
-    let f = c .before .if1 .taken in
-    let g = c .if2 .left in
-    (rw (f, p, g), p)
-
-returns-3 : tie.Need-returns-3
 unfolding capped
-returns-3 c = (rw (c .if1 .left), c .before .pre)
+returns-2 c = rw (c .if1 .left)
 
 pub cap-of-spec : {M : Type 1} → statement M
-cap-of-spec = tie.close (tie.spec returns returns-2 returns-3)
+cap-of-spec = tie.close (tie.spec (λ c κs. search needs) returns returns-2)
