@@ -13,7 +13,7 @@ use Rattle.float64.specs.Ops.{c0}
 use Rattle.questions.specs.Questions.{Asked, Lent, oneOrTwo, no-1, no-2, no-3, no-4, no-5, no-6, no-7, no-8, no-9, question}
 use Rattle.l2.specs.L2.{soundL2}
 use Rattle.fit.specs.Fit.{Fit, Outcome, refused, fitted, soundDD, fitL2, fitL1, fitBy, fit}
-use Rattle.fit.specs.Demand3.{withLimit}
+use Rattle.fit.specs.Demand3.{withMaxIter}
 use Rattle.fit.proofs.Sign.{tol-positive}
 
 -- ---- booleans
@@ -130,11 +130,11 @@ abbrev asksWith : Asked → Lent → Bool → ℕ
 asksWith a l b =
     cond (no-1 a) 1 (cond (no-2 a) 2 (cond (no-3 a) 3 (cond (no-4 a) 4 (cond (no-5 a) 5 (cond (no-6 a) 6 (cond b 7 (cond (no-8 a l) 8 (cond (no-9 a l) 9 0))))))))
 
-asks : (a : Asked) (l : Lent) → question a l ≡ asksWith a l (eqb (a .limit) 0)
+asks : (a : Asked) (l : Lent) → question a l ≡ asksWith a l (eqb (a .max-iter) 0)
 unfolding question
 asks a l = refl
 
-asks-other : (a : Asked) (l : Lent) (m : ℕ) → question (withLimit m a) l ≡ asksWith a l (eqb m 0)
+asks-other : (a : Asked) (l : Lent) (m : ℕ) → question (withMaxIter m a) l ≡ asksWith a l (eqb m 0)
 unfolding question
 asks-other a l m = refl
 
@@ -143,10 +143,10 @@ from-one zero h = absurd (omega arith)
 from-one (suc m) h = eqb·suc-zero m
 
 -- the questions do not tell two limits from 1 up apart
-pub same-question : (a : Asked) (l : Lent) (m : ℕ) → eqb (a .limit) 0 ≡ false → 1 ≤ m → question (withLimit m a) l ≡ question a l
+pub same-question : (a : Asked) (l : Lent) (m : ℕ) → eqb (a .max-iter) 0 ≡ false → 1 ≤ m → question (withMaxIter m a) l ≡ question a l
 same-question a l m e h = asks-other a l m ∙ ap (asksWith a l) (from-one m h ∙ sym e) ∙ sym (asks a l)
 
-pub same-questions : (a : Asked) (l : Lent) (m n : ℕ) → 1 ≤ m → 1 ≤ n → question (withLimit m a) l ≡ question (withLimit n a) l
+pub same-questions : (a : Asked) (l : Lent) (m n : ℕ) → 1 ≤ m → 1 ≤ n → question (withMaxIter m a) l ≡ question (withMaxIter n a) l
 same-questions a l m n h k = asks-other a l m ∙ ap (asksWith a l) (from-one m h ∙ sym (from-one n k)) ∙ sym (asks-other a l n)
 
 -- ---- how a fit comes about

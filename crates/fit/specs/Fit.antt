@@ -91,7 +91,7 @@ polished a c (some z) = let p = certify (a .order) (a .y) (a .lam) z in cond (be
 
 -- where the search ended
 unfoldable pub searchOf : Asked → Ended State
-searchOf a = interiorPoint (a .order) (gramRow (a .order)) (places a) (a .y) (a .lam) (a .tol) (a .limit)
+searchOf a = interiorPoint (a .order) (gramRow (a .order)) (places a) (a .y) (a .lam) (a .tol) (a .max-iter)
 
 -- the certificate that is kept, from that end
 unfoldable pub keptOf : Asked → Ended State → Certificate

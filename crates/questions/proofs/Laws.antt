@@ -31,7 +31,7 @@ chain false false false false false false false false true = refl
 chain false false false false false false false false false = refl
 
 pub grouped : (a : Asked) (l : Lent)
-    → question a l ≡ next (sizes (length (a .y)) (a .order) (a .penalty)) (next (values (a .y) (a .lam) (a .tol) (a .limit)) (room (length (a .y)) l))
+    → question a l ≡ next (sizes (length (a .y)) (a .order) (a .penalty)) (next (values (a .y) (a .lam) (a .tol) (a .max-iter)) (room (length (a .y)) l))
 unfolding question sizes values room
 grouped a l =
     let n = length (a .y) in
@@ -42,7 +42,7 @@ grouped a l =
     (not (finiteTo (a .y) n))
     (not (isFinite (a .lam)) || lt (a .lam) c0)
     (not (isFinite (a .tol) && lt c0 (a .tol)))
-    (eqb (a .limit) 0)
+    (eqb (a .max-iter) 0)
     (ltb (l .trend) n || ltb (l .cycle) n || ltb (l .knots) n)
     (ltb (l .work) (40 * n) || ltb (l .marks) (2 * n))
 
@@ -51,10 +51,10 @@ module _ (a : Asked) (l : Lent) (s : ℕ) (es : s ≡ sizes (length (a .y)) (a .
   pub stop-sizes : (s ≡ 0 → ⊥) → s ≡ question a l
   stop-sizes n = sym (rw (grouped, ← es, ne-eqb s 0 n))
 
-  pub stop-values : s ≡ 0 → (v : ℕ) → v ≡ values (a .y) (a .lam) (a .tol) (a .limit) → (v ≡ 0 → ⊥) → v ≡ question a l
+  pub stop-values : s ≡ 0 → (v : ℕ) → v ≡ values (a .y) (a .lam) (a .tol) (a .max-iter) → (v ≡ 0 → ⊥) → v ≡ question a l
   stop-values z v ev n = sym (rw (grouped, ← es, eq-eqb s 0 z, ← ev, ne-eqb v 0 n))
 
-  pub stop-room : s ≡ 0 → (v : ℕ) → v ≡ values (a .y) (a .lam) (a .tol) (a .limit) → v ≡ 0 → (r : ℕ) → r ≡ room (length (a .y)) l → r ≡ question a l
+  pub stop-room : s ≡ 0 → (v : ℕ) → v ≡ values (a .y) (a .lam) (a .tol) (a .max-iter) → v ≡ 0 → (r : ℕ) → r ≡ room (length (a .y)) l → r ≡ question a l
   stop-room z v ev y r er = sym (rw (grouped, ← es, eq-eqb s 0 z, ← ev, eq-eqb v 0 y, ← er))
 
 -- what holds where none is
@@ -110,8 +110,8 @@ pub passed : (a : Asked) (l : Lent) → question a l ≡ 0 → Passed a l
 unfolding sizes room
 passed a l e =
     let n = length (a .y) in
-    let g = next-zero (sizes n (a .order) (a .penalty)) (next (values (a .y) (a .lam) (a .tol) (a .limit)) (room n l)) (eqb (sizes n (a .order) (a .penalty)) 0) refl (sym (grouped a l) ∙ e) in
-    let h = next-zero (values (a .y) (a .lam) (a .tol) (a .limit)) (room n l) (eqb (values (a .y) (a .lam) (a .tol) (a .limit)) 0) refl (g .1) in
+    let g = next-zero (sizes n (a .order) (a .penalty)) (next (values (a .y) (a .lam) (a .tol) (a .max-iter)) (room n l)) (eqb (sizes n (a .order) (a .penalty)) 0) refl (sym (grouped a l) ∙ e) in
+    let h = next-zero (values (a .y) (a .lam) (a .tol) (a .max-iter)) (room n l) (eqb (values (a .y) (a .lam) (a .tol) (a .max-iter)) 0) refl (g .1) in
     let s = three (not (oneOrTwo (a .order) && oneOrTwo (a .penalty))) (ltb n (a .order + 1)) (ltb 65536 n) (g .0) in
     let r = two (ltb (l .trend) n || ltb (l .cycle) n || ltb (l .knots) n) (ltb (l .work) (40 * n) || ltb (l .marks) (2 * n)) (h .1) in
     let k = one-two (a .order) (eqb (a .order) 1) refl (each (oneOrTwo (a .order)) (oneOrTwo (a .penalty)) (s .0) .0) in

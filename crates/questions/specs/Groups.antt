@@ -11,7 +11,7 @@ use Rattle.questions.specs.Questions.{Asked, Lent, oneOrTwo, finiteTo}
 
 -- what is asked for and the lengths lent, from a caller's arguments
 abbrev pub asking : List Float → Float → Float → ℕ → ℕ → ℕ → Asked
-asking y lam tol limit order penalty = record { y = y; lam = lam; tol = tol; limit = limit; order = order; penalty = penalty }
+asking y lam tol max-iter order penalty = record { y = y; lam = lam; tol = tol; max-iter = max-iter; order = order; penalty = penalty }
 
 abbrev pub lending : ℕ → ℕ → ℕ → ℕ → ℕ → Lent
 lending trend cycle knots work marks = record { trend = trend; cycle = cycle; knots = knots; work = work; marks = marks }
@@ -22,11 +22,11 @@ sizes n order penalty = cond (not (oneOrTwo order && oneOrTwo penalty)) 1 (cond 
 
 -- 4 to 7
 unfoldable pub values : List Float → Float → Float → ℕ → ℕ
-values y lam tol limit =
+values y lam tol max-iter =
     cond (not (finiteTo y (length y))) 4
     (cond (not (isFinite lam) || lt lam c0) 5
     (cond (not (isFinite tol && lt c0 tol)) 6
-    (cond (eqb limit 0) 7 0)))
+    (cond (eqb max-iter 0) 7 0)))
 
 -- 8 and 9
 unfoldable pub room : ℕ → Lent → ℕ

@@ -9,12 +9,12 @@ use Rattle.float64.specs.Helpers.{isFinite}
 use Rattle.float64.specs.Ops.{c0}
 use Rattle.vectors.specs.Vec.{at}
 
--- what is asked for: a series, its penalty weight, a tolerance, a step limit, an order and a penalty (1 is L1, 2 is L2)
+-- what is asked for: a series, its penalty weight, a tolerance, the limit max_iter on iterations, an order and a penalty (1 is L1, 2 is L2)
 pub record Asked : Type 0 where
   pub y : List Float
   pub lam : Float
   pub tol : Float
-  pub limit : ℕ
+  pub max-iter : ℕ
   pub order : ℕ
   pub penalty : ℕ
 
@@ -54,7 +54,7 @@ abbrev pub no-6 : Asked → Bool
 no-6 a = not (isFinite (a .tol) && lt c0 (a .tol))
 
 abbrev pub no-7 : Asked → Bool
-no-7 a = eqb (a .limit) 0
+no-7 a = eqb (a .max-iter) 0
 
 abbrev pub no-8 : Asked → Lent → Bool
 no-8 a l = let n = length (a .y) in ltb (l .trend) n || ltb (l .cycle) n || ltb (l .knots) n
