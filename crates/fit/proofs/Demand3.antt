@@ -2,7 +2,7 @@
 use mathlib.Core.Path.{_≡_, refl, sym, ap, _∙_, subst}
 use Prim.Native.Nat.{ℕ, _≤_, _<_}
 use native.Mathlib.Omega.{arith}
-use mathlib.Core.Bool.{Bool, true, false, cond}
+use mathlib.Core.Bool.{Bool, true, false, cond, _&&_}
 use mathlib.Core.List.{List}
 use mathlib.Core.Option.{Option, none, some}
 use lib.Dec.{T, eqb, eqb→eq}
@@ -15,10 +15,11 @@ use Rattle.search.proofs.Demand.{demand3, kept-closed}
 use Rattle.interior_point.specs.InteriorPoint.{State, problem, origin, interiorPoint}
 use Rattle.l2.specs.L2.{soundL2}
 use Rattle.questions.specs.Questions.{Asked, Lent, question}
+use Rattle.questions.proofs.Laws as questions
 use Rattle.fit.specs.Fit.{Fit, Outcome, refused, fitted, places, closed, fitL2, fitZero, fitFlat, polished, searchOf, keptOf, firstGap, fitWith, fitEnd, lamZero, lamHigh, fitL1, fitBy, soundDD, fit}
 use Rattle.fit.specs.Demand3.{Bounds, withMaxIter, Demand3}
-use Rattle.fit.proofs.Sign.{lam-positive, primal-clear}
-use Rattle.fit.proofs.Passed.{Answered, answered, lam-finite, lam-not-below, tol-above, same-question, same-questions, fit-passed, passed}
+use Rattle.fit.proofs.Sign.{tol-positive, lam-positive, primal-clear}
+use Rattle.fit.proofs.Passed.{same-questions, fit-passed, passed}
 
 -- ---- the search of a fit
 abbrev problemOf : Asked → Problem State
@@ -27,10 +28,10 @@ problemOf a = problem (a .order) (gramRow (a .order)) (a .y) (a .lam)
 abbrev Searches : Asked → Type 0
 Searches a = search.Demand3 (problemOf a) (a .tol) (origin (places a))
 
-searches : (a : Asked) (l : Lent) → Answered a l → lamZero a ≡ false → Searches a
+searches : (a : Asked) (l : Lent) → questions.Passed a l → lamZero a ≡ false → Searches a
 searches a l q z =
-    demand3 (problemOf a) (a .tol) (tol-above a (q .tol))
-    (primal-clear (a .order) (gramRow (a .order)) (a .y) (a .lam) (lam-positive (a .lam) (lam-finite a (q .lam)) (lam-not-below a (q .lam)) z))
+    demand3 (problemOf a) (a .tol) (tol-positive (a .tol) (λ i. q .tol-finite i && q .tol-above i))
+    (primal-clear (a .order) (gramRow (a .order)) (a .y) (a .lam) (lam-positive (a .lam) (q .lam-finite) (q .lam-not-below) z))
     (origin (places a))
 
 -- ---- the numeric bounds
@@ -54,7 +55,7 @@ within-l2 max a = go (soundL2 (a .order) (a .y) (a .lam)) _ (bounds-closed max a
     go true f k = k
     go false f k = tt
 
-within-l1 : (a : Asked) (l : Lent) → Answered a l → Bounds (a .max-iter) (fitL1 a)
+within-l1 : (a : Asked) (l : Lent) → questions.Passed a l → Bounds (a .max-iter) (fitL1 a)
 unfolding fitL1 fitZero fitFlat
 within-l1 a l q = go (lamZero a) refl (lamHigh a)
   where
@@ -63,7 +64,7 @@ within-l1 a l q = go (lamZero a) refl (lamHigh a)
     go false e true = bounds-closed (a .max-iter) a _ _ _ _
     go false e false = bounds-end a (searches a l q e)
 
-within : (a : Asked) (l : Lent) → Answered a l → Within (a .max-iter) (fitBy a)
+within : (a : Asked) (l : Lent) → questions.Passed a l → Within (a .max-iter) (fitBy a)
 unfolding fitBy
 within a l q = go (eqb (a .penalty) 2)
   where
@@ -72,7 +73,7 @@ within a l q = go (eqb (a .penalty) 2)
     go false = within-l1 a l q
 
 pub bounds : (a : Asked) (l : Lent) (f : Fit) → fit a l ≡ fitted f → Bounds (a .max-iter) f
-bounds a l f e = let p = passed a l f e in subst (Within (a .max-iter)) (p .made) (within a l (answered a l (p .asked)))
+bounds a l f e = let p = passed a l f e in subst (Within (a .max-iter)) (p .made) (within a l (questions.passed a l (p .asked)))
 
 -- ---- another limit
 -- an end with the same state, best gap and counts
@@ -157,8 +158,8 @@ ends-settled a one other s h g = s .settled other one g h
 pub alike : (a : Asked) (l : Lent) (f : Fit) → fit a l ≡ fitted f → f .n-iter < a .max-iter → (other : ℕ) → 1 ≤ other → f .n-iter ≤ other → fit (withMaxIter other a) l ≡ fitted f
 alike a l f e h other one g =
     let p = passed a l f e in
-    let q = answered a l (p .asked) in
-    fit-passed (withMaxIter other a) l (same-question a l other (q .limit) one ∙ p .asked)
+    let q = questions.passed a l (p .asked) in
+    fit-passed (withMaxIter other a) l (questions.same-question a l other (q .max-iter) one ∙ p .asked)
     ∙ ap (λ (b : Bool). cond b (fitBy (withMaxIter other a)) (refused 10)) (p .sound)
     ∙ by-path-other other a
     ∙ same-by (eqb (a .penalty) 2) (lamZero a) (lamHigh a) (fitL2 a) (fitZero a) (fitFlat a) (fitEnd a (searchOf (withMaxIter other a))) (fitEnd a (searchOf a))
@@ -171,7 +172,7 @@ from-high m h = omega arith
 
 same-high : (a : Asked) (l : Lent) (one other : ℕ) → 1447640 < one → 1447640 < other → question (withMaxIter one a) l ≡ 0 → fitBy (withMaxIter one a) ≡ fitBy (withMaxIter other a)
 same-high a l one other h g e =
-    let q = answered (withMaxIter one a) l e in
+    let q = questions.passed (withMaxIter one a) l e in
     by-path-other one a
     ∙ same-by (eqb (a .penalty) 2) (lamZero a) (lamHigh a) (fitL2 a) (fitZero a) (fitFlat a) (fitEnd a (searchOf (withMaxIter one a))) (fitEnd a (searchOf (withMaxIter other a)))
     (λ b z m. ap (fitEnd a) (ends-settled a one other (searches (withMaxIter one a) l q z) h g))

@@ -7,7 +7,7 @@ ghost use Rattle.vectors.specs.Vec.{part, Kept};
 ghost use Rattle.differences.specs.Diff.{gramRow};
 ghost use Rattle.gram.specs.Gram.{zstar, lamMax};
 ghost use Rattle.fit.specs.Fit.{fitZero, fitFlat};
-ghost use Rattle.questions.specs.Groups.{asking};
+ghost use Rattle.questions.specs.Asking.{asking};
 ghost use Rattle.trend_filter.specs.Inner.{Room, closedOf, WroteOut, Shows};
 use crate::Summary;
 

@@ -12,7 +12,7 @@ ghost use Rattle.differences.specs.Diff.{gramRow};
 ghost use Rattle.gram.specs.Gram.{zstar, lamMax};
 ghost use Rattle.questions.specs.Questions.{question};
 ghost use Rattle.fit.specs.Fit.{fitL1, fitL2, fitBy, fit};
-ghost use Rattle.questions.specs.Groups.{asking, lending};
+ghost use Rattle.questions.specs.Asking.{asking, lending};
 ghost use Rattle.trend_filter.specs.Answers.{Gives, Answered};
 ghost use Rattle.trend_filter.specs.Inner.{Room, Prepared, Shows};
 use gram::Peak;

@@ -9,7 +9,7 @@ use lib.Seq.{length-take-le}
 use lib.Ieee.{Float}
 use Rattle.vectors.specs.Vec.{part}
 use Rattle.vectors.proofs.Laws.{kept-none, kept-then}
-use Rattle.questions.specs.Groups.{asking}
+use Rattle.questions.specs.Asking.{asking}
 use Rattle.l2.specs.L2.{trendL2, gapL2, objectiveL2}
 use Rattle.trend_filter.specs.Inner.{closedOf}
 use Rattle.trend_filter.proofs.Laws.{gives-refused, gives-fit, gives-same, closed-shows, l2-sound, l2-unsound}

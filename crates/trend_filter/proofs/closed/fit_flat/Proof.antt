@@ -7,7 +7,7 @@ use lib.Seq.{length-take-le}
 use lib.Ieee.{Float}
 use Rattle.float64.specs.Ops.{_⊖_}
 use Rattle.vectors.specs.Vec.{part}
-use Rattle.questions.specs.Groups.{asking}
+use Rattle.questions.specs.Asking.{asking}
 use Rattle.differences.specs.Diff.{diffK, gramRow}
 use Rattle.differences.proofs.Laws.{length-diffK}
 use Rattle.gram.specs.Gram.{zstar}

@@ -1,7 +1,7 @@
 use borrow.Author.Needs.{needs}
 use Prim.Native.Nat.{_-_}
 use Rattle.float64.specs.Ops.{c0}
-use Rattle.questions.specs.Groups.{asking}
+use Rattle.questions.specs.Asking.{asking}
 use Rattle.fit.specs.Fit.{fitZero}
 use Rattle.trend_filter.proofs.Laws.{closed-shows}
 use Rattle.trend_filter.proofs.closed.fit_zero.Statement.{statement}
