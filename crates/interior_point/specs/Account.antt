@@ -6,11 +6,11 @@ use Prim.Native.Nat.{ℕ, suc, _+_, _-_, _*_, _≤_}
 use lib.Dec.{eqb, ltb}
 use lib.ListN.{length}
 use lib.Ieee.{Float, lt, le}
-use Rattle.float64.specs.Ops.{_⊖_, _⊗_}
+use Rattle.float64.specs.Ops.{_⊖_, _⊗_, c0·99}
 use Rattle.vectors.specs.Vec.{part, Kept}
 use Rattle.differences.specs.Diff.{gramRow}
 use Rattle.certificate.specs.Certificate.{Certificate, certify, gapOf}
-use Rattle.search.specs.Search.{Problem, Point, Ended, ended, pivot, mark, run}
+use Rattle.search.specs.Search.{Problem, Point, Ended, ended, pivot, run}
 use Rattle.dual_point.specs.Places.{point}
 use Rattle.interior_point.specs.InteriorPoint.{State, problem, origin, interiorPoint}
 use Rattle.interior_point.specs.declared.Run.{Run}
@@ -39,7 +39,7 @@ goes r tol limit = cond (r .lost) false (cond (le (r .gap) (tol ⊗ r .primal)) 
 
 -- what an iteration adds to r, where it ends with P and G and is an improvement or not
 abbrev pub improves : Run → Float → Float → Bool
-improves r p d = lt (p ⊖ d) (mark ⊗ r .best)
+improves r p d = lt (p ⊖ d) (c0·99 ⊗ r .best)
 
 pub record Settled (r : Run) (t₁ step₁ p d : Float) (x : Run) : Type 0 where
   pub t : x .t ≡ t₁

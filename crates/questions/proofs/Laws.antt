@@ -13,28 +13,7 @@ use Rattle.float64.specs.Ops.{c0}
 use Rattle.float64.proofs.Clash.{clash}
 use Rattle.vectors.specs.Vec.{at}
 use Rattle.differences.specs.Series.{Order, Series}
-use Rattle.questions.specs.Questions.{
-  Asked,
-  Lent,
-  oneOrTwo,
-  finiteTo,
-  workPlaces,
-  marksPlaces,
-  kindsKnown,
-  longEnough,
-  shortEnough,
-  allFinite,
-  lamRight,
-  tolRight,
-  limitRight,
-  answerRoom,
-  scratchRoom,
-  sizes,
-  values,
-  room,
-  next,
-  question,
-}
+use Rattle.questions.specs.Questions.{Asked, Lent, oneOrTwo, finiteTo, workPlaces, marksPlaces, kindsKnown, longEnough, shortEnough, allFinite, lamRight, tolRight, limitRight, answerRoom, scratchRoom, sizes, values, room, question}
 use Rattle.questions.specs.Asking.{asking}
 
 next-zero : (q r : ℕ) (b : Bool) → eqb q 0 ≡ b → cond b r q ≡ 0 → (q ≡ 0) × (r ≡ 0)
