@@ -42,7 +42,6 @@ at-diff-2 v i h =
     let a : at (diff v) (i + 1) ≡ at v (i + 2) ⊖ at v (i + 1) = at-diff v (i + 1) (omega arith) ∙ rw q in
     at-diff (diff v) i (omega arith) ∙ rw (a, at-diff v i (omega arith))
 
--- the places that differencing in place leaves behind D
 -- ---- D'
 
 pub length-diffT : (v : List Float) → length (diffT v) ≡ length v + 1

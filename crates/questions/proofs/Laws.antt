@@ -12,6 +12,7 @@ use Rattle.float64.specs.Helpers.{isFinite}
 use Rattle.float64.specs.Ops.{c0}
 use Rattle.float64.proofs.Clash.{clash}
 use Rattle.vectors.specs.Vec.{at}
+use Rattle.vectors.proofs.Sums.{both}
 use Rattle.differences.specs.Series.{Order, Series}
 use Rattle.questions.specs.Questions.{Asked, Lent, oneOrTwo, finiteTo, workPlaces, marksPlaces, kindsKnown, longEnough, shortEnough, allFinite, lamRight, tolRight, limitRight, answerRoom, scratchRoom, sizes, values, room, question}
 use Rattle.questions.specs.Asking.{asking}
@@ -25,11 +26,6 @@ past : (k : ℕ) (b : Bool) (r : ℕ) → cond b r (suc k) ≡ 0 → (b ≡ true
 past k true r p = (refl, p)
 past k false r p = absurd (omega arith)
 
-each : (b c : Bool) → b && c ≡ true → (b ≡ true) × (c ≡ true)
-each true true p = (refl, refl)
-each true false p = absurd (clash p refl)
-each false c p = absurd (clash p refl)
-
 one-or-two : (x : ℕ) → oneOrTwo x ≡ true → Order x
 one-or-two x = go (eqb x 1) refl
   where
@@ -41,7 +37,7 @@ finite-place : (y : List Float) (n : ℕ) → finiteTo y n ≡ true → (i : ℕ
 unfolding finiteTo
 finite-place y zero p i h = absurd (omega arith)
 finite-place y (suc n) p i h =
-    let q = each (finiteTo y n) (isFinite (at y n)) p in
+    let q = both (finiteTo y n) (isFinite (at y n)) p in
     go (eqb i n) refl (q .1) (λ b. finite-place y n (q .0) i b)
   where
     go : (b : Bool) → eqb i n ≡ b → isFinite (at y n) ≡ true → (i < n → isFinite (at y i) ≡ true) → isFinite (at y i) ≡ true
@@ -86,12 +82,12 @@ passed a l e =
     let q7 = past 6 (limitRight (a .max-iter)) 0 (q6 .1) in
     let q8 = past 7 (answerRoom n l) _ (h .1) in
     let q9 = past 8 (scratchRoom n l) 0 (q8 .1) in
-    let kinds = each (oneOrTwo (a .order)) (oneOrTwo (a .penalty)) (q1 .0) in
-    let lam = each (isFinite (a .lam)) (not (lt (a .lam) c0)) (q5 .0) in
-    let tol = each (isFinite (a .tol)) (lt c0 (a .tol)) (q6 .0) in
-    let answer = each (leb n (l .trend) && leb n (l .cycle)) (leb n (l .knots)) (q8 .0) in
-    let curves = each (leb n (l .trend)) (leb n (l .cycle)) (answer .0) in
-    let scratch = each (leb (workPlaces n) (l .work)) (leb (marksPlaces n) (l .marks)) (q9 .0) in
+    let kinds = both (oneOrTwo (a .order)) (oneOrTwo (a .penalty)) (q1 .0) in
+    let lam = both (isFinite (a .lam)) (not (lt (a .lam) c0)) (q5 .0) in
+    let tol = both (isFinite (a .tol)) (lt c0 (a .tol)) (q6 .0) in
+    let answer = both (leb n (l .trend) && leb n (l .cycle)) (leb n (l .knots)) (q8 .0) in
+    let curves = both (leb n (l .trend)) (leb n (l .cycle)) (answer .0) in
+    let scratch = both (leb (workPlaces n) (l .work)) (leb (marksPlaces n) (l .marks)) (q9 .0) in
     record {
       series =
           let long : a .order + 1 ≤ n = leb-true (a .order + 1) n (q2 .0) in
