@@ -2,7 +2,7 @@
 use mathlib.Core.Path.{_≡_, refl, sym, ap, _∙_, subst}
 use Prim.Native.Nat.{ℕ, _≤_, _<_}
 use native.Mathlib.Omega.{arith}
-use mathlib.Core.Bool.{Bool, true, false, cond}
+use mathlib.Core.Bool.{Bool, true, false, cond, _&&_}
 use mathlib.Core.List.{List}
 use mathlib.Core.Option.{Option, none, some}
 use lib.Dec.{T, eqb, eqb→eq}
@@ -15,10 +15,11 @@ use Rattle.search.proofs.Demand.{demand3, kept-closed}
 use Rattle.interior_point.specs.InteriorPoint.{State, problem, origin, interiorPoint}
 use Rattle.l2.specs.L2.{soundL2}
 use Rattle.questions.specs.Questions.{Asked, Lent, question}
+use Rattle.questions.proofs.Laws as questions
 use Rattle.fit.specs.Fit.{Found, Fit, Outcome, refused, fitted, places, closed, pathL2, pathZero, pathFlat, polished, searchOf, keptOf, firstGap, foundWith, pathEnd, lamZero, lamHigh, pathL1, path, written, outcome, soundDD, fit}
 use Rattle.fit.specs.Demand3.{Bounds, withMaxIter, Demand3}
-use Rattle.fit.proofs.Sign.{lam-positive, primal-clear}
-use Rattle.fit.proofs.Passed.{Answered, answered, lam-finite, lam-not-below, tol-above, same-question, same-questions, fit-passed, outcome-some, passed}
+use Rattle.fit.proofs.Sign.{tol-positive, lam-positive, primal-clear}
+use Rattle.fit.proofs.Passed.{same-questions, fit-passed, outcome-some, passed}
 
 -- ---- the search of a fit
 abbrev problemOf : Asked → Problem State
@@ -27,10 +28,10 @@ problemOf a = problem (a .order) (gramRow (a .order)) (a .y) (a .lam)
 abbrev Searches : Asked → Type 0
 Searches a = search.Demand3 (problemOf a) (a .tol) (origin (places a))
 
-searches : (a : Asked) (l : Lent) → Answered a l → lamZero a ≡ false → Searches a
+searches : (a : Asked) (l : Lent) → questions.Passed a l → lamZero a ≡ false → Searches a
 searches a l q z =
-    demand3 (problemOf a) (a .tol) (tol-above a (q .tol))
-    (primal-clear (a .order) (gramRow (a .order)) (a .y) (a .lam) (lam-positive (a .lam) (lam-finite a (q .lam)) (lam-not-below a (q .lam)) z))
+    demand3 (problemOf a) (a .tol) (tol-positive (a .tol) (λ i. q .tol-finite i && q .tol-above i))
+    (primal-clear (a .order) (gramRow (a .order)) (a .y) (a .lam) (lam-positive (a .lam) (q .lam-finite) (q .lam-not-below) z))
     (origin (places a))
 
 -- ---- the numeric bounds
@@ -58,7 +59,7 @@ within-l2 max a = go (soundL2 (a .order) (a .y) (a .lam)) _ (bounded-closed max 
     go true f k = k
     go false f k = tt
 
-within-l1 : (a : Asked) (l : Lent) → Answered a l → Bounded (a .max-iter) (pathL1 a)
+within-l1 : (a : Asked) (l : Lent) → questions.Passed a l → Bounded (a .max-iter) (pathL1 a)
 unfolding pathL1 pathZero pathFlat
 within-l1 a l q = go (lamZero a) refl (lamHigh a)
   where
@@ -67,7 +68,7 @@ within-l1 a l q = go (lamZero a) refl (lamHigh a)
     go false e true = bounded-closed (a .max-iter) _ _ _ _
     go false e false = bounded-end a (searches a l q e)
 
-within : (a : Asked) (l : Lent) → Answered a l → Within (a .max-iter) (path a)
+within : (a : Asked) (l : Lent) → questions.Passed a l → Within (a .max-iter) (path a)
 unfolding path
 within a l q = go (eqb (a .penalty) 2)
   where
@@ -79,7 +80,7 @@ pub bounds : (a : Asked) (l : Lent) (f : Fit) → fit a l ≡ fitted f → Bound
 unfolding written
 bounds a l f e =
     let p = passed a l f e in
-    let w : Bounded (a .max-iter) (p .found) = subst (Within (a .max-iter)) (p .path-is) (within a l (answered a l (p .asked))) in
+    let w : Bounded (a .max-iter) (p .found) = subst (Within (a .max-iter)) (p .path-is) (within a l (questions.passed a l (p .asked))) in
     let k = w .kept in
     subst (Bounds (a .max-iter)) (sym (p .made)) (record { limit = k .limit; ten = k .ten; few = k .few; shrunk = k .shrunk })
 
@@ -156,9 +157,9 @@ pub alike : (a : Asked) (l : Lent) (f : Fit) → fit a l ≡ fitted f → f .n-i
 unfolding written
 alike a l f e h other one g =
     let p = passed a l f e in
-    let q = answered a l (p .asked) in
+    let q = questions.passed a l (p .asked) in
     let n : f .n-iter ≡ p .found .n-iter = ap (λ (x : Fit). x .n-iter) (p .made) in
-    fit-passed (withMaxIter other a) l (same-question a l other (q .limit) one ∙ p .asked)
+    fit-passed (withMaxIter other a) l (questions.same-question a l other (q .max-iter) one ∙ p .asked)
     ∙ ap (λ (b : Bool). cond b (outcome (withMaxIter other a) (path (withMaxIter other a))) (refused 10)) (p .sound)
     ∙ outcome-other other a (path (withMaxIter other a))
     ∙ ap (outcome a)
@@ -175,7 +176,7 @@ from-high m h = omega arith
 same-high : (a : Asked) (l : Lent) (one other : ℕ) → 1447640 < one → 1447640 < other → question (withMaxIter one a) l ≡ 0
     → outcome (withMaxIter one a) (path (withMaxIter one a)) ≡ outcome (withMaxIter other a) (path (withMaxIter other a))
 same-high a l one other h g e =
-    let q = answered (withMaxIter one a) l e in
+    let q = questions.passed (withMaxIter one a) l e in
     outcome-other one a (path (withMaxIter one a))
     ∙ ap (outcome a)
     (path-other one a

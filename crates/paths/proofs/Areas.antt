@@ -23,7 +23,7 @@ use Rattle.l2.specs.L2.{soundL2, trendL2, gapL2, objectiveL2}
 use Rattle.l2.specs.Solved.{SolvedL2, Ended}
 use Rattle.l2.specs.declared.Ends.{Ends}
 use Rattle.questions.specs.Questions.{Asked}
-use Rattle.questions.specs.Groups.{asking}
+use Rattle.questions.specs.Asking.{asking}
 use Rattle.fit.specs.Fit.{Found as FoundOf, closed, pathL2, pathFlat, replaces, polished, keptOf, searchOf, pathEnd}
 use Rattle.paths.specs.declared.Trend.{Trend}
 use Rattle.paths.specs.declared.Trend.the-variants.{Won}

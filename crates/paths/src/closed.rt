@@ -8,7 +8,7 @@ ghost use Rattle.differences.specs.Series.{Series};
 ghost use Rattle.gram.specs.Prepared.{preparation};
 ghost use Rattle.dual_point.specs.Lanes.{searchArea};
 ghost use Rattle.fit.specs.Fit.{pathFlat, pathL2};
-ghost use Rattle.questions.specs.Groups.{asking};
+ghost use Rattle.questions.specs.Asking.{asking};
 ghost use Rattle.paths.specs.Trends.{closedOf};
 ghost use Rattle.paths.specs.Taken.{Prepared, Room, Finds, Took};
 use crate::Found;

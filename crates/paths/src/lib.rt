@@ -9,7 +9,7 @@ ghost use lib.ListN.{length};
 ghost use Rattle.vectors.specs.Vec.{part, put, KeptOf};
 ghost use Rattle.gram.specs.Prepared.{diffLane, preparation};
 ghost use Rattle.fit.specs.Fit.{pathL1, path};
-ghost use Rattle.questions.specs.Groups.{asking};
+ghost use Rattle.questions.specs.Asking.{asking};
 ghost use Rattle.paths.specs.Trends.{trendOf, reach};
 ghost use Rattle.paths.specs.Taken.{Asks, Finds, Took};
 

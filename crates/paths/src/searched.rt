@@ -6,7 +6,7 @@ ghost use lib.ListN.{length};
 ghost use Rattle.vectors.specs.Vec.{Kept, KeptOf};
 ghost use Rattle.certificate.specs.Ready.{Ready};
 ghost use Rattle.dual_point.specs.Lanes.{searchArea};
-ghost use Rattle.questions.specs.Groups.{asking};
+ghost use Rattle.questions.specs.Asking.{asking};
 ghost use Rattle.fit.specs.Fit.{searchOf, pathEnd};
 ghost use Rattle.paths.specs.Taken.{Prepared, Room, Finds};
 ghost use Rattle.paths.specs.Search.{Reached};

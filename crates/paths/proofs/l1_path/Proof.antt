@@ -8,7 +8,7 @@ use lib.Ieee.{le}
 use Rattle.vectors.proofs.Laws.{kept-none}
 use Rattle.gram.specs.Prepared.{preparation}
 use Rattle.dual_point.specs.Lanes.{searchArea}
-use Rattle.questions.specs.Groups.{asking}
+use Rattle.questions.specs.Asking.{asking}
 use Rattle.fit.specs.Fit.{pathZero}
 use Rattle.paths.specs.declared.Trend.the-variants.{Series}
 use Rattle.paths.specs.Trends.{trendOf, reach}

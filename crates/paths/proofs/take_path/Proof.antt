@@ -5,7 +5,7 @@ use mathlib.Core.Option.{Option, none, some}
 use Prim.Native.Nat.{ℕ, _*_}
 use lib.ListN.{length}
 use Rattle.vectors.proofs.Laws.{kept-none}
-use Rattle.questions.specs.Groups.{asking}
+use Rattle.questions.specs.Asking.{asking}
 use Rattle.fit.specs.Fit.{Found as FoundOf, path}
 use Rattle.paths.specs.Trends.{said, reached}
 use Rattle.paths.specs.Taken.{Took}

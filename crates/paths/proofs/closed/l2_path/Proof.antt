@@ -13,7 +13,7 @@ use Rattle.differences.specs.Diff.{diffK}
 use Rattle.dual_point.specs.Lanes.{searchArea}
 use Rattle.gram.specs.Prepared.{preparation}
 use Rattle.l2.specs.L2.{trendL2, gapL2, objectiveL2}
-use Rattle.questions.specs.Groups.{asking}
+use Rattle.questions.specs.Asking.{asking}
 use Rattle.fit.specs.Fit.{Found as FoundOf, closed}
 use Rattle.paths.specs.declared.Trend.the-variants.{Solution}
 use Rattle.paths.specs.declared.Path.the-variants.{Found as Found-is}

@@ -10,7 +10,7 @@ use Rattle.differences.specs.Diff.{diffK}
 use Rattle.differences.proofs.Laws.{length-diffK}
 use Rattle.dual_point.specs.Lanes.{searchArea}
 use Rattle.gram.specs.Prepared.{preparation}
-use Rattle.questions.specs.Groups.{asking}
+use Rattle.questions.specs.Asking.{asking}
 use Rattle.paths.specs.Trends.{reach}
 use Rattle.paths.proofs.Areas.{kept-first, first-places, search-says}
 use Rattle.paths.proofs.searched.search_path.Statement.{statement}

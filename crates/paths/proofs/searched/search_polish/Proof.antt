@@ -17,7 +17,7 @@ use Rattle.dual_point.specs.Lanes.{candidateTrend, searchArea}
 use Rattle.certificate.specs.Certificate.{certify}
 use Rattle.polish.specs.Polish.{polish}
 use Rattle.polish.specs.Places.{isSome}
-use Rattle.questions.specs.Groups.{asking}
+use Rattle.questions.specs.Asking.{asking}
 use Rattle.fit.specs.Fit.{searchOf, keptOf, firstGap}
 use Rattle.paths.proofs.Ways.{kept-of}
 use Rattle.paths.proofs.searched.search_polish.Statement.{statement}
