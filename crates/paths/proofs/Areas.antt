@@ -13,7 +13,7 @@ use lib.Ieee.{Float, nan}
 use Rattle.float64.specs.Ops.{_⊖_}
 use Rattle.vectors.specs.Vec.{part, put, Kept}
 use Rattle.vectors.proofs.Laws.{kept-none, kept-then}
-use Rattle.vectors.proofs.Parts.{putBack, partOf-range, part-put, part-below, kept-put, kept-drop}
+use Rattle.vectors.proofs.Parts.{length-part, putBack, partOf-range, part-put, part-below, kept-put, kept-drop}
 use Rattle.differences.specs.Diff.{diffK}
 use Rattle.certificate.specs.Certificate.{Certificate, certify, gapOf}
 use Rattle.certificate.specs.Run.{dualOf, Certified}
@@ -26,7 +26,7 @@ use Rattle.questions.specs.Questions.{Asked}
 use Rattle.questions.specs.Asking.{asking}
 use Rattle.fit.specs.Fit.{Found as FoundOf, closed, pathL2, pathFlat, replaces, polished, keptOf, searchOf, pathEnd}
 use Rattle.paths.specs.declared.Trend.{Trend}
-use Rattle.paths.specs.declared.Trend.the-variants.{Won}
+use Rattle.paths.specs.declared.Trend.the-variants.{Series, Solution, Won}
 use Rattle.paths.specs.declared.Found.{Found}
 use Rattle.paths.specs.Trends.{solutionLane, trendOf, foundOf, closedOf}
 use Rattle.paths.specs.Search.{wonOf, Reached}
@@ -175,3 +175,11 @@ l2-sound a e = rw e
 pub l2-unsound : (a : Asked) → soundL2 (a .order) (a .y) (a .lam) ≡ false → pathL2 a ≡ none
 unfolding pathL2
 l2-unsound a e = rw e
+
+-- a trend has a place for each of the series
+pub length-trend : (y w : List Float) (t : Trend) → length (trendOf y w t) ≡ length y
+unfolding trendOf
+length-trend y w Series = refl
+length-trend y w Solution = length-part (solutionLane (length y)) (length y) w
+length-trend y w (Won true) = length-part (preparation (length y) + candidateTrend (length y)) (length y) w
+length-trend y w (Won false) = length-part (preparation (length y)) (length y) w

@@ -2,7 +2,7 @@
 use mathlib.Core.Path.{_≡_}
 use mathlib.Core.List.{List}
 use mathlib.Core.Option.{Option, none}
-use Prim.Native.Nat.{ℕ, _+_, _-_, _*_, _≤_}
+use Prim.Native.Nat.{ℕ, _+_, _-_, _≤_}
 use lib.ListN.{length}
 use lib.Ieee.{Float}
 use Rattle.vectors.specs.Vec.{part, Kept}
@@ -11,6 +11,7 @@ use Rattle.differences.specs.Series.{Series}
 use Rattle.gram.specs.Gram.{zstar, lamMax}
 use Rattle.gram.specs.Prepared.{starLane, diffLane, preparation}
 use Rattle.dual_point.specs.Lanes.{searchArea}
+use Rattle.questions.specs.Questions.{marksPlaces}
 use Rattle.fit.specs.Fit.{Found as FoundOf}
 use Rattle.paths.specs.declared.Found.{Found}
 use Rattle.paths.specs.declared.Path.{Path}
@@ -31,7 +32,7 @@ pub record Room (n : ℕ) (w c : List Float) : Type 0 where
 pub record Asks (k : ℕ) (y : List Float) (top : Float) (w c : List Float) (m : List ℕ) : Type 0 where
   pub prepared : Prepared k y w
   pub room : Room (length y) w c
-  pub marks : 2 * length y ≤ length m
+  pub marks : marksPlaces (length y) ≤ length m
   pub top-is : top ≡ lamMax k (gramRow k) (length y - k) y
 
 -- what may have changed: work behind the preparation, and the first n places of cycle

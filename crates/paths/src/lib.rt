@@ -4,11 +4,12 @@ mod closed;
 mod searched;
 
 ghost use mathlib.Core.Path.{_≡_};
-ghost use Prim.Native.Nat.{ℕ, _≤_, _*_};
+ghost use Prim.Native.Nat.{ℕ, _≤_};
 ghost use lib.ListN.{length};
 ghost use Rattle.vectors.specs.Vec.{part, put, KeptOf};
 ghost use Rattle.gram.specs.Prepared.{diffLane, preparation};
 ghost use Rattle.fit.specs.Fit.{pathL1, path};
+ghost use Rattle.questions.specs.Questions.{marksPlaces};
 ghost use Rattle.questions.specs.Asking.{asking};
 ghost use Rattle.paths.specs.Trends.{trendOf, reach};
 ghost use Rattle.paths.specs.Taken.{Asks, Finds, Took};
@@ -84,7 +85,7 @@ fn l1_path(
     requires { ⌜ Asks k (now y) «lam_max» (now work) (now cycle) (now marks) ⌝ }
     ensures { λ r. ⌜ Finds (λ (p : ℕ). pathL1 (asking (now (y .entry)) lam tol «max_iter» k p)) k (now (y .entry))
         (now (work .entry)) (now (work .exit)) (now (cycle .entry)) (now (cycle .exit)) r
-        × KeptOf 0 0 (2 * length (now (y .entry))) (now (marks .entry)) (now (marks .exit)) ⌝ }
+        × KeptOf 0 0 (marksPlaces (length (now (y .entry)))) (now (marks .entry)) (now (marks .exit)) ⌝ }
 {
     if lam == 0.0 {
         return closed::closed(Trend::Series, 0.0, 0.0);
@@ -111,7 +112,7 @@ pub fn take_path(
     requires { ⌜ Asks k (now y) «lam_max» (now work) (now cycle) (now marks) ⌝ }
     ensures { λ r. ⌜ Took (path (asking (now (y .entry)) lam tol «max_iter» k penalty)) k (now (y .entry))
         (now (work .entry)) (now (work .exit)) (now (cycle .entry)) (now (cycle .exit)) r
-        × KeptOf 0 0 (2 * length (now (y .entry))) (now (marks .entry)) (now (marks .exit)) ⌝ }
+        × KeptOf 0 0 (marksPlaces (length (now (y .entry)))) (now (marks .entry)) (now (marks .exit)) ⌝ }
 {
     if penalty == 2 {
         return closed::l2_path(work, y, lam, k);

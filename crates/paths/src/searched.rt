@@ -1,11 +1,12 @@
 // L1 with 0 < lam < lam_max: the search and its polish.
 ghost use mathlib.Core.Path.{_≡_};
 ghost use mathlib.Core.Bool.{cond};
-ghost use Prim.Native.Nat.{ℕ, _≤_, _*_};
+ghost use Prim.Native.Nat.{ℕ, _≤_};
 ghost use lib.ListN.{length};
 ghost use Rattle.vectors.specs.Vec.{Kept, KeptOf};
 ghost use Rattle.certificate.specs.Ready.{Ready};
 ghost use Rattle.dual_point.specs.Lanes.{searchArea};
+ghost use Rattle.questions.specs.Questions.{marksPlaces};
 ghost use Rattle.questions.specs.Asking.{asking};
 ghost use Rattle.fit.specs.Fit.{searchOf, pathEnd};
 ghost use Rattle.paths.specs.Taken.{Prepared, Room, Finds};
@@ -30,10 +31,10 @@ fn search_polish(
     max_iter: u64,
     k: usize,
 ) -> Found
-    requires { ⌜ Ready k (now y) (now dy) (searchArea (length (now y))) (length (now work)) × (2 * length (now y) ≤ length (now marks)) ⌝ }
+    requires { ⌜ Ready k (now y) (now dy) (searchArea (length (now y))) (length (now work)) × (marksPlaces (length (now y)) ≤ length (now marks)) ⌝ }
     ensures { λ r. ⌜ ((p : ℕ) → Reached (asking (now (y .entry)) lam tol «max_iter» k p) (now (work .exit)) r)
         × (Kept 0 (searchArea (length (now (y .entry)))) (now (work .entry)) (now (work .exit))
-        × KeptOf 0 0 (2 * length (now (y .entry))) (now (marks .entry)) (now (marks .exit))) ⌝ }
+        × KeptOf 0 0 (marksPlaces (length (now (y .entry)))) (now (marks .entry)) (now (marks .exit))) ⌝ }
 {
     let r = interior_point::ipm_l1(work, y, dy, lam, tol, max_iter, k);
     let q = polish::polish_l1(work, marks, y, dy, lam, k);
@@ -63,10 +64,10 @@ pub fn search_path(
     max_iter: u64,
     k: usize,
 ) -> Found
-    requires { ⌜ Prepared k (now y) (now work) × (Room (length (now y)) (now work) (now cycle) × (2 * length (now y) ≤ length (now marks))) ⌝ }
+    requires { ⌜ Prepared k (now y) (now work) × (Room (length (now y)) (now work) (now cycle) × (marksPlaces (length (now y)) ≤ length (now marks))) ⌝ }
     ensures { λ r. ⌜ Finds (λ (p : ℕ). pathEnd (asking (now (y .entry)) lam tol «max_iter» k p) (searchOf (asking (now (y .entry)) lam tol «max_iter» k p))) k (now (y .entry))
         (now (work .entry)) (now (work .exit)) (now (cycle .entry)) (now (cycle .exit)) r
-        × KeptOf 0 0 (2 * length (now (y .entry))) (now (marks .entry)) (now (marks .exit)) ⌝ }
+        × KeptOf 0 0 (marksPlaces (length (now (y .entry)))) (now (marks .entry)) (now (marks .exit)) ⌝ }
 {
     let n = y.len();
     crate::differences_to(cycle, work, n, n - k);

@@ -2,17 +2,35 @@
 use mathlib.Core.Path.{_≡_}
 use mathlib.Core.Bool.{Bool, true, false}
 use mathlib.Core.List.{List}
-use Prim.Native.Nat.{ℕ, _*_}
+use Prim.Native.Nat.{ℕ, _≤_, _-_}
 use lib.Dec.{ltb}
 use lib.ListN.{length}
 use lib.Ieee.{Float}
 use Rattle.vectors.specs.Vec.{put, Kept, KeptOf}
-use Rattle.questions.specs.Questions.{Asked, Lent}
+use Rattle.questions.specs.Questions.{Asked, Lent, workPlaces, marksPlaces}
 use Rattle.fit.specs.Fit.{Fit as FitOf, Outcome, refused, fitted, fit}
 use Rattle.fit.specs.Demand3.{Bounds}
 use Rattle.trend_filter.specs.declared.Summary.{Summary}
 use Rattle.trend_filter.specs.declared.Answer.{Answer}
 use Rattle.trend_filter.specs.declared.Answer.the-variants.{Fit, Refused}
+
+-- what the buffers lent to a call hold
+pub record Buffers : Type 0 where
+  pub trend : List Float
+  pub cycle : List Float
+  pub knots : List ℕ
+  pub work : List Float
+  pub marks : List ℕ
+
+-- their lengths
+abbrev pub lent : Buffers → Lent
+lent b = record {
+  trend = length (b .trend);
+  cycle = length (b .cycle);
+  knots = length (b .knots);
+  work = length (b .work);
+  marks = length (b .marks);
+}
 
 -- a fit's numbers
 unfoldable pub summaryOf : FitOf → Summary
@@ -43,20 +61,30 @@ unfoldable pub early : Outcome → Bool
 early (refused q) = ltb q 10
 early (fitted f) = false
 
--- the answer r to an outcome o, and trend, cycle and knots before and after
-pub record Gives (o : Outcome) (r : Answer) (t₀ t c₀ c : List Float) (k₀ k : List ℕ) : Type 0 where
+-- the answer r to an outcome o, and the buffers b before and c after: trend, cycle and knots
+pub record Gives (o : Outcome) (r : Answer) (b c : Buffers) : Type 0 where
   pub answer : r ≡ answerOf o
-  pub trend : t ≡ after (λ f. f .trend) o t₀
-  pub cycle : c ≡ after (λ f. f .cycle) o c₀
-  pub knots : k ≡ after (λ f. f .knots) o k₀
+  pub trend : c .trend ≡ after (λ f. f .trend) o (b .trend)
+  pub cycle : c .cycle ≡ after (λ f. f .cycle) o (b .cycle)
+  pub knots : c .knots ≡ after (λ f. f .knots) o (b .knots)
 
--- the whole of a call: a is what was asked, l the lengths lent
-pub record Answered (a : Asked) (l : Lent) (r : Answer) (t₀ t c₀ c : List Float) (k₀ k : List ℕ) (w₀ w : List Float) (m₀ m : List ℕ) : Type 0 where
-  pub gives : Gives (fit a l) r t₀ t c₀ c k₀ k
+-- work and marks: only the first 40·n places of work and 2·n of marks may have changed
+pub record Scratch (n : ℕ) (b c : Buffers) : Type 0 where
+  pub work : Kept 0 (workPlaces n) (b .work) (c .work)
+  pub marks : KeptOf 0 0 (marksPlaces n) (b .marks) (c .marks)
+
+-- how many places a fit writes: n of trend and of cycle, at most n - k of knots
+pub record Sizes (a : Asked) (f : FitOf) : Type 0 where
+  pub trend : length (f .trend) ≡ length (a .y)
+  pub cycle : length (f .cycle) ≡ length (a .y)
+  pub knots : length (f .knots) ≤ length (a .y) - a .order
+
+-- the whole of a call: a is what was asked
+pub record Answered (a : Asked) (r : Answer) (b c : Buffers) : Type 0 where
+  pub gives : Gives (fit a (lent b)) r b c
   -- questions 1 to 9 leave work and marks unchanged
-  pub unused : early (fit a l) ≡ true → (w ≡ w₀) × (m ≡ m₀)
-  -- and else only the first 40·n places of work and 2·n of marks are free
-  pub work : Kept 0 (40 * length (a .y)) w₀ w
-  pub marks : KeptOf 0 0 (2 * length (a .y)) m₀ m
-  -- the bounds of demand 3 on a fit's numbers
-  pub bounds : (f : FitOf) → fit a l ≡ fitted f → Bounds (a .max-iter) f
+  pub unused : early (fit a (lent b)) ≡ true → (c .work ≡ b .work) × (c .marks ≡ b .marks)
+  pub scratch : Scratch (length (a .y)) b c
+  -- the lengths of what a fit writes, and the bounds of demand 3 on its numbers
+  pub sizes : (f : FitOf) → fit a (lent b) ≡ fitted f → Sizes a f
+  pub bounds : (f : FitOf) → fit a (lent b) ≡ fitted f → Bounds (a .max-iter) f

@@ -4,9 +4,9 @@ use mathlib.Core.Bool.{Bool, cond}
 use mathlib.Core.List.{List, [], _∷_}
 use Prim.Native.Nat.{ℕ}
 use lib.Ieee.{Float}
-use Rattle.questions.specs.Questions.{Asked, Lent}
+use Rattle.questions.specs.Questions.{Asked}
 use Rattle.fit.specs.Fit.{fit}
-use Rattle.trend_filter.specs.Answers.{answerOf, Answered}
+use Rattle.trend_filter.specs.Answers.{Buffers, lent, answerOf, Answered}
 use Rattle.trend_filter.specs.declared.Summary.{Summary}
 use Rattle.trend_filter.specs.declared.Answer.{Answer}
 use Rattle.trend_filter.specs.declared.Answer.the-variants.{Fit, Refused}
@@ -30,9 +30,9 @@ abbrev pub filled : {A : Type 0} → (Summary → List A) → Answer → List A 
 filled x (Fit s) v = x s
 filled x (Refused q) v = v
 
--- The whole of a call: an answer of the fit with all its promises, told by the code r, numbers n and counts d.
-pub record Called (a : Asked) (l : Lent) (r : ℕ) (t₀ t c₀ c : List Float) (k₀ k : List ℕ) (w₀ w : List Float) (m₀ m : List ℕ) (n₀ n : List Float) (d₀ d : List ℕ) : Type 0 where
-  pub answered : Answered a l (answerOf (fit a l)) t₀ t c₀ c k₀ k w₀ w m₀ m
-  pub code : r ≡ codeOf (answerOf (fit a l))
-  pub numbers : n ≡ filled numbersOf (answerOf (fit a l)) n₀
-  pub counts : d ≡ filled countsOf (answerOf (fit a l)) d₀
+-- The whole of a call with the buffers b before and c after: an answer of the fit with all its promises, told by the code r, numbers n and counts d.
+pub record Called (a : Asked) (r : ℕ) (b c : Buffers) (n₀ n : List Float) (d₀ d : List ℕ) : Type 0 where
+  pub answered : Answered a (answerOf (fit a (lent b))) b c
+  pub code : r ≡ codeOf (answerOf (fit a (lent b)))
+  pub numbers : n ≡ filled numbersOf (answerOf (fit a (lent b))) n₀
+  pub counts : d ≡ filled countsOf (answerOf (fit a (lent b))) d₀

@@ -1,8 +1,8 @@
 // The fit for callers in C: 0 for a fit, else the refusal's number.
 ghost use mathlib.Core.Path.{_≡_};
-ghost use lib.ListN.{length};
-ghost use Rattle.questions.specs.Asking.{asking, lending};
+ghost use Rattle.questions.specs.Asking.{asking};
 ghost use Rattle.trend_filter.specs.Calls.{oneIf, numbersOf, countsOf, Called};
+ghost use Rattle.trend_filter.specs.Inner.{buffers};
 use crate::Answer;
 use crate::Summary;
 use crate::TrendFilterOptions;
@@ -43,10 +43,9 @@ pub extern "C" fn trend_filter_fit(
     numbers: &mut [f64; 5],
     counts: &mut [u64; 4],
 ) -> u32
-    ensures { λ r. ⌜ Called (asking (now (y .entry)) lam tol «max_iter» order penalty)
-        (lending (length (now (trend .entry))) (length (now (cycle .entry))) (length (now (knots .entry))) (length (now (work .entry))) (length (now (marks .entry)))) r
-        (now (trend .entry)) (now (trend .exit)) (now (cycle .entry)) (now (cycle .exit)) (now (knots .entry)) (now (knots .exit))
-        (now (work .entry)) (now (work .exit)) (now (marks .entry)) (now (marks .exit))
+    ensures { λ r. ⌜ Called (asking (now (y .entry)) lam tol «max_iter» order penalty) r
+        (buffers (now (trend .entry)) (now (cycle .entry)) (now (knots .entry)) (now (work .entry)) (now (marks .entry)))
+        (buffers (now (trend .exit)) (now (cycle .exit)) (now (knots .exit)) (now (work .exit)) (now (marks .exit)))
         (now (numbers .entry)) (now (numbers .exit)) (now (counts .entry)) (now (counts .exit)) ⌝ }
 {
     let o = TrendFilterOptions {

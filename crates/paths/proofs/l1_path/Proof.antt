@@ -8,6 +8,7 @@ use lib.Ieee.{le}
 use Rattle.vectors.proofs.Laws.{kept-none}
 use Rattle.gram.specs.Prepared.{preparation}
 use Rattle.dual_point.specs.Lanes.{searchArea}
+use Rattle.questions.specs.Questions.{marksPlaces}
 use Rattle.questions.specs.Asking.{asking}
 use Rattle.fit.specs.Fit.{pathZero}
 use Rattle.paths.specs.declared.Trend.the-variants.{Series}
@@ -29,7 +30,7 @@ returns c = let st = c .before .before .before .before .before .before in
         stands = omega arith;
         changed = record { work = kept-none (preparation n) (searchArea n) (a .work .now); cycle = kept-none 0 n (a .cycle .now) };
       },
-      kept-none 0 (2 * n) (a .marks .now),
+      kept-none 0 (marksPlaces n) (a .marks .now),
     )
 
 returns-2 : tie.Need-returns-2
@@ -46,7 +47,7 @@ returns-2 c = let fl = c .before .before .before .before in
         stands = e .stands;
         changed = e .changed;
       },
-      kept-none 0 (2 * length y) (a .marks .now),
+      kept-none 0 (marksPlaces (length y)) (a .marks .now),
     )
 
 returns-3 : tie.Need-returns-3

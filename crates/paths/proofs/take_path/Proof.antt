@@ -5,6 +5,7 @@ use mathlib.Core.Option.{Option, none, some}
 use Prim.Native.Nat.{ℕ, _*_}
 use lib.ListN.{length}
 use Rattle.vectors.proofs.Laws.{kept-none}
+use Rattle.questions.specs.Questions.{marksPlaces}
 use Rattle.questions.specs.Asking.{asking}
 use Rattle.fit.specs.Fit.{Found as FoundOf, path}
 use Rattle.paths.specs.Trends.{said, reached}
@@ -23,7 +24,7 @@ returns c = let lp = c .before .before in
     let q = asking y (a .lam) (a .tol) (a .max-iter) (a .k) (a .penalty) in
     let e = by-2 q (th .if1 .taken) in
     let t = lp .l2-path .ensures (a .tol) (a .max-iter) (a .penalty) (a .cycle .now) in
-    (record { says = t .says ∙ sym e; stands = t .stands; lost = λ z. t .lost (sym e ∙ z); changed = t .changed }, kept-none 0 (2 * length y) (a .marks .now))
+    (record { says = t .says ∙ sym e; stands = t .stands; lost = λ z. t .lost (sym e ∙ z); changed = t .changed }, kept-none 0 (marksPlaces (length y)) (a .marks .now))
 
 returns-2 : tie.Need-returns-2
 unfolding said reached
