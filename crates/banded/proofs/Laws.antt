@@ -1,21 +1,21 @@
 -- Rows, and the run that holds them.
-use mathlib.Core.Bool.{Bool, true, false, cond, _&&_}
+use mathlib.Core.Bool.{Bool, true, false, cond}
 use mathlib.Core.Logic.{⊎-elim}
 use mathlib.Core.List.{List, [], _∷_, _++_}
 use mathlib.Core.Path.{_≡_, refl, sym, ap, _∙_}
 use Prim.Native.Nat.{ℕ, zero, suc, _+_, _-_, _*_, _/_, _%_, _≤_, _<_}
-use native.Mathlib.Nat.{mul-le-mul-right, add-mul, one-mul, suc-mul, mul-suc, zero-mul, zero-add, eq-or-lt-of-le, le-of-suc-le-suc, ne-of-lt, ne-of-gt, mod-lt, div-add-mod', div-lt-iff-lt-mul, min-le-left}
+use native.Mathlib.Nat.{mul-le-mul-right, add-mul, one-mul, suc-mul, mul-suc, zero-mul, zero-add, eq-or-lt-of-le, le-of-suc-le-suc, ne-of-lt, ne-of-gt, mod-lt, div-add-mod', div-lt-iff-lt-mul}
 use native.Mathlib.Numerals.{add-one}
 use native.Mathlib.Omega.{arith}
 use lib.Dec.{ltb}
-use lib.ListN.{length, getD, set, take, drop, length-append, length-set, length-take, length-drop, List·getD-append}
-use lib.Seq.{getD-at, getD-set-same, getD-set-other, getD-take, getD-drop, getD-append-add, length-take-le, ext-getD}
-use lib.Ieee.{Float, nan, binary64, ofBits, mul, sub, div}
+use lib.ListN.{length, set, take, drop, length-append, length-set, length-drop, List·getD-append}
+use lib.Seq.{getD-at, getD-set-same, getD-set-other, getD-drop, getD-append-add, ext-getD}
+use lib.Ieee.{Float, nan, binary64, ofBits, sub}
 use borrow.Author.Tests.{ltb-true, ltb-false}
 use Rattle.vectors.specs.Vec.{at, list, part}
 use Rattle.vectors.proofs.Laws.{length-list, at-list, cond-cong, kept-none}
 use Rattle.vectors.proofs.Parts.{length-part, at-part, partOf-range}
-use Rattle.banded.specs.Rows.{Matrix, line, look, less, taken, rest, entry, rowTo, row, rows, sound, good, matrix, concat}
+use Rattle.banded.specs.Rows.{Matrix, line, look, less, taken, rest, entry, rowTo, row, rows, sound, matrix, concat}
 use Rattle.banded.specs.Run.{flat, Shape, Holds, Stands, Factored, HasRow}
 
 -- ---- places of rows

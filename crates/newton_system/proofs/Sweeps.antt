@@ -15,7 +15,7 @@ use Rattle.vectors.specs.Vec.{at, part, Kept}
 use Rattle.vectors.proofs.Laws.{length-list, at-list, kept-none, kept-then}
 use Rattle.vectors.proofs.Parts.{length-part, at-part, putBack, mid-put, length-put, kept-put, part-put, part-size}
 use Rattle.vectors.proofs.Sums.{sum-more}
-use Rattle.banded.specs.Rows.{Matrix, rows, concat}
+use Rattle.banded.specs.Rows.{rows}
 use Rattle.banded.specs.Solve.{forward, divided, back, solve}
 use Rattle.banded.specs.Run.{flat, Stored, Eliminated}
 use Rattle.banded.proofs.Laws.{shape-rows, of-holds, stands-part, sub-part}

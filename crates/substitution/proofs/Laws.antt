@@ -1,7 +1,7 @@
 -- Division by the pivots and back, a place at a time; and a system solved in its place. Assumes nothing.
 use mathlib.Core.Bool.{Bool, true, false}
 use mathlib.Core.Logic.{⊎-elim}
-use mathlib.Core.List.{List, [], _∷_}
+use mathlib.Core.List.{List, _∷_}
 use mathlib.Core.Path.{_≡_, refl, sym, ap, _∙_}
 use Prim.Native.Nat.{ℕ, zero, suc, _+_, _-_, _*_, _≤_, _<_, min}
 use native.Mathlib.Nat.{ne-of-lt, ne-of-gt, add-zero, min-le-left, min-le-right, min-eq-left, min-eq-right, eq-zero-or-pos}

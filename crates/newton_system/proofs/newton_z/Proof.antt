@@ -13,7 +13,8 @@ returns c = newton-bad (c .before .before .before .before .sweep .ensures) (not-
 
 returns-2 : tie.Need-returns-2
 returns-2 c = let solved = c .before .before in
-    let swept = solved .before .before .before .before .before .before in
+    let good = solved .before .before in
+    let swept = good .before .before .before .before in
     let st = swept .before .before .before .before in
     let a = st .args in
     let n = a .m * (a .k + 1) + a .m in
