@@ -260,5 +260,13 @@ stands-part b n x s e h =
     ext-getD nan (part b n s) x (l ∙ sym e) (λ i u. at-part b n s i (b + i) (omega arith) refl ∙ h i (omega arith))
 
 -- a part of the n places from p on
-pub sub-part : (p n b l : ℕ) (s : List Float) → p + n ≤ length s → b + l ≤ n → part b l (take n (drop p s)) ≡ part (p + b) l s
+sub-part : (p n b l : ℕ) (s : List Float) → p + n ≤ length s → b + l ≤ n → part b l (take n (drop p s)) ≡ part (p + b) l s
 sub-part p n b l s room h = let d : p + n - p ≡ n = omega arith in rw d at (partOf-range nan b l p (p + n) s (omega arith) room (omega arith))
+
+-- the m rows of a system that stands from place p on, and its right side
+module _ (k p m : ℕ) (s : List Float) (room : p + (m * (k + 1) + m) ≤ length s) where
+  pub rows-part : part 0 (m * (k + 1)) (take (m * (k + 1) + m) (drop p s)) ≡ part p (m * (k + 1)) s
+  rows-part = let z : p + 0 ≡ p = omega arith in rw z at (sub-part p (m * (k + 1) + m) 0 (m * (k + 1)) s room (omega arith))
+
+  pub side-part : part (m * (k + 1)) m (take (m * (k + 1) + m) (drop p s)) ≡ part (p + m * (k + 1)) m s
+  side-part = sub-part p (m * (k + 1) + m) (m * (k + 1)) m s room (omega arith)
