@@ -9,7 +9,7 @@ use lib.Seq.{getD-set-same, getD-set-other}
 use lib.Ieee.{Float, nan}
 use Rattle.vectors.specs.Vec.{at, Written}
 use Rattle.vectors.proofs.Laws.{none, up, store-more}
-use Rattle.banded.specs.Run.{flat, HasRow, Stored}
+use Rattle.banded.specs.Run.{HasRow, Stored}
 use Rattle.banded.proofs.Laws.{one-row}
 
 -- row r written from place p on, and then x in place b

@@ -1,6 +1,6 @@
 -- Document 01, "Differences and bands": factor does the Rust's operations in its order, skipping places before row 0. The L D L' factor of a banded symmetric matrix of bandwidth k, a row at a time.
 -- A row has k + 1 places. In row r place c stands for column r + c - k: place k is the diagonal, and the first k - r places of an early row stand for no column.
-use mathlib.Core.Bool.{Bool, true, false, cond, _&&_}
+use mathlib.Core.Bool.{Bool, true, cond, _&&_}
 use mathlib.Core.List.{List, [], _∷_, _++_}
 use Prim.Native.Nat.{ℕ, zero, suc, _+_, _-_}
 use lib.Dec.{ltb}

@@ -47,10 +47,11 @@ pub fn factor_row(s: &mut [f64], k: usize, r: usize)
     ensures { λ _. ⌜ Factored k r (k + 1) (now (s .entry)) (now (s .exit)) ⌝ }
 {
     let w = k + 1;
+    let b = r * w;
     let mut c = 0;
     while c < w {
         let x = factor_entry(s, k, r, c);
-        s[r * w + c] = x;
+        s[b + c] = x;
         c += 1;
     }
 }

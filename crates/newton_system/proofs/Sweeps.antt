@@ -15,10 +15,10 @@ use Rattle.vectors.specs.Vec.{at, part, Kept}
 use Rattle.vectors.proofs.Laws.{length-list, at-list, kept-none, kept-then}
 use Rattle.vectors.proofs.Parts.{length-part, at-part, putBack, mid-put, length-put, kept-put, part-put, part-size}
 use Rattle.vectors.proofs.Sums.{sum-more}
-use Rattle.banded.specs.Rows.{Matrix, rows, concat}
+use Rattle.banded.specs.Rows.{rows}
 use Rattle.banded.specs.Solve.{forward, divided, back, solve}
 use Rattle.banded.specs.Run.{flat, Stored, Eliminated}
-use Rattle.banded.proofs.Laws.{shape-rows, of-holds, stands-part, sub-part}
+use Rattle.banded.proofs.Laws.{shape-rows, of-holds, stands-part, rows-part, side-part}
 use Rattle.banded.proofs.Forward.{length-forward}
 use Rattle.banded.proofs.Storing.{stored-as, first-two, first-three}
 use Rattle.elimination.proofs.Elimination.{Reached, reached-none, reached-kept, reached-more, reached-bad}
@@ -31,7 +31,7 @@ use Rattle.dual_point.proofs.Points.{point-below}
 use Rattle.newton_system.specs.declared.Row.{Row}
 use Rattle.newton_system.specs.declared.Solved.{Solved}
 use Rattle.newton_system.specs.Newton.{rightAt, squareOf, squares, system, right, newtonZ}
-use Rattle.newton_system.specs.Rows.{besides, RowMade, Swept, NewtonSolved}
+use Rattle.newton_system.specs.Rows.{AtSystem, besides, RowMade, Swept, NewtonSolved}
 use Rattle.newton_system.proofs.Places.{system-band}
 
 -- ---- the right side at a place
@@ -71,21 +71,16 @@ pub sweep-none : (k : ℕ) (g dy : List Float) (lam u : Float) (a m : ℕ) (s : 
 sweep-none k g dy lam u a m s =
     record { some = omega arith; kept = kept-none a (places k m) s; sum = refl; made = reached-none k m _ _ (take (places k m) (drop a s)) }
 
--- the rows and then the right side, as parts of the run
-module _ (k a m : ℕ) (s : List Float) (room : a + places k m ≤ length s) where
-  head : part 0 (m * (k + 1)) (take (places k m) (drop a s)) ≡ part a (m * (k + 1)) s
-  head = let z : a + 0 ≡ a = omega arith in rw z at (sub-part a (places k m) 0 (m * (k + 1)) s room (omega arith))
-
-  after : part (m * (k + 1)) m (take (places k m) (drop a s)) ≡ part (a + m * (k + 1)) m s
-  after = sub-part a (places k m) (m * (k + 1)) m s room (omega arith)
-
 module _ {k : ℕ} {g dy : List Float} {lam u : Float} {a m : ℕ} {s₀ s : List Float} where
   -- row r stored and then factored: x₁ and x₂ are what each leaves in the places of the system
-  module _ {x₁ x₂ : List Float} {acc : Float} {r : ℕ} {ok : Bool} {v : Row} (w : Sweeping k g dy lam u a m s₀ s acc r) (b : r < m) (free : m + m + m ≤ a) (room : a + places k m ≤ length s)
+  module _ {x₁ x₂ : List Float} {acc : Float} {r : ℕ} {ok : Bool} {v : Row} {l : ℕ} (w : Sweeping k g dy lam u a m s₀ s acc r) (b : r < m) (pre : AtSystem k a m (length s₀) l)
       (new : RowMade k g dy lam u (point 0 m s) r v)
       (p : Stored k m r (besides k g (v .diagonal)) (v .right) (take (places k m) (drop a s)) x₁) (e : Eliminated k m r (take (places k m) (drop a (putBack a (places k m) s x₁))) x₂ ok) where
     abbrev n : ℕ
     n = places k m
+
+    room : a + n ≤ length s
+    room = omega (arith, pre .room, w .kept .size)
 
     long : length x₁ ≡ n
     long = part-size a n s x₁ room (p .elsewhere .size)
@@ -106,7 +101,7 @@ module _ {k : ℕ} {g dy : List Float} {lam u : Float} {a m : ℕ} {s₀ s : Lis
     room₁ = omega (arith, length-put a n s x₁ room long)
 
     same : point 0 m s ≡ point 0 m s₀
-    same = point-below 0 m (w .kept) (omega arith)
+    same = point-below 0 m (w .kept) (omega (arith, pre .three))
 
     had : (c : ℕ) → c ≤ k → k ≤ r + c → flat k x₁ r c ≡ system k g lam (point 0 m s₀) r c
     had c l o =
@@ -145,18 +140,19 @@ module _ {k : ℕ} {g dy : List Float} {lam u : Float} {a m : ℕ} {s₀ s : Lis
       kept = swept-kept;
     }
 
-  pub sweep-done : {acc : Float} {r : ℕ} → Sweeping k g dy lam u a m s₀ s acc r → r ≡ m → a + places k m ≤ length s → Swept k g dy lam u a m s₀ s (record { acc = acc; good = true })
+  pub sweep-done : {acc : Float} {r l : ℕ} → Sweeping k g dy lam u a m s₀ s acc r → r ≡ m → AtSystem k a m (length s₀) l → Swept k g dy lam u a m s₀ s (record { acc = acc; good = true })
   unfolding squares
-  sweep-done w z room =
+  sweep-done w z pre =
       let n = m * (k + 1) in
+      let room : a + places k m ≤ length s = omega (arith, pre .room, w .kept .size) in
       let f = rows k (system k g lam (point 0 m s₀)) m in
       let t = take (places k m) (drop a s) in
       let d : Reached k m m (system k g lam (point 0 m s₀)) (right k g dy lam u (point 0 m s₀)) t = rw z at (w .made) in
       record {
         answer = sym (d .firm);
         norm = λ y. w .sum ∙ rw (z, length-part 0 m s₀);
-        factor = λ y. sym (head k a m s room) ∙ of-holds k m f t (d .made);
-        side = λ y. sym (after k a m s room) ∙ stands-part n m (forward k f (right k g dy lam u (point 0 m s₀)) m) t (length-forward k f (right k g dy lam u (point 0 m s₀)) m) (d .side);
+        factor = λ y. sym (rows-part k a m s room) ∙ of-holds k m f t (d .made);
+        side = λ y. sym (side-part k a m s room) ∙ stands-part n m (forward k f (right k g dy lam u (point 0 m s₀)) m) t (length-forward k f (right k g dy lam u (point 0 m s₀)) m) (d .side);
         kept = w .kept;
       }
 
@@ -164,21 +160,22 @@ module _ {k : ℕ} {g dy : List Float} {lam u : Float} {a m : ℕ} {s₀ s : Lis
   pub newton-bad : {w : Solved} → Swept k g dy lam u a m s₀ s w → w .good ≡ false → NewtonSolved k g dy lam u a m s₀ s w
   newton-bad h bad = record { answer = h .answer; norm = h .norm; dz = λ y. absurd (clash y bad); kept = h .kept }
 
-  pub newton-solved : {w : Solved} {x : List Float} → Swept k g dy lam u a m s₀ s w → a + places k m ≤ length s → Substituted k m (take (places k m) (drop a s)) x
+  pub newton-solved : {w : Solved} {x : List Float} {l : ℕ} → Swept k g dy lam u a m s₀ s w → AtSystem k a m (length s₀) l → Substituted k m (take (places k m) (drop a s)) x
       → NewtonSolved k g dy lam u a m s₀ (putBack a (places k m) s x) w
   unfolding newtonZ
-  newton-solved {w} {x} h room b =
+  newton-solved {w} {x} h pre b =
       let n = m * (k + 1) in
+      let room : a + places k m ≤ length s = omega (arith, pre .room, h .kept .size) in
       let f = rows k (system k g lam (point 0 m s₀)) m in
-      let l = part-size a (places k m) s x room (b .kept .size) in
+      let long = part-size a (places k m) s x room (b .kept .size) in
       record {
         answer = h .answer;
         norm = h .norm;
         dz = λ y.
-            part-put a (places k m) s x room l nan n m (omega arith)
-            ∙ b .made f (shape-rows k (system k g lam (point 0 m s₀)) m) (head k a m s room ∙ h .factor y)
-            ∙ ap (λ (v : List Float). back k f (divided k f v) m) (after k a m s room ∙ h .side y)
+            part-put a (places k m) s x room long nan n m (omega arith)
+            ∙ b .made f (shape-rows k (system k g lam (point 0 m s₀)) m) (rows-part k a m s room ∙ h .factor y)
+            ∙ ap (λ (v : List Float). back k f (divided k f v) m) (side-part k a m s room ∙ h .side y)
             ∙ sym (solve-is k m f (right k g dy lam u (point 0 m s₀)) (length-right k g dy lam u m s₀))
             ∙ ap (λ (i : ℕ). solve k (rows k (system k g lam (point 0 m s₀)) i) (right k g dy lam u (point 0 m s₀))) (sym (length-part 0 m s₀));
-        kept = kept-then a (places k m) (h .kept) (kept-put a (places k m) s x room l nan) (omega arith) (omega arith) (omega arith) (omega arith);
+        kept = kept-then a (places k m) (h .kept) (kept-put a (places k m) s x room long nan) (omega arith) (omega arith) (omega arith) (omega arith);
       }

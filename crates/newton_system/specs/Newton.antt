@@ -1,5 +1,5 @@
 -- Document 01, "Interior point": the Newton system of a point and the residual. k is the order, g the Gram row, dy is D y, i a place from 0 to m - 1.
-use mathlib.Core.Bool.{Bool, cond}
+use mathlib.Core.Bool.{cond}
 use mathlib.Core.List.{List}
 use Prim.Native.Nat.{ℕ}
 use lib.Dec.{ltb}

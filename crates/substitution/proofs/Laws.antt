@@ -1,7 +1,7 @@
 -- Division by the pivots and back, a place at a time; and a system solved in its place. Assumes nothing.
 use mathlib.Core.Bool.{Bool, true, false}
 use mathlib.Core.Logic.{⊎-elim}
-use mathlib.Core.List.{List, [], _∷_}
+use mathlib.Core.List.{List, _∷_}
 use mathlib.Core.Path.{_≡_, refl, sym, ap, _∙_}
 use Prim.Native.Nat.{ℕ, zero, suc, _+_, _-_, _*_, _≤_, _<_, min}
 use native.Mathlib.Nat.{ne-of-lt, ne-of-gt, add-zero, min-le-left, min-le-right, min-eq-left, min-eq-right, eq-zero-or-pos}
@@ -18,7 +18,7 @@ use Rattle.vectors.proofs.Parts.{length-part, first-part, mid-is, part-below, p
 use Rattle.banded.specs.Rows.{Matrix, look, rows, sound, matrix, concat}
 use Rattle.banded.specs.Solve.{backAt, forward, divided, back, solve}
 use Rattle.banded.specs.Run.{flat, Holds, Stands}
-use Rattle.banded.proofs.Laws.{above, less-ext, holds-of, shape-rows, kept-after, sub-part, part-stands, stands-part}
+use Rattle.banded.proofs.Laws.{above, less-ext, holds-of, shape-rows, kept-after, rows-part, side-part, part-stands, stands-part}
 use Rattle.banded.proofs.Forward.{length-forward}
 use Rattle.elimination.specs.Decomposed.{Decomposed}
 use Rattle.substitution.specs.Solved.{Backed, Carried, Substituted, Solved}
@@ -137,13 +137,10 @@ module _ (p : ℕ) (s : List Float) {k m : ℕ} {x : List Float} {ok : Bool} (ro
   places : length x ≡ m * (k + 1) + m
   places = part-size p (m * (k + 1) + m) s x room (d .kept .size)
 
-  head : part 0 (m * (k + 1)) (take (m * (k + 1) + m) (drop p s)) ≡ part p (m * (k + 1)) s
-  head = let z : p + 0 ≡ p = omega arith in rw z at (sub-part p (m * (k + 1) + m) 0 (m * (k + 1)) s room (omega arith))
-
   pub solved-bad : ok ≡ false → Solved p k m s (putBack p (m * (k + 1) + m) s x) false
   solved-bad bad = record {
     kept = kept-put p (m * (k + 1) + m) s x room places nan;
-    answer = λ a g. sym bad ∙ d .answer a (head ∙ g);
+    answer = λ a g. sym bad ∙ d .answer a (rows-part k p m s room ∙ g);
     factor = λ a g y. absurd (clash y refl);
     solution = λ a g y. absurd (clash y refl);
   }
@@ -160,14 +157,14 @@ module _ (p : ℕ) (s : List Float) {k m : ℕ} {x : List Float} {ok : Bool} (ro
       let z : p + 0 ≡ p = omega arith in
       record {
         kept = kept-then p (n + m) (kept-put p (n + m) s x room places nan) (kept-put p (n + m) s₁ x′ room₁ places′ nan) (omega arith) (omega arith) (omega arith) (omega arith);
-        answer = λ a g. sym good ∙ d .answer a (head ∙ g);
-        factor = λ a g y. rw z at (part-put p (n + m) s₁ x′ room₁ places′ nan 0 n (omega arith)) ∙ part-below nan 0 n (v .kept) (omega arith) ∙ d .factor a (head ∙ g) good;
+        answer = λ a g. sym good ∙ d .answer a (rows-part k p m s room ∙ g);
+        factor = λ a g y. rw z at (part-put p (n + m) s₁ x′ room₁ places′ nan 0 n (omega arith)) ∙ part-below nan 0 n (v .kept) (omega arith) ∙ d .factor a (rows-part k p m s room ∙ g) good;
         solution = λ a g y.
             let f = rows k a m in
             let b = part (p + n) m s in
             part-put p (n + m) s₁ x′ room₁ places′ nan n m (omega arith)
-            ∙ v .made f (shape-rows k a m) (d .factor a (head ∙ g) good)
-            ∙ ap (λ (u : List Float). back k f (divided k f u) m) (d .side a (head ∙ g) good ∙ ap (λ (u : List Float). forward k f u m) (sub-part p (n + m) n m s room (omega arith)))
+            ∙ v .made f (shape-rows k a m) (d .factor a (rows-part k p m s room ∙ g) good)
+            ∙ ap (λ (u : List Float). back k f (divided k f u) m) (d .side a (rows-part k p m s room ∙ g) good ∙ ap (λ (u : List Float). forward k f u m) (side-part k p m s room))
             ∙ sym (solve-is k m f b (length-part (p + n) m s));
       }
 

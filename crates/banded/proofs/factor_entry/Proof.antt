@@ -1,7 +1,7 @@
 use borrow.Author.Tests.{lt-ltb, le-ltb}
 use borrow.Author.Needs.{needs}
-use mathlib.Core.Path.{_≡_, refl, sym, ap, _∙_}
-use Prim.Native.Nat.{ℕ, suc, _≤_, _<_, _-_, _+_, _*_}
+use mathlib.Core.Path.{_≡_}
+use Prim.Native.Nat.{suc, _≤_, _-_, _+_}
 use native.Mathlib.Omega.{arith}
 use native.Mathlib.Nat.{sub-self}
 use lib.ListN.{length}
@@ -25,47 +25,54 @@ unfolding entry
 returns c = simp (lt-ltb _ _ (c .if1 .taken))
 
 get-requires : tie.Need-get-requires Inv-loop μ-loop
-get-requires c κs = let a = c .before .before .args in
-    within (a .k) (a .r) (a .r) (a .c) _ (c .before .before .pre .0) (omega arith) (omega arith)
+get-requires c κs = let st = c .before .before in
+    let a = st .args in
+    within (a .k) (a .r) (a .r) (a .c) _ (st .pre .0) (omega arith) (omega arith)
 
 loop-holds : tie.Need-loop-holds Inv-loop μ-loop
 unfolding less
 loop-holds c = (search needs, search needs, rw (c .over .ensures, sub-self) (c .before .get .ensures))
 
 get-requires-3 : tie.Need-get-requires-3 Inv-loop μ-loop
-get-requires-3 c κs = let a = c .before .before .before .before .before .before .before .args in
-    let pre = c .before .before .before .before .before .before .before .pre in
-    within (a .k) (a .r) (a .r + a .c - a .k) (c .before .before .loop .t + a .k - a .c) _ (pre .0) (omega arith) (omega arith)
+get-requires-3 c κs = let at-loop = c .before .before in
+    let st = at-loop .before .before .before .before .before in
+    let a = st .args in
+    within (a .k) (a .r) (a .r + a .c - a .k) (at-loop .loop .t + a .k - a .c) _ (st .pre .0) (omega arith) (omega arith)
 
 get-requires-4 : tie.Need-get-requires-4 Inv-loop μ-loop
-get-requires-4 c κs = let a = c .before .before .before .before .before .before .before .before .args in
-    let pre = c .before .before .before .before .before .before .before .before .pre in
-    within (a .k) (a .r) (a .r + c .before .before .before .loop .t - a .k) (a .k) _ (pre .0) (omega arith) (omega arith)
+get-requires-4 c κs = let at-loop = c .before .before .before in
+    let st = at-loop .before .before .before .before .before in
+    let a = st .args in
+    within (a .k) (a .r) (a .r + at-loop .loop .t - a .k) (a .k) _ (st .pre .0) (omega arith) (omega arith)
 
 loop-again : tie.Need-loop-again Inv-loop μ-loop
 unfolding less taken
-loop-again c = let a = c .before .before .before .before .before .before .before .before .before .args in
-    let t = c .before .before .before .before .loop .t in
+loop-again c = let at-loop = c .before .before .before .before in
+    let a = at-loop .before .before .before .before .before .args in
+    let t = at-loop .loop .t in
     let e : t + 1 - (a .k - a .r) ≡ suc (t - (a .k - a .r)) = omega arith in
     let f : a .k - a .r + (t - (a .k - a .r)) ≡ t = omega arith in
     (search needs, search needs, rw (e, f) (cc))
 
 get-requires-5 : tie.Need-get-requires-5 Inv-loop μ-loop
-get-requires-5 c κs = let a = c .before .before .before .before .before .before .before .args in
-    let pre = c .before .before .before .before .before .before .before .pre in
-    within (a .k) (a .r) (a .r + a .c - a .k) (a .k) _ (pre .0) (omega arith) (omega arith)
+get-requires-5 c κs = let at-loop = c .before .before in
+    let st = at-loop .before .before .before .before .before in
+    let a = st .args in
+    within (a .k) (a .r) (a .r + a .c - a .k) (a .k) _ (st .pre .0) (omega arith) (omega arith)
 
 returns-2 : tie.Need-returns-2 Inv-loop μ-loop
 unfolding entry rest
-returns-2 c = let a = c .before .before .before .before .before .before .before .before .args in
-    let e : c .before .before .before .loop .t ≡ a .c = omega arith in
-    simp (le-ltb _ _ (c .before .before .before .before .before .before .if1 .left), lt-ltb _ _ (c .before .if2 .taken)) (cc)
+returns-2 c = let at-loop = c .before .before .before in
+    let column = at-loop .before .before .before in
+    let e : at-loop .loop .t ≡ column .before .before .args .c = omega arith in
+    simp (le-ltb _ _ (column .if1 .left), lt-ltb _ _ (c .before .if2 .taken)) (cc)
 
 returns-3 : tie.Need-returns-3 Inv-loop μ-loop
 unfolding entry rest
-returns-3 c = let a = c .before .before .before .before .before .before .before .args in
-    let e : c .before .before .loop .t ≡ a .c = omega arith in
-    simp (le-ltb _ _ (c .before .before .before .before .before .if1 .left), le-ltb _ _ (c .if2 .left)) (cc)
+returns-3 c = let at-loop = c .before .before in
+    let column = at-loop .before .before .before in
+    let e : at-loop .loop .t ≡ column .before .before .args .c = omega arith in
+    simp (le-ltb _ _ (column .if1 .left), le-ltb _ _ (c .if2 .left)) (cc)
 
 pub factor-entry-spec : {M : Type 1} → statement M
 factor-entry-spec =

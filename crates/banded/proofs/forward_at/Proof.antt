@@ -1,11 +1,9 @@
 use borrow.Author.Needs.{needs}
-use mathlib.Core.Path.{_≡_, refl, sym, ap, _∙_}
-use Prim.Native.Nat.{ℕ, suc, _≤_, _<_, _-_, _+_, _*_}
+use mathlib.Core.Path.{_≡_}
+use Prim.Native.Nat.{suc, _≤_, _-_, _+_}
 use native.Mathlib.Omega.{arith}
 use native.Mathlib.Nat.{sub-self}
-use lib.ListN.{length}
 use Rattle.vectors.specs.Vec.{at}
-use Rattle.banded.proofs.Laws.{within}
 use Rattle.banded.specs.Run.{flat}
 use lib.Ieee.{binary64, mul}
 use Rattle.banded.specs.Rows.{less}
@@ -25,16 +23,17 @@ loop-holds c = (search needs, search needs, rw (c .over .ensures, sub-self))
 
 loop-again : tie.Need-loop-again Inv-loop μ-loop
 unfolding less
-loop-again c = let a = c .before .before .before .before .before .before .before .args in
-    let t = c .before .before .before .loop .t in
+loop-again c = let at-loop = c .before .before .before in
+    let a = at-loop .before .before .before .before .args in
+    let t = at-loop .loop .t in
     let e : t + 1 - (a .k - a .i) ≡ suc (t - (a .k - a .i)) = omega arith in
     let f : a .k - a .i + (t - (a .k - a .i)) ≡ t = omega arith in
     (search needs, search needs, rw (e, f) (cc))
 
 returns : tie.Need-returns Inv-loop μ-loop
 unfolding forwardAt
-returns c = let a = c .before .before .before .before .before .args in
-    let e : c .before .loop .t ≡ a .k = omega arith in
+returns c = let at-loop = c .before in
+    let e : at-loop .loop .t ≡ at-loop .before .before .before .before .args .k = omega arith in
     cc
 
 pub forward-at-spec : {M : Type 1} → statement M

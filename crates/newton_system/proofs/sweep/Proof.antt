@@ -1,9 +1,8 @@
 use borrow.Author.Needs.{needs}
 use borrow.Author.Tests.{not-true, not-false}
 use mathlib.Core.Path.{_≡_}
-use Prim.Native.Nat.{_≤_, _-_, _+_, _*_}
+use Prim.Native.Nat.{_-_, _+_, _*_}
 use native.Mathlib.Omega.{arith}
-use lib.ListN.{length}
 use Rattle.vectors.specs.Sums.{sumTo}
 use Rattle.newton_system.proofs.Sweeps.{Sweeping, sweep-none, sweep-more, sweep-bad, sweep-done}
 use Rattle.newton_system.proofs.sweep.Statement.{statement}
@@ -29,9 +28,7 @@ returns c = let done = c .before .before .before in
     let a = st .args in
     let n = a .m * (a .k + 1) + a .m in
     let d : a .a + n - a .a ≡ n = omega (arith, st .pre) in
-    let size = at-loop .loop .inv .kept .size in
-    let room : a .a + n ≤ length (at-loop .loop .s) = omega (arith, st .pre) in
-    rw d (sweep-bad (at-loop .loop .inv) (omega arith) (st .pre .three) room (row .row-at .ensures) (rw d at (put .put-row .ensures)) (rw d at (done .eliminate .ensures)) (not-true _ (c .if1 .taken)))
+    rw d (sweep-bad (at-loop .loop .inv) (omega arith) (st .pre) (row .row-at .ensures) (rw d at (put .put-row .ensures)) (rw d at (done .eliminate .ensures)) (not-true _ (c .if1 .taken)))
 
 loop-again : tie.Need-loop-again Inv-loop μ-loop
 loop-again c = let kept = c .before in
@@ -43,15 +40,12 @@ loop-again c = let kept = c .before in
     let a = st .args in
     let n = a .m * (a .k + 1) + a .m in
     let d : a .a + n - a .a ≡ n = omega (arith, st .pre) in
-    let size = at-loop .loop .inv .kept .size in
-    let room : a .a + n ≤ length (at-loop .loop .s) = omega (arith, st .pre) in
-    rw d (sweep-more (at-loop .loop .inv) (omega arith) (st .pre .three) room (row .row-at .ensures) (rw d at (put .put-row .ensures)) (rw d at (done .eliminate .ensures)) (not-false _ (kept .if1 .left)))
+    rw d (sweep-more (at-loop .loop .inv) (omega arith) (st .pre) (row .row-at .ensures) (rw d at (put .put-row .ensures)) (rw d at (done .eliminate .ensures)) (not-false _ (kept .if1 .left)))
 
 returns-2 : tie.Need-returns-2 Inv-loop μ-loop
 returns-2 c = let at-loop = c .before in
     let st = at-loop .before .before .before in
-    let size = at-loop .loop .inv .kept .size in
-    sweep-done (at-loop .loop .inv) (omega arith) (omega (arith, st .pre))
+    sweep-done (at-loop .loop .inv) (omega arith) (st .pre)
 
 pub sweep-spec : {M : Type 1} → statement M
 sweep-spec =
