@@ -11,7 +11,7 @@ use lib.Ieee.{Float}
 use Rattle.differences.specs.Diff.{diffK}
 use Rattle.differences.proofs.Laws.{length-diffK}
 use Rattle.banded.specs.Solve.{forward, divided, solve}
-use Rattle.banded.proofs.Elimination.{length-forward}
+use Rattle.banded.proofs.Forward.{length-forward}
 use Rattle.substitution.proofs.Laws.{length-divided, length-back}
 use Rattle.certificate.specs.Certificate.{Certificate, certify}
 use Rattle.certificate.proofs.Laws.{length-minus}

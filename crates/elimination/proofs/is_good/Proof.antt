@@ -1,7 +1,7 @@
-use Rattle.banded.proofs.Orders.{top-no-nan, above-0, not-above-0}
+use Rattle.elimination.proofs.Orders.{top-no-nan, above-0, not-above-0}
 use mathlib.Core.Path.{sym, _∙_}
-use Rattle.banded.proofs.is_good.Statement.{statement}
-use Rattle.banded.proofs.is_good.Tie as tie
+use Rattle.elimination.proofs.is_good.Statement.{statement}
+use Rattle.elimination.proofs.is_good.Tie as tie
 
 float-from-bits-top : tie.Need-float-from-bits-top
 float-from-bits-top c = top-no-nan
