@@ -16,7 +16,7 @@ def case(name):
     limit = struct.unpack_from('<Q', d, 48)[0]
     y = struct.unpack_from('<%dd' % n, d, 56)
     e = open(name + '.exp').read().split('\n')
-    asked = 'record { y = %s; lam = %s; tol = %s; limit = %d; order = %d; penalty = %d }' % (vector(map(bits, y)), bits(lam), bits(tol), limit, d[4], d[5])
+    asked = 'record { y = %s; lam = %s; tol = %s; max-iter = %d; order = %d; penalty = %d }' % (vector(map(bits, y)), bits(lam), bits(tol), limit, d[4], d[5])
     room = 'record { trend = %d; cycle = %d; knots = %d; work = %d; marks = %d }' % lent
     if e[0].startswith('refused'):
         end = e[0]

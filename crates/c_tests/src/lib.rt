@@ -2,6 +2,7 @@
 ghost use mathlib.Core.Path.{_≡_};
 ghost use Rattle.float64.specs.Helpers.{absOf, isFinite, maxOf, minOf, clampOf};
 ghost use Rattle.square_root.specs.Sqrt.{sqrtOf};
+ghost use Rattle.c_tests.specs.Answered.{Answered};
 
 #[no_mangle]
 pub extern "C" fn float64_sqrt(x: f64) -> f64
@@ -43,4 +44,30 @@ pub extern "C" fn float64_clamp(z: f64, lam: f64) -> f64
     ensures { λ r. ⌜ r ≡ clampOf z lam ⌝ }
 {
     float64::clamp(z, lam)
+}
+
+// Factors and solves the system that s begins with.
+#[no_mangle]
+pub extern "C" fn substitution_factor_solve(s: &mut [f64], k: usize, m: usize) -> u32
+    ensures { λ r. ⌜ Answered k m (now (s .entry)) (now (s .exit)) r ⌝ }
+{
+    if k < 1 {
+        return 2;
+    }
+    if 2 < k {
+        return 2;
+    }
+    if m < 1 {
+        return 2;
+    }
+    if 65536 < m {
+        return 2;
+    }
+    if s.len() < m * (k + 1) + m {
+        return 2;
+    }
+    if substitution::factor_solve_at(s, 0, k, m) {
+        return 0;
+    }
+    1
 }

@@ -1,13 +1,12 @@
 -- Laws of D and D': how long they are, and what stands at each place of them. Assumes nothing.
-use mathlib.Core.Path.{_≡_, refl, sym, ap, ap₂, _∙_}
-use mathlib.Core.List.{List, _++_}
+use mathlib.Core.Path.{_≡_, sym, ap₂, _∙_}
+use mathlib.Core.List.{List}
 use Prim.Native.Nat.{ℕ, zero, suc, _+_, _-_, _≤_, _<_}
 use native.Mathlib.Nat.{sub-zero}
 use native.Mathlib.Omega.{arith}
 use borrow.Author.Tests.{lt-ltb, ltb-true}
 use lib.Dec.{ltb}
-use lib.ListN.{length, take}
-use lib.Seq.{take-at}
+use lib.ListN.{length}
 use lib.Ieee.{Float}
 use Rattle.float64.specs.Ops.{_⊖_}
 use Rattle.vectors.specs.Vec.{at}
@@ -43,7 +42,6 @@ at-diff-2 v i h =
     let a : at (diff v) (i + 1) ≡ at v (i + 2) ⊖ at v (i + 1) = at-diff v (i + 1) (omega arith) ∙ rw q in
     at-diff (diff v) i (omega arith) ∙ rw (a, at-diff v i (omega arith))
 
--- the places that differencing in place leaves behind D
 -- ---- D'
 
 pub length-diffT : (v : List Float) → length (diffT v) ≡ length v + 1

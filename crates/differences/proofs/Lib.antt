@@ -1,2 +1,3 @@
+-- The laws of differences.
 pub mod Laws
 pub mod Gram

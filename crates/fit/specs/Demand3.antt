@@ -23,14 +23,14 @@ pub record Bounds (max-iter : ℕ) (f : Fit) : Type 0 where
   pub shrunk : T (finite (f .first-gap)) → T (finite (f .best-gap)) → (units (f .best-gap) *ℤ pos (100 ^ f .improvements)) ≤ℤ (units (f .first-gap) *ℤ pos (99 ^ f .improvements))
 
 -- all else alike: the same but for the step limit
-abbrev pub withLimit : ℕ → Asked → Asked
-withLimit max-iter a = record { y = a .y; lam = a .lam; tol = a .tol; limit = max-iter; order = a .order; penalty = a .penalty }
+abbrev pub withMaxIter : ℕ → Asked → Asked
+withMaxIter max-iter a = record { y = a .y; lam = a .lam; tol = a .tol; max-iter = max-iter; order = a .order; penalty = a .penalty }
 
 -- The whole, for whatever is asked and lent. It is stated of every call that isn't refused: of L2 too, which does no iteration.
 -- An outcome is a refusal's number or the whole answer: every place of trend, cycle and knots, and all numbers. A NaN is one value, so NaN matches NaN.
 pub record Demand3 (a : Asked) (l : Lent) : Type 0 where
-  pub bounds : (f : Fit) → fit a l ≡ fitted f → Bounds (a .limit) f
+  pub bounds : (f : Fit) → fit a l ≡ fitted f → Bounds (a .max-iter) f
   -- If n_iter is below max_iter, then every other max_iter from 1 up that is at least n_iter gives the same whole answer.
-  pub alike : (f : Fit) → fit a l ≡ fitted f → f .n-iter < a .limit → (other : ℕ) → 1 ≤ other → f .n-iter ≤ other → fit (withLimit other a) l ≡ fitted f
+  pub alike : (f : Fit) → fit a l ≡ fitted f → f .n-iter < a .max-iter → (other : ℕ) → 1 ≤ other → f .n-iter ≤ other → fit (withMaxIter other a) l ≡ fitted f
   -- So any two limits above 1,447,640 agree in this way.
-  pub settled : (one other : ℕ) → 1447640 < one → 1447640 < other → fit (withLimit one a) l ≡ fit (withLimit other a) l
+  pub settled : (one other : ℕ) → 1447640 < one → 1447640 < other → fit (withMaxIter one a) l ≡ fit (withMaxIter other a) l

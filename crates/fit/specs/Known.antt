@@ -32,7 +32,7 @@ whole n = ofInt binary64 (pos n)
 
 -- tol 1e-8, at most 100 iterations
 abbrev pub asking : ℕ → ℕ → Float → List Float → Asked
-asking order penalty lam y = record { y = y; lam = lam; tol = ofBits binary64 0x3e45_798e_e230_8c3a; limit = 100; order = order; penalty = penalty }
+asking order penalty lam y = record { y = y; lam = lam; tol = ofBits binary64 0x3e45_798e_e230_8c3a; max-iter = 100; order = order; penalty = penalty }
 
 -- what a series of n asks for
 abbrev pub room : ℕ → Lent

@@ -1,6 +1,6 @@
 -- Which patterns are a NaN's. Assumes nothing.
 use mathlib.Core.Path.{_≡_, refl, sym, subst, _∙_}
-use mathlib.Core.Bool.{Bool, true, false, not}
+use mathlib.Core.Bool.{Bool, true, not}
 use Prim.Native.Nat.{ℕ, _%_, _≤_, _<_}
 use lib.Dec.{T}
 use borrow.Author.Tests.{lt-ltb, le-ltb}

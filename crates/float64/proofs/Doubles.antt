@@ -2,77 +2,113 @@
 -- Assumes nothing.
 use mathlib.Core.Path.{_≡_, refl, sym, ap, _∙_, subst}
 use Prim.Native.Nat.{ℕ, zero, suc, _+_, _-_, _*_, _/_, _%_, _^_, _≤_, _<_}
-use native.Mathlib.Nat.{le-of-eq, le-trans, le-of-suc-le-suc, lt-irrefl, lt-of-lt-of-le, lt-of-not-le, mul-assoc, mul-right-comm, mul-one, mul-div-cancel, mul-lt-mul-of-pos-right, lt-of-mul-lt-mul-right, zero-mul}
+use native.Mathlib.Nat.{le-of-eq, le-trans, le-of-suc-le-suc, lt-irrefl, lt-of-lt-of-le, lt-of-not-le, mul-assoc, mul-comm, mul-right-comm, mul-one, one-mul, mul-div-cancel, mul-pos, mul-le-mul-right, mul-lt-mul-of-pos-right, lt-of-mul-lt-mul-right, zero-mul}
 use mathlib.Core.Bool.{Bool, true, cond, _&&_, true≢false}
 use lib.IntN.{ℤ, pos, negsuc}
-use lib.Dec.{T, leb, ltb, eqb, leb→le, ltb→lt, lit<, lit≤}
+use lib.Dec.{T, leb, ltb, eqb, leb→le, ltb→lt, eqb→eq, lit<, lit≤}
 use lib.Pow.{pow-add, pow-pos, pow-lt, pow-mono}
-use lib.Ieee.{Float, nan, inf, fin, binary64, up, down, size, round, fits, ofBits, toBits}
+use lib.Ieee.{Float, nan, inf, fin, Format, binary64, prec, emax, low, up, down, size, round, fits, ofBits, toBits}
 use lib.Ieee.Digits.{back}
 use lib.Ieee.Exact.{HasValue, round-exact}
-use lib.Ieee.Fits.{and-l, and-r, down-pos, round-fits}
+use lib.Ieee.Fits.{and-l, and-r, up-pos, down-pos, round-fits}
 use lib.Ieee.Nearest.{div-same}
 use lib.Ieee.Bits.{ofBits-toBits}
 use Rattle.float64.specs.Units.{inUnits, inSquares, hasMinus}
 use Rattle.float64.specs.Helpers.{isFinite}
 
--- ---- the doubles, in units
+-- ---- m * 2 ^ e in units of 2 ^ -l
 
 pow-le-back : (a l : ℕ) → 2 ^ a ≤ 2 ^ l → a ≤ l
 pow-le-back a l h = le-of-suc-le-suc (lt-of-not-le (λ (g : suc l ≤ a). lt-irrefl (2 ^ l) (lt-of-lt-of-le (pow-lt g) h)))
 
--- m * 2 ^ e is a whole number of 2 ^ -l
-whole : (l m : ℕ) (e : ℤ) → down e ≤ 2 ^ l → (j : ℕ) × (m * up e * 2 ^ l ≡ m * 2 ^ j * down e)
-whole l m (pos a) h = (a + l, mul-assoc m (2 ^ a) (2 ^ l) ∙ ap (λ (x : ℕ). m * x) (sym (pow-add 2 a l)) ∙ sym (mul-one (m * 2 ^ (a + l))))
-whole l m (negsuc a) h =
-    let le : suc a ≤ l = pow-le-back (suc a) l h in (
-      l - suc a,
-      ap (λ (x : ℕ). x * 2 ^ l) (mul-one m)
-          ∙ ap (λ (x : ℕ). m * x) (ap (λ (x : ℕ). 2 ^ x) (sym (back l (suc a) le)) ∙ pow-add 2 (l - suc a) (suc a))
-          ∙ sym (mul-assoc m (2 ^ (l - suc a)) (2 ^ suc a)),
-    )
+abbrev pub place : ℕ → ℤ → ℕ
+place l (pos a) = a + l
+place l (negsuc a) = l - suc a
 
-pub placed : (l m : ℕ) (e : ℤ) → down e ≤ 2 ^ l → (j : ℕ) × (m * up e * 2 ^ l / down e ≡ m * 2 ^ j)
-placed l m e h = let w = whole l m e h in (w .0, ap (λ (x : ℕ). x / down e) (w .1) ∙ mul-div-cancel (m * 2 ^ w .0) (down-pos e))
+pub placed : (l m : ℕ) (e : ℤ) → down e ≤ 2 ^ l → m * up e * 2 ^ l ≡ m * 2 ^ place l e * down e
+placed l m (pos a) h = mul-assoc m (2 ^ a) (2 ^ l) ∙ ap (λ (x : ℕ). m * x) (sym (pow-add 2 a l)) ∙ sym (mul-one (m * 2 ^ (a + l)))
+placed l m (negsuc a) h =
+    ap (λ (x : ℕ). x * 2 ^ l) (mul-one m)
+    ∙ ap (λ (x : ℕ). m * 2 ^ x) (sym (back l (suc a) (pow-le-back (suc a) l h)))
+    ∙ ap (λ (x : ℕ). m * x) (pow-add 2 (l - suc a) (suc a))
+    ∙ sym (mul-assoc m (2 ^ (l - suc a)) (2 ^ suc a))
 
--- what `fits` says of a number that is not 0
-abbrev pub Says : ℕ → ℤ → Type 0
-Says m e = (m < 2 ^ 53) × (down e ≤ 2 ^ 1074) × (m * up e < 2 ^ 1024 * down e)
+pub counted : (l m : ℕ) (e : ℤ) → down e ≤ 2 ^ l → m * up e * 2 ^ l / down e ≡ m * 2 ^ place l e
+counted l m e h = ap (λ (x : ℕ). x / down e) (placed l m e h) ∙ mul-div-cancel (m * 2 ^ place l e) (down-pos e)
 
-pub says : (s : Bool) (m : ℕ) (e : ℤ) → T (fits binary64 (fin s (suc m) e)) → Says (suc m) e
+-- ---- what `fits` says
+pub record Fit (f : Format) (m : ℕ) (e : ℤ) : Type 0 where
+  pub digits : m < 2 ^ prec f
+  pub fine : down e ≤ 2 ^ low f
+  pub under : m * up e < 2 ^ suc (emax f) * down e
+
+flat-down : (u d : ℕ) → 0 < u → u * d ≡ 1 → d ≤ 1
+flat-down u d h e = le-trans (le-of-eq (sym (one-mul d))) (le-trans (mul-le-mul-right d h) (le-of-eq e))
+
+pub fit-of : (f : Format) (s : Bool) (m : ℕ) (e : ℤ) → T (fits f (fin s m e)) → Fit f m e
 unfolding fits
-says s m e t =
-    let o = eqb (suc m % 2) 1 in
-    let a = ltb (suc m) (2 ^ 53) in
-    let b = leb (down e) (2 ^ 1074) in
-    let c = ltb (suc m * up e) (2 ^ 1024 * down e) in (
-      ltb→lt (suc m) (2 ^ 53) (and-r o a (and-l (o && a) b (and-l (o && a && b) c t))),
-      leb→le (down e) (2 ^ 1074) (and-r (o && a) b (and-l (o && a && b) c t)),
-      ltb→lt (suc m * up e) (2 ^ 1024 * down e) (and-r (o && a && b) c t),
-    )
+fit-of f s zero e t = record {
+  digits = pow-pos (prec f);
+  fine = le-trans (flat-down (up e) (down e) (up-pos e) (eqb→eq (up e * down e) 1 t)) (pow-pos (low f));
+  under = subst (λ (x : ℕ). x < 2 ^ suc (emax f) * down e) (sym (zero-mul (up e))) (mul-pos (pow-pos (suc (emax f))) (down-pos e));
+}
+fit-of f s (suc m) e t =
+    let a : Bool = eqb (suc m % 2) 1 in
+    let b : Bool = ltb (suc m) (2 ^ prec f) in
+    let c : Bool = leb (down e) (2 ^ low f) in
+    let d : Bool = ltb (suc m * up e) (2 ^ suc (emax f) * down e) in
+    record {
+      digits = ltb→lt (suc m) (2 ^ prec f) (and-r a b (and-l (a && b) c (and-l (a && b && c) d t)));
+      fine = leb→le (down e) (2 ^ low f) (and-r (a && b) c (and-l (a && b && c) d t));
+      under = ltb→lt (suc m * up e) (2 ^ suc (emax f) * down e) (and-r (a && b && c) d t);
+    }
 
--- so the counts of `inUnits` and `inSquares` lose nothing
-pub counts-whole : (s : Bool) (m : ℕ) (e : ℤ) → T (fits binary64 (fin s (suc m) e)) → (inUnits (fin s (suc m) e) * down e ≡ suc m * up e * 2 ^ 1074) × (inSquares (fin s (suc m) e) * down e ≡ suc m * up e * 2 ^ 2148)
-counts-whole s m e f =
-    let h = says s m e f .1 in
-    let w = whole 1074 (suc m) e h in
-    let v = whole 2148 (suc m) e (le-trans h (pow-mono (lit≤ {m = 1074} {n = 2148} tt))) in (
-      ap (λ (x : ℕ). x / down e * down e) (w .1) ∙ ap (λ (x : ℕ). x * down e) (mul-div-cancel (suc m * 2 ^ w .0) (down-pos e)) ∙ sym (w .1),
-      ap (λ (x : ℕ). x / down e * down e) (v .1) ∙ ap (λ (x : ℕ). x * down e) (mul-div-cancel (suc m * 2 ^ v .0) (down-pos e)) ∙ sym (v .1),
-    )
+-- the value, in units, is below 2 ^ (low + emax + 1)
+placed-under : (f : Format) (m : ℕ) (e : ℤ) → Fit f m e → m * 2 ^ place (low f) e < 2 ^ (low f + suc (emax f))
+placed-under f m e h =
+    let l = 2 ^ low f in
+    let t = 2 ^ suc (emax f) in
+    let w : m * up e * l < t * down e * l = mul-lt-mul-of-pos-right (h .under) (pow-pos (low f)) in
+    let v : m * 2 ^ place (low f) e * down e < l * t * down e =
+    subst (λ (x : ℕ). x < l * t * down e) (placed (low f) m e (h .fine))
+    (subst (λ (x : ℕ). m * up e * l < x) (mul-right-comm t (down e) l ∙ ap (λ (x : ℕ). x * down e) (mul-comm t l)) w) in
+    subst (λ (x : ℕ). m * 2 ^ place (low f) e < x) (sym (pow-add 2 (low f) (suc (emax f)))) (lt-of-mul-lt-mul-right (down e) v)
+
+-- a value that fits comes out of `round` as it went in
+pub own-round : (f : Format) (s : Bool) (m : ℕ) (e : ℤ) → Fit f m e → HasValue (round f s (m * up e) (down e)) s (m * up e) (down e)
+own-round f s m e h = round-exact f s (m * up e) (down e) m (place (low f) e) (down-pos e) (h .digits) (placed-under f m e h) (placed (low f) m e (h .fine))
+
+-- ---- the doubles, in units
+
+-- the counts of `inUnits` and `inSquares` lose nothing
+pub units-whole : (s : Bool) (m : ℕ) (e : ℤ) → Fit binary64 m e → inUnits (fin s m e) * down e ≡ m * up e * 2 ^ 1074
+units-whole s m e h = ap (λ (x : ℕ). x * down e) (counted 1074 m e (h .fine)) ∙ sym (placed 1074 m e (h .fine))
+
+finer : (e : ℤ) → down e ≤ 2 ^ 1074 → down e ≤ 2 ^ 2148
+finer e h = le-trans h (pow-mono (lit≤ {m = 1074} {n = 2148} tt))
+
+pub squares-whole : (s : Bool) (m : ℕ) (e : ℤ) → Fit binary64 m e → inSquares (fin s m e) * down e ≡ m * up e * 2 ^ 2148
+squares-whole s m e h = ap (λ (x : ℕ). x * down e) (counted 2148 m e (finer e (h .fine))) ∙ sym (placed 2148 m e (finer e (h .fine)))
+
+-- every finite double is below 2 ^ 2098 units
+pub units-under : (s : Bool) (m : ℕ) (e : ℤ) → Fit binary64 m e → inUnits (fin s m e) < 2 ^ 2098
+units-under s m e h = subst (λ (x : ℕ). x < 2 ^ 2098) (sym (counted 1074 m e (h .fine))) (placed-under binary64 m e h)
+
+-- and one that is not zero is 1 unit at least
+pub units-pos : (s : Bool) (m : ℕ) (e : ℤ) → Fit binary64 m e → 0 < m → 0 < inUnits (fin s m e)
+units-pos s m e h M = subst (λ (x : ℕ). 0 < x) (sym (counted 1074 m e (h .fine))) (mul-pos M (pow-pos (place 1074 e)))
 
 -- at most 53 digits, and zeros after them
 abbrev pub Grid : ℕ → Type 0
 Grid z = (m : ℕ) × (j : ℕ) × (m < 2 ^ 53) × (z ≡ m * 2 ^ j)
 
-zero-units : (e : ℤ) → 0 * up e * 2 ^ 1074 / down e ≡ 0
-zero-units e = ap (λ (x : ℕ). x * 2 ^ 1074 / down e) (zero-mul (up e)) ∙ ap (λ (x : ℕ). x / down e) (zero-mul (2 ^ 1074) ∙ sym (zero-mul (down e))) ∙ mul-div-cancel 0 (down-pos e)
-
 pub double-grid : (z : Float) → T (fits binary64 z) → Grid (inUnits z)
 double-grid nan t = (0, 0, lit< tt, refl)
 double-grid (inf s) t = (0, 0, lit< tt, refl)
-double-grid (fin s zero e) t = (0, 0, lit< tt, zero-units e)
-double-grid (fin s (suc m) e) t = let h = says s m e t in let p = placed 1074 (suc m) e (h .1) in (suc m, p .0, h .0, p .1)
+double-grid (fin s m e) t = let h = fit-of binary64 s m e t in (m, place 1074 e, h .digits, counted 1074 m e (h .fine))
+
+pub squares-grid : (s : Bool) (m : ℕ) (e : ℤ) → Fit binary64 m e → Grid (inSquares (fin s m e))
+squares-grid s m e h = (m, place 2148 e, h .digits, counted 2148 m e (finer e (h .fine)))
 
 -- ---- the count and the sign tell the double
 
@@ -100,13 +136,8 @@ same-value (fin t n d) s m e f g v =
     sign ∙ same-count s n m d e (subst (λ (x : Float). T (fits binary64 x)) sign f) g (div-same (n * up d * 2 ^ 1074) (down d) (m * up e * 2 ^ 1074) (down e) (down-pos d) (down-pos e) cross)
 
 -- rounding a double changes nothing
-pub round-double : (s : Bool) (m : ℕ) (e : ℤ) → T (fits binary64 (fin s (suc m) e)) → round binary64 s (suc m * up e) (down e) ≡ fin s (suc m) e
-round-double s m e f =
-    let h = says s m e f in
-    let w = whole 1074 (suc m) e (h .1) in
-    let small : suc m * 2 ^ w .0 < 2 ^ 2098 = lt-of-mul-lt-mul-right (down e) (lt-of-lt-of-le (subst (λ (x : ℕ). x < 2 ^ 1024 * down e * 2 ^ 1074) (w .1) (mul-lt-mul-of-pos-right (h .2) (pow-pos 1074))) (le-of-eq (mul-right-comm (2 ^ 1024) (down e) (2 ^ 1074) ∙ ap (λ (x : ℕ). x * down e) (sym (pow-add 2 1024 1074))))) in
-    same-value (round binary64 s (suc m * up e) (down e)) s (suc m) e (round-fits binary64 s (suc m * up e) (down e)) f
-    (round-exact binary64 s (suc m * up e) (down e) (suc m) (w .0) (down-pos e) (h .0) small (w .1))
+pub round-double : (s : Bool) (m : ℕ) (e : ℤ) → T (fits binary64 (fin s m e)) → round binary64 s (m * up e) (down e) ≡ fin s m e
+round-double s m e f = same-value (round binary64 s (m * up e) (down e)) s m e (round-fits binary64 s (m * up e) (down e)) f (own-round binary64 s m e (fit-of binary64 s m e f))
 
 -- two finite doubles with the same sign and the same count are the same
 pub same-double : (x y : Float) → T (fits binary64 x) → T (fits binary64 y) → isFinite x ≡ true → isFinite y ≡ true → hasMinus x ≡ hasMinus y → inUnits x ≡ inUnits y → x ≡ y

@@ -70,7 +70,7 @@ minus-of s m e f =
     let c : 1 * down e ≡ down e = one-mul (down e) in
     sum-zero (not s) (0 * 1 * down e) (suc m * up e * 1) (1 * down e) n (rw a (mul-pos (zero-lt-suc m) (up-pos e)))
     ∙ ap₂ (round binary64 (not s)) a c
-    ∙ round-double (not s) m e (neg-fits binary64 (fin s (suc m) e) f)
+    ∙ round-double (not s) (suc m) e (neg-fits binary64 (fin s (suc m) e) f)
 
 -- 0 - 0 is +0 for either 0
 minus-zero : (s : Bool) (e : ℤ) → T (fits binary64 (fin s zero e)) → sub binary64 (ofBits binary64 0) (fin s zero e) ≡ fin false zero e

@@ -52,6 +52,7 @@ module _ (k : ℕ) (y s₁ x : List Float) (o : Series k (length y)) (room : pre
       let size = f .size in
       let lane = sym (mid-is (diffLane n) m (putBack (diffLane n) m s₁ x) (omega arith)) ∙ mid-put (diffLane n) m s₁ x (omega arith) l ∙ put-all in
       record {
+        ends = fits;
         rows = part-below nan 0 (starLane k n) kept (omega arith) ∙ part-below nan 0 (starLane k n) f (omega arith) ∙ sym (first-part (starLane k n) s₁ (omega arith)) ∙ laid-done w (omega arith) .0;
         right = copied ∙ lane;
         differences = part-above nan (diffLane n) m kept (omega arith) ∙ lane;
@@ -59,12 +60,12 @@ module _ (k : ℕ) (y s₁ x : List Float) (o : Series k (length y)) (room : pre
       }
 
 -- s₁ holds the system, s₂ its solution
-pub system-solved : (k : ℕ) (y s₀ s₁ s₂ : List Float) (r : Peak) → Series k (length y) → System k y s₀ s₁ → Solved 0 k (length y - k) s₁ s₂ (r .good)
+pub system-solved : (k : ℕ) (y s₀ s₁ s₂ : List Float) (r : Peak) → System k y s₀ s₁ → Solved 0 k (length y - k) s₁ s₂ (r .good)
     → r .top ≡ maxAbs (part (starLane k (length y)) (length y - k) s₂) → Prepared k y s₀ s₂ r
 unfolding lamMax zstar
-system-solved k y s₀ s₁ s₂ r o h q t =
+system-solved k y s₀ s₁ s₂ r h q t =
     let n = length y in
-    let fits = system-fits o in
+    let ends = h .ends in
     let a = gram k (gramRow k) in
     let z = zero-add (starLane k n) in
     let star : r .good ≡ true → part (starLane k n) (n - k) s₂ ≡ solve k (rows k a (n - k)) (diffK k y) = λ e. (rw z at (q .solution a (h .rows) e)) ∙ ap (solve k (rows k a (n - k))) (h .right) in

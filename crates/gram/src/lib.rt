@@ -1,6 +1,6 @@
 // D D': its rows, its product with a vector at one place, and z*, which solves (D D') z = D y.
 ghost use mathlib.Core.Path.{_≡_};
-ghost use Prim.Native.Nat.{_≤_, _<_, _-_, _+_, _*_, _^_};
+ghost use Prim.Native.Nat.{_≤_, _<_, _-_, _+_, _*_};
 ghost use lib.ListN.{length};
 ghost use Rattle.vectors.specs.Vec.{Written};
 ghost use Rattle.banded.specs.Layout.{Laid};
@@ -10,21 +10,20 @@ ghost use Rattle.differences.specs.Series.{Series};
 
 // Place c of row r of D D'.
 fn gram_at(g: [f64; 3], k: usize, r: usize, c: usize) -> f64
-    requires { ⌜ (k ≤ 2) × ((c ≤ k) × (r + c < 2 ^ 63)) ⌝ }
+    requires { ⌜ (k ≤ 2) × (c ≤ k) ⌝ }
     ensures { λ x. ⌜ x ≡ gram k g r c ⌝ }
 {
-    if r + c < k {
+    if r < k - c {
         return 0.0;
     }
     g[k - c]
 }
 
-// Row r of D D', in its place.
-fn gram_row(s: &mut [f64], g: [f64; 3], k: usize, r: usize)
-    requires { ⌜ (k ≤ 2) × ((r + 1) * (k + 1) ≤ length (now s)) ⌝ }
-    ensures { λ _. ⌜ Written (r * (k + 1)) (r * (k + 1) + (k + 1)) (λ q. gram k g r (q - r * (k + 1))) (now (s .entry)) (now (s .exit)) ⌝ }
+// Row r of D D', from place p on.
+fn gram_row(s: &mut [f64], g: [f64; 3], k: usize, r: usize, p: usize)
+    requires { ⌜ (k ≤ 2) × (p + (k + 1) ≤ length (now s)) ⌝ }
+    ensures { λ _. ⌜ Written p (p + (k + 1)) (λ q. gram k g r (q - p)) (now (s .entry)) (now (s .exit)) ⌝ }
 {
-    let p = r * (k + 1);
     let mut c = 0;
     while c <= k {
         let x = gram_at(g, k, r, c);
@@ -40,7 +39,7 @@ fn fill_gram(s: &mut [f64], g: [f64; 3], k: usize, m: usize)
 {
     let mut r = 0;
     while r < m {
-        gram_row(s, g, k, r);
+        gram_row(s, g, k, r, r * (k + 1));
         r += 1;
     }
 }
@@ -52,12 +51,13 @@ fn lay_system(s: &mut [f64], y: &[f64], k: usize)
 {
     let n = y.len();
     let m = n - k;
+    let b = m * (k + 1);
     let g = differences::gram_offsets(k);
     fill_gram(s, g, k, m);
     let d = 4 * n;
     let e = d + m;
     differences::diff_k(&mut s[d..e], y, k);
-    vectors::copy_within(s, d, m * (k + 1), m);
+    vectors::copy_within(s, d, b, m);
 }
 
 pub struct Peak {

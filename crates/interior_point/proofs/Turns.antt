@@ -10,14 +10,14 @@ use lib.Dec.{eqb, ltb}
 use lib.ListN.{length}
 use lib.Ieee.{Float, nan, lt, le}
 use Rattle.float64.proofs.Clash.{clash}
-use Rattle.float64.specs.Ops.{_⊖_, _⊗_, _⊘_, c0, c1, c1e-10, infinity}
+use Rattle.float64.specs.Ops.{_⊖_, _⊗_, _⊘_, c0, c0·99, c1, c1e-10, infinity}
 use Rattle.vectors.specs.Vec.{at, partOf, part, Kept, Written}
 use Rattle.vectors.proofs.Laws.{kept-then, kept-none, list-ext, written-kept}
 use Rattle.vectors.proofs.Parts.{length-part, part-below, part-above}
 use Rattle.differences.specs.Diff.{diffK, gramRow}
 use Rattle.banded.specs.Rows.{sound}
 use Rattle.certificate.specs.Certificate.{certify, gapOf}
-use Rattle.search.specs.Search.{Turn, lost, moved, Problem, Point, Ended, Reason, small, spent, stalled, pivot, ended, enough, better, advance, mark, start, run}
+use Rattle.search.specs.Search.{Turn, lost, moved, Problem, Point, Ended, Reason, small, spent, stalled, pivot, ended, enough, better, advance, start, run}
 use Rattle.search.proofs.Trace.{run-small, run-spent, run-stalled, run-lost, run-moved, idle-room}
 use Rattle.dual_point.specs.Dual.{Dual}
 use Rattle.newton_system.specs.Newton.{system}
@@ -210,7 +210,7 @@ module _ (k : ℕ) (y : List Float) (lam : Float) where
 
       better-is : better L (pointOf k y s₀ r) (stateOf k y s x) ≡ improves r p d
       unfolding problem
-      better-is = λ i. lt (sym gap-s i) (mark ⊗ r .best)
+      better-is = λ i. lt (sym gap-s i) (c0·99 ⊗ r .best)
 
       gap-is : p ⊖ d ≡ L .primal (stateOf k y s x) ⊖ L .dual (stateOf k y s x)
       unfolding problem

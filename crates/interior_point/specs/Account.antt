@@ -6,12 +6,12 @@ use Prim.Native.Nat.{ℕ, suc, _+_, _-_, _≤_, _<_, _^_}
 use lib.Dec.{eqb, ltb}
 use lib.ListN.{length}
 use lib.Ieee.{Float, lt, le}
-use Rattle.float64.specs.Ops.{_⊖_, _⊗_}
+use Rattle.float64.specs.Ops.{_⊖_, _⊗_, c0·99}
 use Rattle.vectors.specs.Vec.{part, Kept}
 use Rattle.differences.specs.Diff.{gramRow}
 use Rattle.certificate.specs.Certificate.{Certificate, certify, gapOf}
 use Rattle.certificate.specs.Ready.{Ready}
-use Rattle.search.specs.Search.{Problem, Point, Ended, ended, pivot, mark, start, run}
+use Rattle.search.specs.Search.{Problem, Point, Ended, ended, pivot, start, run}
 use Rattle.dual_point.specs.Dual.{Dual}
 use Rattle.dual_point.specs.Lanes.{searchArea}
 use Rattle.dual_point.specs.Places.{point}
@@ -60,7 +60,7 @@ pub record Countable (r : Run) : Type 0 where
 
 -- what an iteration adds to r, where it ends with P and G and is an improvement or not
 abbrev pub improves : Run → Float → Float → Bool
-improves r p d = lt (p ⊖ d) (mark ⊗ r .best)
+improves r p d = lt (p ⊖ d) (c0·99 ⊗ r .best)
 
 pub record Settled (r : Run) (t₁ step₁ p d : Float) (x : Run) : Type 0 where
   pub t : x .t ≡ t₁

@@ -1,131 +1,148 @@
--- The nine questions asked in groups are the nine asked in a row; what holds where none is answered no. Assumes nothing.
-use mathlib.Core.Path.{_≡_, refl, sym, _∙_}
+-- What holds where no question is answered no, and what the questions tell apart. Assumes nothing.
+use mathlib.Core.Path.{_≡_, refl, ap, _∙_}
+use mathlib.Core.List.{List}
 use mathlib.Core.Bool.{Bool, true, false, cond, not, _&&_, _||_}
-use Prim.Native.Nat.{ℕ, _+_, _*_, _≤_, _<_}
+use Prim.Native.Nat.{ℕ, zero, suc, _+_, _≤_, _<_}
 use native.Mathlib.Omega.{arith}
-use borrow.Author.Tests.{ltb-false, eqb-true, ne-eqb, eq-eqb}
-use lib.Dec.{ltb, eqb}
+use borrow.Author.Tests.{leb-true, le-leb, lt-leb, eqb-true, eqb-false, eq-eqb, not-true}
+use lib.Dec.{leb, eqb}
 use lib.ListN.{length}
-use lib.Ieee.{lt}
+use lib.Ieee.{Float, lt}
 use Rattle.float64.specs.Helpers.{isFinite}
 use Rattle.float64.specs.Ops.{c0}
-use Rattle.questions.specs.Questions.{Asked, Lent, oneOrTwo, finiteTo, question}
-use Rattle.questions.specs.Groups.{sizes, values, room}
-
--- q, or r where q is 0
-abbrev pub next : ℕ → ℕ → ℕ
-next q r = cond (eqb q 0) r q
-
-chain : (b1 b2 b3 b4 b5 b6 b7 b8 b9 : Bool)
-    → cond b1 1 (cond b2 2 (cond b3 3 (cond b4 4 (cond b5 5 (cond b6 6 (cond b7 7 (cond b8 8 (cond b9 9 0))))))))
-    ≡ next (cond b1 1 (cond b2 2 (cond b3 3 0))) (next (cond b4 4 (cond b5 5 (cond b6 6 (cond b7 7 0)))) (cond b8 8 (cond b9 9 0)))
-chain true b2 b3 b4 b5 b6 b7 b8 b9 = refl
-chain false true b3 b4 b5 b6 b7 b8 b9 = refl
-chain false false true b4 b5 b6 b7 b8 b9 = refl
-chain false false false true b5 b6 b7 b8 b9 = refl
-chain false false false false true b6 b7 b8 b9 = refl
-chain false false false false false true b7 b8 b9 = refl
-chain false false false false false false true b8 b9 = refl
-chain false false false false false false false true b9 = refl
-chain false false false false false false false false true = refl
-chain false false false false false false false false false = refl
-
-pub grouped : (a : Asked) (l : Lent)
-    → question a l ≡ next (sizes (length (a .y)) (a .order) (a .penalty)) (next (values (a .y) (a .lam) (a .tol) (a .limit)) (room (length (a .y)) l))
-unfolding question sizes values room
-grouped a l =
-    let n = length (a .y) in
-    chain
-    (not (oneOrTwo (a .order) && oneOrTwo (a .penalty)))
-    (ltb n (a .order + 1))
-    (ltb 65536 n)
-    (not (finiteTo (a .y) n))
-    (not (isFinite (a .lam)) || lt (a .lam) c0)
-    (not (isFinite (a .tol) && lt c0 (a .tol)))
-    (eqb (a .limit) 0)
-    (ltb (l .trend) n || ltb (l .cycle) n || ltb (l .knots) n)
-    (ltb (l .work) (40 * n) || ltb (l .marks) (2 * n))
-
--- a question of each group answered no
-module _ (a : Asked) (l : Lent) (s : ℕ) (es : s ≡ sizes (length (a .y)) (a .order) (a .penalty)) where
-  pub stop-sizes : (s ≡ 0 → ⊥) → s ≡ question a l
-  stop-sizes n = sym (rw (grouped, ← es, ne-eqb s 0 n))
-
-  pub stop-values : s ≡ 0 → (v : ℕ) → v ≡ values (a .y) (a .lam) (a .tol) (a .limit) → (v ≡ 0 → ⊥) → v ≡ question a l
-  stop-values z v ev n = sym (rw (grouped, ← es, eq-eqb s 0 z, ← ev, ne-eqb v 0 n))
-
-  pub stop-room : s ≡ 0 → (v : ℕ) → v ≡ values (a .y) (a .lam) (a .tol) (a .limit) → v ≡ 0 → (r : ℕ) → r ≡ room (length (a .y)) l → r ≡ question a l
-  stop-room z v ev y r er = sym (rw (grouped, ← es, eq-eqb s 0 z, ← ev, eq-eqb v 0 y, ← er))
-
--- what holds where none is
-three : (b1 b2 b3 : Bool) → cond {A = ℕ} b1 1 (cond b2 2 (cond b3 3 0)) ≡ 0 → (b1 ≡ false) × ((b2 ≡ false) × (b3 ≡ false))
-three true b2 b3 p = absurd (omega arith)
-three false true b3 p = absurd (omega arith)
-three false false true p = absurd (omega arith)
-three false false false p = (refl, (refl, refl))
-
-two : (b1 b2 : Bool) → cond {A = ℕ} b1 8 (cond b2 9 0) ≡ 0 → (b1 ≡ false) × (b2 ≡ false)
-two true b2 p = absurd (omega arith)
-two false true p = absurd (omega arith)
-two false false p = (refl, refl)
-
-neither : (b c : Bool) → b || c ≡ false → (b ≡ false) × (c ≡ false)
-neither true c p = let z : _≡_ {A = ℕ} 0 1 = cc in absurd (omega arith)
-neither false c p = (refl, p)
-
-each : (b c : Bool) → not (b && c) ≡ false → (b ≡ true) × (c ≡ true)
-each true true p = (refl, refl)
-each true false p = let z : _≡_ {A = ℕ} 0 1 = cc in absurd (omega arith)
-each false c p = let z : _≡_ {A = ℕ} 0 1 = cc in absurd (omega arith)
-
-either : (b c : Bool) → b || c ≡ true → (b ≡ false → c ≡ true)
-either true c p q = let z : _≡_ {A = ℕ} 0 1 = cc in absurd (omega arith)
-either false c p q = p
-
-one-two : (x : ℕ) (b : Bool) → eqb x 1 ≡ b → b || eqb x 2 ≡ true → (1 ≤ x) × (x ≤ 2)
-one-two x true e p = let q : x ≡ 1 = eqb-true x 1 e in (omega arith, omega arith)
-one-two x false e p = let q : x ≡ 2 = eqb-true x 2 p in (omega arith, omega arith)
-
-pub short : (n o p : ℕ) → sizes n o p ≡ 0 → n ≤ 65536
-unfolding sizes
-short n o p e = ltb-false 65536 n (three (not (oneOrTwo o && oneOrTwo p)) (ltb n (o + 1)) (ltb 65536 n) e .1 .1)
-
--- the numbers that a series and its buffers have once every question is answered yes
-pub record Passed (a : Asked) (l : Lent) : Type 0 where
-  pub low : 1 ≤ a .order
-  pub high : a .order ≤ 2
-  pub long : a .order < length (a .y)
-  pub short : length (a .y) ≤ 65536
-  pub trend : length (a .y) ≤ l .trend
-  pub cycle : length (a .y) ≤ l .cycle
-  pub knots : length (a .y) ≤ l .knots
-  pub work : 40 * length (a .y) ≤ l .work
-  pub marks : 2 * length (a .y) ≤ l .marks
+use Rattle.float64.proofs.Clash.{clash}
+use Rattle.vectors.specs.Vec.{at}
+use Rattle.vectors.proofs.Sums.{both}
+use Rattle.differences.specs.Series.{Order, Series}
+use Rattle.questions.specs.Questions.{Asked, Lent, oneOrTwo, finiteTo, workPlaces, marksPlaces, kindsKnown, longEnough, shortEnough, allFinite, lamRight, tolRight, limitRight, answerRoom, scratchRoom, sizes, values, room, question}
+use Rattle.questions.specs.Asking.{asking}
 
 next-zero : (q r : ℕ) (b : Bool) → eqb q 0 ≡ b → cond b r q ≡ 0 → (q ≡ 0) × (r ≡ 0)
 next-zero q r true e p = (eqb-true q 0 e, p)
-next-zero q r false e p = let z : eqb q 0 ≡ true = eq-eqb q 0 p in let y : _≡_ {A = ℕ} 0 1 = cc in absurd (omega arith)
+next-zero q r false e p = absurd (clash (eq-eqb q 0 p) e)
+
+-- ---- a question answered yes
+past : (k : ℕ) (b : Bool) (r : ℕ) → cond b r (suc k) ≡ 0 → (b ≡ true) × (r ≡ 0)
+past k true r p = (refl, p)
+past k false r p = absurd (omega arith)
+
+one-or-two : (x : ℕ) → oneOrTwo x ≡ true → Order x
+one-or-two x = go (eqb x 1) refl
+  where
+    go : (b : Bool) → eqb x 1 ≡ b → b || eqb x 2 ≡ true → Order x
+    go true e p = let q : x ≡ 1 = eqb-true x 1 e in record { low = omega arith; high = omega arith }
+    go false e p = let q : x ≡ 2 = eqb-true x 2 p in record { low = omega arith; high = omega arith }
+
+finite-place : (y : List Float) (n : ℕ) → finiteTo y n ≡ true → (i : ℕ) → i < n → isFinite (at y i) ≡ true
+unfolding finiteTo
+finite-place y zero p i h = absurd (omega arith)
+finite-place y (suc n) p i h =
+    let q = both (finiteTo y n) (isFinite (at y n)) p in
+    go (eqb i n) refl (q .1) (λ b. finite-place y n (q .0) i b)
+  where
+    go : (b : Bool) → eqb i n ≡ b → isFinite (at y n) ≡ true → (i < n → isFinite (at y i) ≡ true) → isFinite (at y i) ≡ true
+    go true e last before = ap (λ (j : ℕ). isFinite (at y j)) (eqb-true i n e) ∙ last
+    go false e last before = before (omega (arith, eqb-false i n e))
+
+pub sizes-short : (n order penalty : ℕ) → sizes n order penalty ≡ 0 → n ≤ 65536
+unfolding sizes
+sizes-short n order penalty e =
+    let q1 = past 0 (kindsKnown order penalty) _ e in
+    let q2 = past 1 (longEnough n order) _ (q1 .1) in
+    leb-true n 65536 (past 2 (shortEnough n) 0 (q2 .1) .0)
+
+-- ---- every question answered yes
+pub record Passed (a : Asked) (l : Lent) : Type 0 where
+  pub series : Series (a .order) (length (a .y))
+  pub penalty : Order (a .penalty)
+  pub finite : (i : ℕ) → i < length (a .y) → isFinite (at (a .y) i) ≡ true
+  pub lam-finite : isFinite (a .lam) ≡ true
+  pub lam-not-below : lt (a .lam) c0 ≡ false
+  pub tol-finite : isFinite (a .tol) ≡ true
+  pub tol-above : lt c0 (a .tol) ≡ true
+  pub max-iter : 1 ≤ a .max-iter
+  pub trend : length (a .y) ≤ l .trend
+  pub cycle : length (a .y) ≤ l .cycle
+  pub knots : length (a .y) ≤ l .knots
+  pub work : workPlaces (length (a .y)) ≤ l .work
+  pub marks : marksPlaces (length (a .y)) ≤ l .marks
 
 pub passed : (a : Asked) (l : Lent) → question a l ≡ 0 → Passed a l
-unfolding sizes room
+unfolding question sizes values room
 passed a l e =
     let n = length (a .y) in
-    let g = next-zero (sizes n (a .order) (a .penalty)) (next (values (a .y) (a .lam) (a .tol) (a .limit)) (room n l)) (eqb (sizes n (a .order) (a .penalty)) 0) refl (sym (grouped a l) ∙ e) in
-    let h = next-zero (values (a .y) (a .lam) (a .tol) (a .limit)) (room n l) (eqb (values (a .y) (a .lam) (a .tol) (a .limit)) 0) refl (g .1) in
-    let s = three (not (oneOrTwo (a .order) && oneOrTwo (a .penalty))) (ltb n (a .order + 1)) (ltb 65536 n) (g .0) in
-    let r = two (ltb (l .trend) n || ltb (l .cycle) n || ltb (l .knots) n) (ltb (l .work) (40 * n) || ltb (l .marks) (2 * n)) (h .1) in
-    let k = one-two (a .order) (eqb (a .order) 1) refl (each (oneOrTwo (a .order)) (oneOrTwo (a .penalty)) (s .0) .0) in
-    let w = neither (ltb (l .work) (40 * n)) (ltb (l .marks) (2 * n)) (r .1) in
-    let u = neither (ltb (l .trend) n || ltb (l .cycle) n) (ltb (l .knots) n) (r .0) in
-    let v = neither (ltb (l .trend) n) (ltb (l .cycle) n) (u .0) in
+    let g = next-zero (sizes n (a .order) (a .penalty)) _ _ refl e in
+    let h = next-zero (values (a .y) (a .lam) (a .tol) (a .max-iter)) (room n l) _ refl (g .1) in
+    let q1 = past 0 (kindsKnown (a .order) (a .penalty)) _ (g .0) in
+    let q2 = past 1 (longEnough n (a .order)) _ (q1 .1) in
+    let q3 = past 2 (shortEnough n) 0 (q2 .1) in
+    let q4 = past 3 (allFinite (a .y)) _ (h .0) in
+    let q5 = past 4 (lamRight (a .lam)) _ (q4 .1) in
+    let q6 = past 5 (tolRight (a .tol)) _ (q5 .1) in
+    let q7 = past 6 (limitRight (a .max-iter)) 0 (q6 .1) in
+    let q8 = past 7 (answerRoom n l) _ (h .1) in
+    let q9 = past 8 (scratchRoom n l) 0 (q8 .1) in
+    let kinds = both (oneOrTwo (a .order)) (oneOrTwo (a .penalty)) (q1 .0) in
+    let lam = both (isFinite (a .lam)) (not (lt (a .lam) c0)) (q5 .0) in
+    let tol = both (isFinite (a .tol)) (lt c0 (a .tol)) (q6 .0) in
+    let answer = both (leb n (l .trend) && leb n (l .cycle)) (leb n (l .knots)) (q8 .0) in
+    let curves = both (leb n (l .trend)) (leb n (l .cycle)) (answer .0) in
+    let scratch = both (leb (workPlaces n) (l .work)) (leb (marksPlaces n) (l .marks)) (q9 .0) in
     record {
-      low = k .0;
-      high = k .1;
-      long = let q : a .order + 1 ≤ n = ltb-false n (a .order + 1) (s .1 .0) in omega arith;
-      short = ltb-false 65536 n (s .1 .1);
-      trend = ltb-false (l .trend) n (v .0);
-      cycle = ltb-false (l .cycle) n (v .1);
-      knots = ltb-false (l .knots) n (u .1);
-      work = ltb-false (l .work) (40 * n) (w .0);
-      marks = ltb-false (l .marks) (2 * n) (w .1);
+      series =
+          let long : a .order + 1 ≤ n = leb-true (a .order + 1) n (q2 .0) in
+          record { order = one-or-two (a .order) (kinds .0); long = omega arith; short = leb-true n 65536 (q3 .0) };
+      penalty = one-or-two (a .penalty) (kinds .1);
+      finite = finite-place (a .y) n (q4 .0);
+      lam-finite = lam .0;
+      lam-not-below = not-true (lt (a .lam) c0) (lam .1);
+      tol-finite = tol .0;
+      tol-above = tol .1;
+      max-iter = leb-true 1 (a .max-iter) (q7 .0);
+      trend = leb-true n (l .trend) (curves .0);
+      cycle = leb-true n (l .cycle) (curves .1);
+      knots = leb-true n (l .knots) (answer .1);
+      work = leb-true (workPlaces n) (l .work) (scratch .0);
+      marks = leb-true (marksPlaces n) (l .marks) (scratch .1);
     }
+
+-- ---- the questions do not tell two limits from 1 up apart
+same-values : (y : List Float) (lam tol : Float) (m n : ℕ) → 1 ≤ m → 1 ≤ n → values y lam tol m ≡ values y lam tol n
+unfolding values
+same-values y lam tol m n h k = rw (le-leb 1 m h, le-leb 1 n k)
+
+pub same-question : (a : Asked) (l : Lent) (m : ℕ) → 1 ≤ a .max-iter → 1 ≤ m
+    → question (asking (a .y) (a .lam) (a .tol) m (a .order) (a .penalty)) l ≡ question a l
+unfolding question
+same-question a l m h k = rw (same-values (a .y) (a .lam) (a .tol) m (a .max-iter))
+
+-- ---- question 3: a series of more than 65,536 places is refused with 3 where order and penalty are right, and no shorter one is
+pub too-long : (a : Asked) (l : Lent) → oneOrTwo (a .order) ≡ true → oneOrTwo (a .penalty) ≡ true → 65536 < length (a .y) → question a l ≡ 3
+unfolding question sizes
+too-long a l o p h =
+    let k = one-or-two (a .order) o in
+    rw (o, p, le-leb (a .order + 1) (length (a .y)) (omega arith), lt-leb (length (a .y)) 65536 h)
+
+-- a question answered no gives its own number
+other : (k : ℕ) (b : Bool) (r : ℕ) → eqb k 3 ≡ false → cond b r k ≡ 3 → r ≡ 3
+other k true r h p = p
+other k false r h p = absurd (clash (eq-eqb k 3 p) h)
+
+next-three : (q r : ℕ) (b : Bool) → cond b r q ≡ 3 → (q ≡ 3 → ⊥) → r ≡ 3
+next-three q r true p h = p
+next-three q r false p h = absurd (h p)
+
+pub not-too-long : (a : Asked) (l : Lent) → length (a .y) ≤ 65536 → question a l ≡ 3 → ⊥
+unfolding question sizes values room
+not-too-long a l h e =
+    let n = length (a .y) in
+    let v = next-three (sizes n (a .order) (a .penalty)) _ (eqb (sizes n (a .order) (a .penalty)) 0) e
+    (λ p. let q = other 2 (longEnough n (a .order)) _ refl (other 1 (kindsKnown (a .order) (a .penalty)) _ refl p) in
+    zero-three (rw (le-leb n 65536 h) at q)) in
+    let r = next-three (values (a .y) (a .lam) (a .tol) (a .max-iter)) (room n l) (eqb (values (a .y) (a .lam) (a .tol) (a .max-iter)) 0) v
+    (λ p. let q = other 5 (lamRight (a .lam)) _ refl (other 4 (allFinite (a .y)) _ refl p) in
+    zero-three (other 7 (limitRight (a .max-iter)) 0 refl (other 6 (tolRight (a .tol)) _ refl q))) in
+    zero-three (other 9 (scratchRoom n l) 0 refl (other 8 (answerRoom n l) _ refl r))
+  where
+    zero-three : zero ≡ 3 → ⊥
+    zero-three w = omega arith

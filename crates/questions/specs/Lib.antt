@@ -1,3 +1,3 @@
 -- The definitions that the contracts of questions cite.
 pub mod Questions
-pub mod Groups
+pub mod Asking

@@ -1,20 +1,20 @@
--- Document 01, "Questions before and during a fit": questions 1 to 9.
+-- Document 01, "Questions before and during a fit": questions 1 to 9, each true where the answer is yes.
 use mathlib.Core.Bool.{Bool, true, cond, not, _&&_, _||_}
 use mathlib.Core.List.{List}
 use Prim.Native.Nat.{ℕ, zero, suc, _+_, _*_}
-use lib.Dec.{ltb, eqb}
+use lib.Dec.{leb, eqb}
 use lib.ListN.{length}
 use lib.Ieee.{Float, lt}
 use Rattle.float64.specs.Helpers.{isFinite}
 use Rattle.float64.specs.Ops.{c0}
 use Rattle.vectors.specs.Vec.{at}
 
--- what is asked for: a series, its penalty weight, a tolerance, a step limit, an order and a penalty (1 is L1, 2 is L2)
+-- what is asked for: a series, its penalty weight, a tolerance, the limit on iterations, an order and a penalty (1 is L1, 2 is L2)
 pub record Asked : Type 0 where
   pub y : List Float
   pub lam : Float
   pub tol : Float
-  pub limit : ℕ
+  pub max-iter : ℕ
   pub order : ℕ
   pub penalty : ℕ
 
@@ -34,44 +34,71 @@ unfoldable pub finiteTo : List Float → ℕ → Bool
 finiteTo y zero = true
 finiteTo y (suc n) = finiteTo y n && isFinite (at y n)
 
--- for each question, whether its answer is no
-abbrev pub no-1 : Asked → Bool
-no-1 a = not (oneOrTwo (a .order) && oneOrTwo (a .penalty))
+-- the places of work and of marks that a series of n asks
+abbrev pub workPlaces : ℕ → ℕ
+workPlaces n = 40 * n
 
-abbrev pub no-2 : Asked → Bool
-no-2 a = ltb (length (a .y)) (a .order + 1)
+abbrev pub marksPlaces : ℕ → ℕ
+marksPlaces n = 2 * n
 
-abbrev pub no-3 : Asked → Bool
-no-3 a = ltb 65536 (length (a .y))
+-- 1. Are order and penalty each 1 or 2?
+abbrev pub kindsKnown : ℕ → ℕ → Bool
+kindsKnown order penalty = oneOrTwo order && oneOrTwo penalty
 
-abbrev pub no-4 : Asked → Bool
-no-4 a = not (finiteTo (a .y) (length (a .y)))
+-- 2. Is n at least order+1?
+abbrev pub longEnough : ℕ → ℕ → Bool
+longEnough n order = leb (order + 1) n
 
-abbrev pub no-5 : Asked → Bool
-no-5 a = not (isFinite (a .lam)) || lt (a .lam) c0
+-- 3. Is n at most 65,536?
+abbrev pub shortEnough : ℕ → Bool
+shortEnough n = leb n 65536
 
-abbrev pub no-6 : Asked → Bool
-no-6 a = not (isFinite (a .tol) && lt c0 (a .tol))
+-- 4. Is every y finite?
+abbrev pub allFinite : List Float → Bool
+allFinite y = finiteTo y (length y)
 
-abbrev pub no-7 : Asked → Bool
-no-7 a = eqb (a .limit) 0
+-- 5. Is lam finite and not below 0? (−0 passes)
+abbrev pub lamRight : Float → Bool
+lamRight lam = isFinite lam && not (lt lam c0)
 
-abbrev pub no-8 : Asked → Lent → Bool
-no-8 a l = let n = length (a .y) in ltb (l .trend) n || ltb (l .cycle) n || ltb (l .knots) n
+-- 6. Is tol finite and above 0?
+abbrev pub tolRight : Float → Bool
+tolRight tol = isFinite tol && lt c0 tol
 
-abbrev pub no-9 : Asked → Lent → Bool
-no-9 a l = let n = length (a .y) in ltb (l .work) (40 * n) || ltb (l .marks) (2 * n)
+-- 7. Is max_iter at least 1?
+abbrev pub limitRight : ℕ → Bool
+limitRight max-iter = leb 1 max-iter
 
--- the first question of 1 to 9 answered no; 0 where none is
+-- 8. Have trend, cycle and knots each at least n places?
+abbrev pub answerRoom : ℕ → Lent → Bool
+answerRoom n l = leb n (l .trend) && leb n (l .cycle) && leb n (l .knots)
+
+-- 9. Has work at least 40·n places and marks at least 2·n?
+abbrev pub scratchRoom : ℕ → Lent → Bool
+scratchRoom n l = leb (workPlaces n) (l .work) && leb (marksPlaces n) (l .marks)
+
+-- a question's number where its answer is no, and else what the rest gives
+abbrev pub ask : ℕ → Bool → ℕ → ℕ
+ask number answer rest = cond answer rest number
+
+-- 1 to 3: the first answered no, and 0 where none is; so too the other groups
+unfoldable pub sizes : ℕ → ℕ → ℕ → ℕ
+sizes n order penalty = ask 1 (kindsKnown order penalty) (ask 2 (longEnough n order) (ask 3 (shortEnough n) 0))
+
+-- 4 to 7
+unfoldable pub values : List Float → Float → Float → ℕ → ℕ
+values y lam tol max-iter = ask 4 (allFinite y) (ask 5 (lamRight lam) (ask 6 (tolRight tol) (ask 7 (limitRight max-iter) 0)))
+
+-- 8 and 9
+unfoldable pub room : ℕ → Lent → ℕ
+room n l = ask 8 (answerRoom n l) (ask 9 (scratchRoom n l) 0)
+
+-- what a group gives, or where it gives 0 what the next one does
+abbrev pub next : ℕ → ℕ → ℕ
+next q r = cond (eqb q 0) r q
+
+-- the first question of 1 to 9 answered no, and 0 where none is
 unfoldable pub question : Asked → Lent → ℕ
 question a l =
-    cond (no-1 a) 1
-    (cond (no-2 a) 2
-    (cond (no-3 a) 3
-    (cond (no-4 a) 4
-    (cond (no-5 a) 5
-    (cond (no-6 a) 6
-    (cond (no-7 a) 7
-    (cond (no-8 a l) 8
-    (cond (no-9 a l) 9
-    0))))))))
+    let n = length (a .y) in
+    next (sizes n (a .order) (a .penalty)) (next (values (a .y) (a .lam) (a .tol) (a .max-iter)) (room n l))

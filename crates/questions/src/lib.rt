@@ -2,9 +2,9 @@
 ghost use mathlib.Core.Path.{_≡_};
 ghost use mathlib.Core.Bool.{_&&_};
 ghost use Prim.Native.Nat.{_≤_};
-ghost use lib.ListN.{length};
-ghost use Rattle.questions.specs.Questions.{oneOrTwo, finiteTo, question};
-ghost use Rattle.questions.specs.Groups.{asking, lending, sizes, values, room};
+ghost use lib.Dec.{leb};
+ghost use Rattle.questions.specs.Questions.{oneOrTwo, workPlaces, marksPlaces, kindsKnown, allFinite, lamRight, tolRight, sizes, values, room, question};
+ghost use Rattle.questions.specs.Asking.{asking, lending};
 
 fn one_or_two(x: u32) -> bool
     ensures { λ r. ⌜ r ≡ oneOrTwo x ⌝ }
@@ -21,8 +21,14 @@ fn both(a: bool, b: bool) -> bool
     if a { b } else { false }
 }
 
+fn kinds_known(order: u32, penalty: u32) -> bool
+    ensures { λ r. ⌜ r ≡ kindsKnown order penalty ⌝ }
+{
+    both(one_or_two(order), one_or_two(penalty))
+}
+
 fn all_finite(y: &[f64]) -> bool
-    ensures { λ r. ⌜ r ≡ finiteTo (now (y .entry)) (length (now (y .entry))) ⌝ }
+    ensures { λ r. ⌜ r ≡ allFinite (now (y .entry)) ⌝ }
 {
     let mut all = true;
     let mut i = 0;
@@ -34,14 +40,36 @@ fn all_finite(y: &[f64]) -> bool
     all
 }
 
+fn lam_right(lam: f64) -> bool
+    ensures { λ r. ⌜ r ≡ lamRight lam ⌝ }
+{
+    both(float64::is_finite(lam), !(lam < 0.0))
+}
+
+fn tol_right(tol: f64) -> bool
+    ensures { λ r. ⌜ r ≡ tolRight tol ⌝ }
+{
+    both(float64::is_finite(tol), 0.0 < tol)
+}
+
+fn answer_room(n: usize, trend: usize, cycle: usize, knots: usize) -> bool
+    ensures { λ r. ⌜ r ≡ leb n trend && leb n cycle && leb n knots ⌝ }
+{
+    both(both(n <= trend, n <= cycle), n <= knots)
+}
+
+fn scratch_room(n: usize, work: usize, marks: usize) -> bool
+    requires { ⌜ n ≤ 65536 ⌝ }
+    ensures { λ r. ⌜ r ≡ leb (workPlaces n) work && leb (marksPlaces n) marks ⌝ }
+{
+    both(40 * n <= work, 2 * n <= marks)
+}
+
 // Questions 1 to 3: the first that is answered no; 0 where none is.
 fn sizes(n: usize, order: u32, penalty: u32) -> u32
     ensures { λ r. ⌜ r ≡ sizes n order penalty ⌝ }
 {
-    if !one_or_two(order) {
-        return 1;
-    }
-    if !one_or_two(penalty) {
+    if !kinds_known(order, penalty) {
         return 1;
     }
     if n <= order as usize {
@@ -60,19 +88,13 @@ fn values(y: &[f64], lam: f64, tol: f64, max_iter: u64) -> u32
     if !all_finite(y) {
         return 4;
     }
-    if !float64::is_finite(lam) {
+    if !lam_right(lam) {
         return 5;
     }
-    if lam < 0.0 {
-        return 5;
-    }
-    if !float64::is_finite(tol) {
+    if !tol_right(tol) {
         return 6;
     }
-    if !(0.0 < tol) {
-        return 6;
-    }
-    if max_iter == 0 {
+    if max_iter < 1 {
         return 7;
     }
     0
@@ -83,19 +105,10 @@ fn room(n: usize, trend: usize, cycle: usize, knots: usize, work: usize, marks: 
     requires { ⌜ n ≤ 65536 ⌝ }
     ensures { λ r. ⌜ r ≡ room n (lending trend cycle knots work marks) ⌝ }
 {
-    if trend < n {
+    if !answer_room(n, trend, cycle, knots) {
         return 8;
     }
-    if cycle < n {
-        return 8;
-    }
-    if knots < n {
-        return 8;
-    }
-    if work < 40 * n {
-        return 9;
-    }
-    if marks < 2 * n {
+    if !scratch_room(n, work, marks) {
         return 9;
     }
     0

@@ -10,7 +10,8 @@ use lib.Dec.{T}
 use lib.Ieee.{Float, nan, inf, fin, binary64, mul, lt, isNan, ofBits}
 use lib.Ieee.Fits.{sub-fits}
 use lib.Ieee.Positive.{positive, above}
-use Rattle.search.specs.Search.{Problem, Point, Ended, Reason, small, spent, stalled, pivot, mark, gap, start, ended, enough, better, searched}
+use Rattle.float64.specs.Ops.{c0·99}
+use Rattle.search.specs.Search.{Problem, Point, Ended, Reason, small, spent, stalled, pivot, gap, start, enough, better, searched}
 use Rattle.search.specs.Demand3.{units, Kept, Alike, Demand3, clear}
 use Rattle.search.proofs.Trace.{Trace, closes, spends, stalls, loses, gains, stays, trace, traced, steps-grow, steps-within, idle}
 use Rattle.search.proofs.Falls.{Falls, here, lower, falls-whole, few-improvements}
@@ -23,13 +24,13 @@ is-off : (b : Bool) → b ≡ false → T (not b)
 is-off b e = subst (λ (x : Bool). T (not x)) (sym e) tt
 
 -- no gap is below 0.99 times a NaN
-nan-never : (g : Float) → T (lt g (mul binary64 mark nan)) → ⊥
+nan-never : (g : Float) → T (lt g (mul binary64 c0·99 nan)) → ⊥
 unfolding lt mul ofBits
 nan-never nan t = t
 nan-never (inf s) t = t
 nan-never (fin s m e) t = t
 
-above-of : (g b : Float) → T (isNan b || above b) → T (lt g (mul binary64 mark b)) → T (above b)
+above-of : (g b : Float) → T (isNan b || above b) → T (lt g (mul binary64 c0·99 b)) → T (above b)
 unfolding isNan
 above-of g nan h t = absurd (nan-never g t)
 above-of g (inf s) h t = h

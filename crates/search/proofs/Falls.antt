@@ -4,22 +4,24 @@ use Prim.Native.Nat.{ℕ, zero, suc, _+_, _-_, _*_, _^_, _≤_, _<_, zero-le, su
 use native.Mathlib.Nat.{le-refl, le-trans, le-of-eq, lt-of-not-le, not-le-of-lt, lt-of-le-of-lt, zero-mul, one-mul, mul-comm, mul-assoc, mul-left-comm, mul-mul-mul-comm, mul-le-mul, mul-le-mul-right, mul-le-mul-left, mul-lt-mul-of-pos-right, pow-suc, pow-le-pow-left, one-le-pow}
 use native.Mathlib.Omega.{arith}
 use mathlib.Core.Bool.{Bool, true, false, not}
-use lib.IntN.{ℤ, pos, negℤ, _*ℤ_}
+use lib.IntN.{pos, negℤ, _*ℤ_}
 use lib.Signed.{_≤ℤ_, ≤ℤ-refl, leZ}
 use lib.Dec.{T, ltb→lt, le→leb, lit≤, lit<}
 use lib.Pow.{pow-add}
-use lib.Ieee.{Float, nan, inf, fin, binary64, down, mul, lt, fits}
+use lib.Ieee.{Float, nan, inf, fin, binary64, mul, lt, fits}
 use lib.Ieee.Scale.{finite}
 use lib.Ieee.Positive.{above, positive}
 use lib.Ieee.Digits.{back}
-use Rattle.search.specs.Search.{mark}
-use Rattle.search.specs.Demand3.{count, units}
-use Rattle.search.proofs.Shrink.{fit-of, shrinks, count-pos, count-under}
+use Rattle.float64.specs.Ops.{c0·99}
+use Rattle.float64.specs.Units.{inUnits}
+use Rattle.float64.proofs.Doubles.{fit-of, units-under, units-pos}
+use Rattle.search.specs.Demand3.{units}
+use Rattle.search.proofs.Shrink.{shrinks}
 
 -- b is reached from a by j improvements: each is below the rounded 0.99 of the one before, which was above zero, and all are doubles
 pub data Falls (a : Float) : ℕ → Float → Type 0 where
   here : T (fits binary64 a) → Falls a 0 a
-  lower : {j : ℕ} {b : Float} (g : Float) → Falls a j b → T (above b) → T (lt g (mul binary64 mark b)) → T (fits binary64 g) → Falls a (suc j) g
+  lower : {j : ℕ} {b : Float} (g : Float) → Falls a j b → T (above b) → T (lt g (mul binary64 c0·99 b)) → T (fits binary64 g) → Falls a (suc j) g
 
 -- finite, and the sign is clear
 abbrev pub plain : Float → Bool
@@ -27,17 +29,12 @@ plain nan = false
 plain (inf s) = false
 plain (fin s m e) = not s
 
-abbrev pub size : Float → ℕ
-size nan = 0
-size (inf s) = 0
-size (fin s m e) = count m e
-
 pub falls-fits : {a : Float} {j : ℕ} {b : Float} → Falls a j b → T (fits binary64 b)
 falls-fits (here f) = f
 falls-fits (lower g p a l f) = f
 
 -- ---- one improvement
-step : (g b : Float) → T (plain g) → T (plain b) → T (fits binary64 g) → T (fits binary64 b) → T (lt g (mul binary64 mark b)) → 100 * size g ≤ 99 * size b
+step : (g b : Float) → T (plain g) → T (plain b) → T (fits binary64 g) → T (fits binary64 b) → T (lt g (mul binary64 c0·99 b)) → 100 * inUnits g ≤ 99 * inUnits b
 step nan b p q f k t = absurd p
 step (inf s) b p q f k t = absurd p
 step (fin true n d) b p q f k t = absurd p
@@ -68,10 +65,10 @@ falls-finite {b = b} (here f) h q = go b h q
     go (fin false m e) h q = tt
 falls-finite (lower {b = b} g p a l f) h q = go g l q
   where
-    go : (g : Float) → T (lt g (mul binary64 mark b)) → T (above g) → T (plain g)
+    go : (g : Float) → T (lt g (mul binary64 c0·99 b)) → T (above g) → T (plain g)
     go nan l q = q
     go (inf true) l q = q
-    go (inf false) l q = absurd (not-top (mul binary64 mark b) l)
+    go (inf false) l q = absurd (not-top (mul binary64 c0·99 b) l)
     go (fin true m e) l q = q
     go (fin false m e) l q = tt
 
@@ -85,12 +82,12 @@ chain g b a x y h k =
     le-trans (le-of-eq e) (le-trans p (le-trans (le-of-eq e') (le-trans q (le-of-eq (sym e'')))))
 
 -- ---- how far down
-pub fallen : {a : Float} {j : ℕ} {b : Float} → Falls a j b → T (finite a) → T (plain b) → T (plain a) × (size b * 100 ^ j ≤ size a * 99 ^ j)
+pub fallen : {a : Float} {j : ℕ} {b : Float} → Falls a j b → T (finite a) → T (plain b) → T (plain a) × (inUnits b * 100 ^ j ≤ inUnits a * 99 ^ j)
 fallen (here f) h q = (q, le-refl _)
 fallen {a} (lower {j = j} {b = b} g p al l f) h q =
     let pb : T (plain b) = falls-finite p h al in
     let r = fallen p h pb in
-    (r .0, le-trans (le-of-eq (ap (λ (x : ℕ). size g * x) (pow-suc 100 j))) (le-trans (chain (size g) (size b) (size a) (100 ^ j) (99 ^ j) (step g b q pb f (falls-fits p) l) (r .1)) (le-of-eq (ap (λ (x : ℕ). size a * x) (sym (pow-suc 99 j))))))
+    (r .0, le-trans (le-of-eq (ap (λ (x : ℕ). inUnits g * x) (pow-suc 100 j))) (le-trans (chain (inUnits g) (inUnits b) (inUnits a) (100 ^ j) (99 ^ j) (step g b q pb f (falls-fits p) l) (r .1)) (le-of-eq (ap (λ (x : ℕ). inUnits a * x) (sym (pow-suc 99 j))))))
 
 -- ---- the same of whole numbers with their signs
 minus-le : (c k x : ℕ) → T (leZ (negℤ (pos c) *ℤ pos k) (pos x))
@@ -101,14 +98,14 @@ minus-le (suc c) k x = go (suc c * k)
     go zero = le→leb 0 x zero-le
     go (suc y) = tt
 
-below-plain : (a b : Float) (j : ℕ) → T (finite b) → T (plain a) → (T (plain b) → size b * 100 ^ j ≤ size a * 99 ^ j) → (units b *ℤ pos (100 ^ j)) ≤ℤ (units a *ℤ pos (99 ^ j))
+below-plain : (a b : Float) (j : ℕ) → T (finite b) → T (plain a) → (T (plain b) → inUnits b * 100 ^ j ≤ inUnits a * 99 ^ j) → (units b *ℤ pos (100 ^ j)) ≤ℤ (units a *ℤ pos (99 ^ j))
 below-plain nan b j h q k = absurd q
 below-plain (inf s) b j h q k = absurd q
 below-plain (fin true m e) b j h q k = absurd q
 below-plain (fin false m e) nan j h q k = absurd h
 below-plain (fin false m e) (inf s) j h q k = absurd h
-below-plain (fin false m e) (fin true n d) j h q k = record { le = minus-le (count n d) (100 ^ j) (count m e * 99 ^ j) }
-below-plain (fin false m e) (fin false n d) j h q k = record { le = le→leb (count n d * 100 ^ j) (count m e * 99 ^ j) (k tt) }
+below-plain (fin false m e) (fin true n d) j h q k = record { le = minus-le (inUnits (fin false n d)) (100 ^ j) (inUnits (fin false m e) * 99 ^ j) }
+below-plain (fin false m e) (fin false n d) j h q k = record { le = le→leb (inUnits (fin false n d) * 100 ^ j) (inUnits (fin false m e) * 99 ^ j) (k tt) }
 
 pub falls-whole : {a : Float} {j : ℕ} {b : Float} → Falls a j b → T (finite a) → T (finite b) → (units b *ℤ pos (100 ^ j)) ≤ℤ (units a *ℤ pos (99 ^ j))
 falls-whole {a} (here f) h q = ≤ℤ-refl (units a *ℤ pos 1)
@@ -137,16 +134,16 @@ powers (suc k) j h =
 few : (j x y a b : ℕ) → 1 ≤ b → b * x ≤ a * y → a < 2 ^ 2098 → 0 < y → x < 2 ^ 2098 * y
 few j x y a b h k l Y = lt-of-le-of-lt (le-trans (le-of-eq (sym (one-mul x))) (le-trans (mul-le-mul-right x h) k)) (mul-lt-mul-of-pos-right l Y)
 
-size-under : (a : Float) → T (plain a) → T (fits binary64 a) → size a < 2 ^ 2098
-size-under nan q f = absurd q
-size-under (inf s) q f = absurd q
-size-under (fin s m e) q f = count-under m e (fit-of binary64 s m e f)
+in-range : (a : Float) → T (plain a) → T (fits binary64 a) → inUnits a < 2 ^ 2098
+in-range nan q f = absurd q
+in-range (inf s) q f = absurd q
+in-range (fin s m e) q f = units-under s m e (fit-of binary64 s m e f)
 
-size-pos : (b : Float) → T (positive b) → T (fits binary64 b) → 1 ≤ size b
-size-pos nan q f = absurd q
-size-pos (inf s) q f = absurd q
-size-pos (fin true m e) q f = absurd q
-size-pos (fin false m e) q f = count-pos m e (fit-of binary64 false m e f) (ltb→lt 0 m q)
+from-one : (b : Float) → T (positive b) → T (fits binary64 b) → 1 ≤ inUnits b
+from-one nan q f = absurd q
+from-one (inf s) q f = absurd q
+from-one (fin true m e) q f = absurd q
+from-one (fin false m e) q f = units-pos false m e (fit-of binary64 false m e f) (ltb→lt 0 m q)
 
 positive-plain : (b : Float) → T (positive b) → T (plain b)
 positive-plain nan q = absurd q
@@ -162,7 +159,7 @@ pub from-finite : {a : Float} {j : ℕ} {b : Float} → Falls a j b → T (finit
 from-finite {a} {j} {b} p h q =
     let r = fallen p h (positive-plain b q) in
     lt-of-not-le (λ (g : 144762 ≤ j).
-    not-le-of-lt (few j (100 ^ j) (99 ^ j) (size a) (size b) (size-pos b q (falls-fits p)) (r .1) (size-under a (r .0) (first-fits p)) (one-le-pow j 99 (lit≤ tt))) (powers 2098 j g))
+    not-le-of-lt (few j (100 ^ j) (99 ^ j) (inUnits a) (inUnits b) (from-one b q (falls-fits p)) (r .1) (in-range a (r .0) (first-fits p)) (one-le-pow j 99 (lit≤ tt))) (powers 2098 j g))
 
 -- ---- from an infinite first gap: one improvement more
 -- what stands after the first improvement
@@ -173,7 +170,7 @@ record Tail (j : ℕ) (b : Float) : Type 0 where
   falls : Falls second j b
 
 tail : {a : Float} (j : ℕ) {b : Float} → Falls a (suc j) b → Tail j b
-tail {a} zero (lower g (here f) al l k) = record { second = g; under = mul binary64 mark a; below = l; falls = here k }
+tail {a} zero (lower g (here f) al l k) = record { second = g; under = mul binary64 c0·99 a; below = l; falls = here k }
 tail (suc j) (lower g p al l k) = let t = tail j p in record { second = t .second; under = t .under; below = t .below; falls = lower g (t .falls) al l k }
 
 -- nothing is reached from -infinity
@@ -200,7 +197,7 @@ from-any (suc j) {b} p q = let t = tail j p in suc-le-suc (later (t .second) (t 
 -- +infinity is no improvement
 top-first : {a : Float} {j : ℕ} {b : Float} → Falls a j b → b ≡ inf false → j ≡ 0
 top-first (here f) e = refl
-top-first (lower {b = b} g p al l f) e = absurd (not-top (mul binary64 mark b) (subst (λ (x : Float). T (lt x (mul binary64 mark b))) e l))
+top-first (lower {b = b} g p al l f) e = absurd (not-top (mul binary64 c0·99 b) (subst (λ (x : Float). T (lt x (mul binary64 c0·99 b))) e l))
 
 last : {a : Float} (j : ℕ) (b : Float) → Falls a j b → T (above b) → suc j ≤ 144763
 last j nan p q = absurd q

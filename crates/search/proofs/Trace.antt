@@ -9,7 +9,7 @@ use lib.Dec.{T, T-not, eqb, lit≤}
 use lib.Arith.{le-of-le-suc-ne}
 use lib.Ieee.Fits.{eq→eqb}
 use lib.Ieee.{Float}
-use Rattle.search.specs.Search.{Turn, lost, moved, Problem, Point, Ended, small, spent, stalled, pivot, Next, stop, go, gap, ended, enough, stuck, better, advance, turned, iterate, run}
+use Rattle.search.specs.Search.{Turn, lost, moved, Problem, Point, Ended, small, spent, stalled, pivot, Next, stop, go, ended, enough, stuck, better, advance, turned, iterate, run}
 
 -- the end of an iteration that a bad pivot ends
 abbrev pub afterLoss : {S : Type 0} → Point S → Ended S

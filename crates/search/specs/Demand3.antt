@@ -1,24 +1,18 @@
 -- Demand 3, of the search of any problem: the words and the promise (`Rattle.search.proofs.Demand` proves it). Definitions only.
-use Prim.Native.Nat.{ℕ, _+_, _*_, _/_, _^_, _≤_, _<_}
+use Prim.Native.Nat.{ℕ, _+_, _*_, _^_, _≤_, _<_}
 use mathlib.Core.Path.{_≡_}
-use mathlib.Core.Bool.{Bool, true, false, not}
+use mathlib.Core.Bool.{Bool, true, cond, not}
 use lib.IntN.{ℤ, pos, negℤ, _*ℤ_}
 use lib.Signed.{_≤ℤ_}
 use lib.Dec.{T}
-use lib.Ieee.{Float, nan, inf, fin, up, down}
+use lib.Ieee.{Float, nan, inf, fin}
 use lib.Ieee.Scale.{finite}
+use Rattle.float64.specs.Units.{inUnits, hasMinus}
 use Rattle.search.specs.Search.{Problem, Ended, gap, searched}
 
--- m · 2^e, counted in units of 2^-1074. For a double nothing is cut off (`Shrink.count-is`).
-abbrev pub count : ℕ → ℤ → ℕ
-count m e = m * up e * 2 ^ 1074 / down e
-
--- a finite double as a whole number of units of 2^-1074; 0 for a NaN or an infinity
+-- a finite double as a whole number of units of 2^-1074, with its sign; 0 for a NaN or an infinity. Nothing is cut off (`Rattle.float64.proofs.Doubles`, `units-whole`).
 abbrev pub units : Float → ℤ
-units nan = pos 0
-units (inf s) = pos 0
-units (fin true m e) = negℤ (pos (count m e))
-units (fin false m e) = pos (count m e)
+units x = cond (hasMinus x) (negℤ (pos (inUnits x))) (pos (inUnits x))
 
 -- what is kept of a search with the limit max: its iterations, its improvements J, its first and its best gap
 pub record Kept (max steps gains : ℕ) (first best : Float) : Type 0 where

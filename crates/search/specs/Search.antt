@@ -2,12 +2,8 @@
 use Prim.Native.Nat.{ℕ, zero, suc}
 use mathlib.Core.Bool.{Bool, true, false, cond}
 use lib.Dec.{eqb}
-use lib.Ieee.{Float, binary64, ofBits, lt, le}
-use Rattle.float64.specs.Ops.{_⊖_, _⊗_}
-
--- 0.99
-abbrev pub mark : Float
-mark = ofBits binary64 0x3fef_ae14_7ae1_47ae
+use lib.Ieee.{Float, lt, le}
+use Rattle.float64.specs.Ops.{_⊖_, _⊗_, c0·99}
 
 -- what an iteration does to the state: a bad pivot loses it
 pub data Turn (S : Type 0) : Type 0 where
@@ -64,7 +60,7 @@ stuck p = eqb (p .stall) 10
 
 -- the gap at t is below 0.99 of the best, the product rounded
 abbrev pub better : {S : Type 0} → Problem S → Point S → S → Bool
-better L p t = lt (gap L t) (mark ⊗ p .best)
+better L p t = lt (gap L t) (c0·99 ⊗ p .best)
 
 -- an improvement's gap becomes the best and ends the stall; else the stall count rises
 abbrev pub advance : {S : Type 0} → Problem S → Point S → S → Bool → Point S

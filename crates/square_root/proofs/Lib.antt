@@ -1,3 +1,4 @@
+-- The laws of the square root, its meaning, and known roots.
 pub mod Root
 pub mod Rounded
 pub mod Patterns

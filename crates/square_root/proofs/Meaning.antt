@@ -16,8 +16,8 @@ use Rattle.float64.specs.Ops.{c0}
 use Rattle.square_root.specs.Nearest.{Further, NearestRoot, SquareRoot}
 use Rattle.float64.specs.Units.{inUnits, hasMinus}
 use Rattle.square_root.proofs.Root.{Cmp, cmp}
-use Rattle.float64.proofs.Doubles.{Says, says, double-grid, same-double}
-use Rattle.square_root.proofs.Nearest.{Nearer, digits, kept, root-value, root-fits, root-nearer, squares-ge, squares-lt, squares-grid}
+use Rattle.float64.proofs.Doubles.{Fit, fit-of, double-grid, squares-grid, same-double}
+use Rattle.square_root.proofs.Nearest.{Nearer, digits, kept, root-value, root-fits, root-nearer, squares-ge, squares-lt}
 
 -- ---- a value with no minus is finite and has no minus
 
@@ -54,8 +54,8 @@ module _ (m : ℕ) (e : ℤ) (f : T (fits binary64 (fin false (suc m) e))) where
   abbrev n : ℕ
   n = suc m * up e * 2 ^ 2148 / down e
 
-  h : Says (suc m) e
-  h = says false m e f
+  h : Fit binary64 (suc m) e
+  h = fit-of binary64 false (suc m) e f
 
   value : HasValue (nearestRoot n) false (digits n * 2 ^ kept n) (2 ^ 1074)
   value = root-value n (squares-ge m e h) (squares-lt m e h)
@@ -70,10 +70,10 @@ module _ (m : ℕ) (e : ℤ) (f : T (fits binary64 (fin false (suc m) e))) where
   plus = value-no-minus (nearestRoot n) (digits n * 2 ^ kept n) (2 ^ 1074) value
 
   near : (z : Float) → T (fits binary64 z) → Nearer n (inUnits (nearestRoot n)) (inUnits z)
-  near z g = root-nearer n (squares-ge m e h) (squares-lt m e h) (inUnits z) (squares-grid m e h) (double-grid z g)
+  near z g = root-nearer n (squares-ge m e h) (squares-lt m e h) (inUnits z) (squares-grid false (suc m) e h) (double-grid z g)
 
   than-zero : Nearer n (inUnits (nearestRoot n)) 0
-  than-zero = root-nearer n (squares-ge m e h) (squares-lt m e h) 0 (squares-grid m e h) (0, 0, lit< tt, refl)
+  than-zero = root-nearer n (squares-ge m e h) (squares-lt m e h) 0 (squares-grid false (suc m) e h) (0, 0, lit< tt, refl)
 
   nearest-of : NearestRoot (fin false (suc m) e) (nearestRoot n)
   nearest-of = record {

@@ -17,7 +17,7 @@ use lib.Ieee.Bits.{is-true}
 use Rattle.square_root.specs.Sqrt.{isqrt, nearestRoot}
 use Rattle.float64.specs.Units.{inUnits}
 use Rattle.square_root.proofs.Root.{Cmp, cmp, Root, sq-back, isqrt-root}
-use Rattle.float64.proofs.Doubles.{Grid, Says, placed}
+use Rattle.float64.proofs.Doubles.{Grid, Fit}
 
 -- r is nearer to the root of n than any other z: the half way between the two, (r + z) / 2, lies beyond the root. Both sides are
 -- squared, and multiplied by 4.
@@ -194,17 +194,14 @@ root-fits n a b = subst (λ (y : Float). T (fits binary64 y)) (sym (nearestRoot-
 
 -- ---- a double above zero
 
-module _ (m : ℕ) (e : ℤ) (h : Says (suc m) e) where
+module _ (m : ℕ) (e : ℤ) (h : Fit binary64 (suc m) e) where
   pub squares-ge : 2 ^ 104 ≤ suc m * up e * 2 ^ 2148 / down e
   squares-ge =
       le-trans (lit≤ {m = 2 ^ 104} {n = 2 ^ 1074} tt)
       (le-div-iff-mul-le (down-pos e) .1
-      (le-trans (mul-le-mul-left (2 ^ 1074) (h .1)) (mul-le-mul-right (2 ^ 2148) (mul-pos (zero-lt-suc m) (up-pos e)))))
+      (le-trans (mul-le-mul-left (2 ^ 1074) (h .fine)) (mul-le-mul-right (2 ^ 2148) (mul-pos (zero-lt-suc m) (up-pos e)))))
 
   pub squares-lt : suc m * up e * 2 ^ 2148 / down e < 2 ^ 3172
   squares-lt =
       div-lt-iff-lt-mul (down-pos e) .1
-      (lt-of-lt-of-le (mul-lt-mul-of-pos-right (h .2) (pow-pos 2148)) (le-of-eq (mul-right-comm (2 ^ 1024) (down e) (2 ^ 2148))))
-
-  pub squares-grid : Grid (suc m * up e * 2 ^ 2148 / down e)
-  squares-grid = let p = placed 2148 (suc m) e (le-trans (h .1) (pow-mono (lit≤ {m = 1074} {n = 2148} tt))) in (suc m, p .0, h .0, p .1)
+      (lt-of-lt-of-le (mul-lt-mul-of-pos-right (h .under) (pow-pos 2148)) (le-of-eq (mul-right-comm (2 ^ 1024) (down e) (2 ^ 2148))))

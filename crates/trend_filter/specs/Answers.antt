@@ -59,4 +59,4 @@ pub record Answered (a : Asked) (l : Lent) (r : Answer) (t₀ t c₀ c : List Fl
   pub work : Kept 0 (40 * length (a .y)) w₀ w
   pub marks : KeptOf 0 0 (2 * length (a .y)) m₀ m
   -- the bounds of demand 3 on a fit's numbers
-  pub bounds : (f : FitOf) → fit a l ≡ fitted f → Bounds (a .limit) f
+  pub bounds : (f : FitOf) → fit a l ≡ fitted f → Bounds (a .max-iter) f

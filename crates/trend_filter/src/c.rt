@@ -1,7 +1,7 @@
 // The fit for callers in C: 0 for a fit, else the refusal's number.
 ghost use mathlib.Core.Path.{_≡_};
 ghost use lib.ListN.{length};
-ghost use Rattle.questions.specs.Groups.{asking, lending};
+ghost use Rattle.questions.specs.Asking.{asking, lending};
 ghost use Rattle.trend_filter.specs.Calls.{oneIf, numbersOf, countsOf, Called};
 use crate::Answer;
 use crate::Summary;

@@ -7,7 +7,7 @@ ghost use Rattle.vectors.specs.Vec.{part, Kept};
 ghost use Rattle.differences.specs.Diff.{gramRow};
 ghost use Rattle.gram.specs.Gram.{zstar, lamMax};
 ghost use Rattle.fit.specs.Fit.{fitZero, fitFlat};
-ghost use Rattle.questions.specs.Groups.{asking};
+ghost use Rattle.questions.specs.Asking.{asking};
 ghost use Rattle.trend_filter.specs.Inner.{Room, closedOf, WroteOut, Shows};
 use crate::Summary;
 
@@ -65,7 +65,7 @@ pub fn fit_zero(
 ) -> Summary
     requires { ⌜ Room k (length (now y)) (length (now trend)) (length (now cycle)) (length (now knots))
         × («lam_max» ≡ lamMax k (gramRow k) (length (now y) - k) (now y)) ⌝ }
-    ensures { λ r. ⌜ ((lam tol : Float) (limit penalty : ℕ) → Shows (fitZero (asking (now (y .entry)) lam tol limit k penalty)) r
+    ensures { λ r. ⌜ ((lam tol : Float) (max-iter penalty : ℕ) → Shows (fitZero (asking (now (y .entry)) lam tol max-iter k penalty)) r
         (now (trend .entry)) (now (trend .exit)) (now (cycle .entry)) (now (cycle .exit)) (now (knots .entry)) (now (knots .exit))) ⌝ }
 {
     let count = write_out(trend, cycle, knots, y, y, k);
@@ -86,7 +86,7 @@ pub fn fit_flat(
     requires { ⌜ Room k (length (now y)) (length (now trend)) (length (now cycle)) (length (now knots))
         × ((40 * length (now y) ≤ length (now work)) × ((«lam_max» ≡ lamMax k (gramRow k) (length (now y) - k) (now y))
         × (part ((length (now y) - k) * (k + 1)) (length (now y) - k) (now work) ≡ zstar k (gramRow k) (length (now y) - k) (now y)))) ⌝ }
-    ensures { λ r. ⌜ ((tol : Float) (limit penalty : ℕ) → Shows (fitFlat (asking (now (y .entry)) lam tol limit k penalty)) r
+    ensures { λ r. ⌜ ((tol : Float) (max-iter penalty : ℕ) → Shows (fitFlat (asking (now (y .entry)) lam tol max-iter k penalty)) r
         (now (trend .entry)) (now (trend .exit)) (now (cycle .entry)) (now (cycle .exit)) (now (knots .entry)) (now (knots .exit)))
         × Kept 0 (40 * length (now (y .entry))) (now (work .entry)) (now (work .exit)) ⌝ }
 {

@@ -12,7 +12,7 @@ ghost use Rattle.differences.specs.Diff.{gramRow};
 ghost use Rattle.gram.specs.Gram.{zstar, lamMax};
 ghost use Rattle.questions.specs.Questions.{question};
 ghost use Rattle.fit.specs.Fit.{fitL1, fitL2, fitBy, fit};
-ghost use Rattle.questions.specs.Groups.{asking, lending};
+ghost use Rattle.questions.specs.Asking.{asking, lending};
 ghost use Rattle.trend_filter.specs.Answers.{Gives, Answered};
 ghost use Rattle.trend_filter.specs.Inner.{Room, Prepared, Shows};
 use gram::Peak;
@@ -56,7 +56,7 @@ fn fit_l2(
 ) -> Answer
     requires { ⌜ Room k (length (now y)) (length (now trend)) (length (now cycle)) (length (now knots))
         × ((40 * length (now y) ≤ length (now work)) × («lam_max» ≡ lamMax k (gramRow k) (length (now y) - k) (now y))) ⌝ }
-    ensures { λ r. ⌜ ((tol : Float) (limit penalty : ℕ) → Gives (fitL2 (asking (now (y .entry)) lam tol limit k penalty)) r
+    ensures { λ r. ⌜ ((tol : Float) (max-iter penalty : ℕ) → Gives (fitL2 (asking (now (y .entry)) lam tol max-iter k penalty)) r
         (now (trend .entry)) (now (trend .exit)) (now (cycle .entry)) (now (cycle .exit)) (now (knots .entry)) (now (knots .exit)))
         × Kept 0 (16 * length (now (y .entry))) (now (work .entry)) (now (work .exit)) ⌝ }
 {

@@ -7,7 +7,7 @@ ghost use Rattle.vectors.specs.Vec.{Kept, KeptOf};
 ghost use Rattle.differences.specs.Diff.{diffK, gramRow};
 ghost use Rattle.gram.specs.Gram.{lamMax};
 ghost use Rattle.fit.specs.Fit.{fitEnd, searchOf};
-ghost use Rattle.questions.specs.Groups.{asking};
+ghost use Rattle.questions.specs.Asking.{asking};
 ghost use Rattle.trend_filter.specs.Inner.{Room, Shows};
 ghost use Rattle.trend_filter.specs.Search.{Reached, searchedOf};
 use crate::Summary;

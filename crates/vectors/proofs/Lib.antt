@@ -1,3 +1,4 @@
+-- The laws of vectors.
 pub mod Laws
 pub mod Parts
 pub mod Texts

@@ -1,12 +1,12 @@
 -- Laws of a part of a run, and of a run with a part put back. Assumes nothing.
 use mathlib.Core.Path.{_≡_, refl, sym, ap, _∙_}
 use mathlib.Core.Logic.{_⊎_, inl, inr, ⊎-elim}
-use mathlib.Core.List.{List, _++_, append-assoc}
+use mathlib.Core.List.{List, _++_}
 use Prim.Native.Nat.{ℕ, zero, _+_, _-_, _≤_, _<_}
 use native.Mathlib.Nat.{zero-add, eq-zero-or-pos}
 use native.Mathlib.Omega.{arith}
 use lib.ListN.{length, getD, take, drop, length-append, length-drop}
-use lib.Seq.{ext-getD, take-at, drop-at, drop-drop, length-take-le, getD-drop, getD-take}
+use lib.Seq.{ext-getD, take-at, drop-at, length-take-le, getD-drop, getD-take}
 use lib.Ieee.{Float, nan}
 use Rattle.vectors.specs.Vec.{at, list, partOf, part, WrittenOf, KeptOf, Kept}
 use Rattle.vectors.proofs.Laws.{length-list, getD-list, list-ext}

@@ -1,5 +1,5 @@
 -- Laws of the sums and of the bound: one more term. Assumes nothing.
-use mathlib.Core.Path.{_≡_, refl, sym, ap, _∙_}
+use mathlib.Core.Path.{_≡_, refl}
 use Prim.Native.Nat.{ℕ, zero, suc, _+_, _<_}
 use mathlib.Core.Logic.{⊎-elim}
 use native.Mathlib.Nat.{le-of-suc-le-suc, eq-or-lt-of-le}
@@ -29,11 +29,11 @@ pub inside-more : (lam : Float) (v : List Float) (n : ℕ) (a b : Bool) → a �
 unfolding insideTo
 inside-more lam v n a b e h = rw (add-one n, h, e)
 
--- inside says it of every place
-both : (a b : Bool) → a && b ≡ true → (a ≡ true) × (b ≡ true)
+pub both : (a b : Bool) → a && b ≡ true → (a ≡ true) × (b ≡ true)
 both true b e = (refl, e)
 both false b e = (e, cc)
 
+-- inside says it of every place
 pub inside-at : (lam : Float) (v : List Float) (n i : ℕ) → insideTo lam v n ≡ true → i < n → lt (absOf (at v i)) lam ≡ true
 unfolding insideTo
 inside-at lam v zero i e h = absurd (omega arith)

@@ -13,7 +13,7 @@ use Rattle.trend_filter.specs.Answers.{summaryOf}
 
 -- what is asked for
 abbrev pub asked : Settings → List Float → Asked
-asked st y = record { y = y; lam = st .lam; tol = st .tol; limit = st .«max_iter»; order = st .order; penalty = st .penalty }
+asked st y = record { y = y; lam = st .lam; tol = st .tol; max-iter = st .«max_iter»; order = st .order; penalty = st .penalty }
 
 -- the lengths lent: enough for 168 hours, so that questions 8 and 9 are always answered yes
 abbrev pub lent : Lent

@@ -1,4 +1,4 @@
-use mathlib.Core.Path.{_≡_, sym, _∙_}
+use mathlib.Core.Path.{_≡_, sym}
 use native.Mathlib.Omega.{arith}
 use Rattle.differences.proofs.Laws.{at-diff-1, at-diff-2}
 use borrow.Author.Needs.{needs}

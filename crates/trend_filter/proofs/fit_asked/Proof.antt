@@ -5,7 +5,7 @@ use native.Mathlib.Omega.{arith}
 use borrow.Author.Tests.{not-true, not-false}
 use lib.ListN.{length}
 use Rattle.vectors.proofs.Laws.{kept-none, kept-then}
-use Rattle.questions.specs.Groups.{asking, lending}
+use Rattle.questions.specs.Asking.{asking, lending}
 use Rattle.questions.proofs.Laws.{passed}
 use Rattle.trend_filter.proofs.Laws.{gives-refused, gives-same, sound-fit, unsound-fit}
 use Rattle.trend_filter.proofs.fit_asked.Statement.{statement}

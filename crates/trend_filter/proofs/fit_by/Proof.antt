@@ -3,7 +3,7 @@ use Prim.Native.Nat.{_-_, _*_}
 use native.Mathlib.Omega.{arith}
 use lib.ListN.{length}
 use Rattle.vectors.proofs.Laws.{kept-none, kept-then}
-use Rattle.questions.specs.Groups.{asking}
+use Rattle.questions.specs.Asking.{asking}
 use Rattle.trend_filter.proofs.Laws.{gives-fit, gives-same, by-1, by-2}
 use Rattle.trend_filter.proofs.fit_by.Statement.{statement}
 use Rattle.trend_filter.proofs.fit_by.Tie as tie

@@ -2,7 +2,7 @@ use borrow.Author.Needs.{needs}
 use Prim.Native.Nat.{_-_, _*_}
 use lib.ListN.{length}
 use Rattle.vectors.proofs.Laws.{kept-none}
-use Rattle.questions.specs.Groups.{asking}
+use Rattle.questions.specs.Asking.{asking}
 use Rattle.trend_filter.proofs.Laws.{shows-same, l1-zero, l1-flat, l1-search}
 use Rattle.trend_filter.proofs.fit_l1.Statement.{statement}
 use Rattle.trend_filter.proofs.fit_l1.Tie as tie

@@ -9,7 +9,7 @@ use lib.Seq.{length-take-le}
 use lib.Ieee.{Float}
 use Rattle.vectors.specs.Vec.{part}
 use Rattle.vectors.proofs.Laws.{kept-none, kept-then}
-use Rattle.questions.specs.Groups.{asking}
+use Rattle.questions.specs.Asking.{asking}
 use Rattle.l2.specs.L2.{trendL2, gapL2, objectiveL2}
 use Rattle.trend_filter.specs.Inner.{closedOf}
 use Rattle.trend_filter.proofs.Laws.{gives-refused, gives-fit, gives-same, closed-shows, l2-sound, l2-unsound}
@@ -34,8 +34,8 @@ returns c = let q = c .before .before .before .before .before .before .before .b
     let h = q .pre .0 in
     let top : n * (k + 1) ≤ n * 3 = mul-le-mul-left n (omega (arith, h .high)) in
     let so = c .before .before .before .solve-l2 in (
-      λ tol limit penalty.
-          gives-same (l2-unsound (asking y (p .lam) tol limit k penalty) (sym (so .ensures .sound) ∙ not-true _ (c .if1 .taken)))
+      λ tol max-iter penalty.
+          gives-same (l2-unsound (asking y (p .lam) tol max-iter k penalty) (sym (so .ensures .sound) ∙ not-true _ (c .if1 .taken)))
           (gives-refused 10 (p .trend .now) (p .cycle .now) (p .knots .now)),
       kept-then 0 (16 * n) (so .ensures .kept) (kept-none 0 0 (so .last .0)) (omega arith) (omega arith) (omega arith) (omega arith),
     )
@@ -65,8 +65,8 @@ returns-2 c = let q = c .before .before .before .before .before .before .before 
     let ga = l2-gap k y (p .lam) w x t (ob .result) a b e refl refl fi sz held (ob .ensures) in
     let oj = l2-objective k y (p .lam) w x t (ob .result) a b e refl refl fi sz held (ob .ensures) in
     let tr = l2-trend k y (p .lam) w x t (ob .result) a b e refl refl fi sz held (ob .ensures) in (
-      λ tol limit penalty.
-          let A = asking y (p .lam) tol limit k penalty in
+      λ tol max-iter penalty.
+          let A = asking y (p .lam) tol max-iter k penalty in
           gives-same (l2-sound A (sym (so .ensures .sound) ∙ yes))
           (gives-fit
           (closed-shows A t (gapL2 k y (p .lam) t) (objectiveL2 k y (p .lam) t)

@@ -4,7 +4,7 @@ use Prim.Native.Nat.{_-_, _*_}
 use borrow.Author.Tests.{ne-eqb}
 use lib.ListN.{length}
 use Rattle.vectors.proofs.Laws.{kept-none}
-use Rattle.questions.specs.Groups.{asking, lending}
+use Rattle.questions.specs.Asking.{asking, lending}
 use Rattle.trend_filter.proofs.Laws.{gives-refused, gives-same, not-early}
 use Rattle.fit.proofs.Passed.{fit-refused}
 use Rattle.fit.proofs.Demand3.{bounds}

@@ -7,7 +7,7 @@ use lib.Seq.{length-take-le}
 use lib.Ieee.{Float}
 use Rattle.float64.specs.Ops.{_⊖_}
 use Rattle.vectors.specs.Vec.{part}
-use Rattle.questions.specs.Groups.{asking}
+use Rattle.questions.specs.Asking.{asking}
 use Rattle.differences.specs.Diff.{diffK, gramRow}
 use Rattle.differences.proofs.Laws.{length-diffK}
 use Rattle.gram.specs.Gram.{zstar}
@@ -65,8 +65,8 @@ returns c = let q = c .before .before .before .before .before .before .before .b
     let pr = flat-primal k y (p .lam) w x z (ce .result .primal) (ce .result .dual) s a e le st refl fi sz star (ce .ensures) in
     let du = flat-dual k y (p .lam) w x z (ce .result .primal) (ce .result .dual) s a e le st refl fi sz star (ce .ensures) in
     let tr = flat-trend k y (p .lam) w x z (ce .result .primal) (ce .result .dual) s a e le st refl fi sz star (ce .ensures) in (
-      λ tol limit penalty.
-          closed-shows (asking y (p .lam) tol limit k penalty) (d .trend) (gapOf d) (d .primal)
+      λ tol max-iter penalty.
+          closed-shows (asking y (p .lam) tol max-iter k penalty) (d .trend) (gapOf d) (d .primal)
           (c .closed .ensures ∙ ap₂ (λ (u v : Float). closedOf (wo .result) (p .lam-max) (u ⊖ v) u) pr du) (q .pre .1 .1 .0)
           (wrote-over (p .cycle .now) (diffK k y) _ (c .before .before .before .before .before .before .before .before .before .before .before .before .before .before .before .before .before .before .before .before .before .diff-k .ensures) (omega (arith, length-diffK k y)) (wrote-as _ (d .trend) tr (wo .ensures))),
       flat-kept k y (p .lam) w x z (ce .result .primal) (ce .result .dual) s a e le st refl fi sz star (ce .ensures) (40 * n) (omega (arith, h .long, ra .1 .1)),

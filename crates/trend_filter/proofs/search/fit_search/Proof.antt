@@ -6,7 +6,7 @@ use lib.ListN.{length, take}
 use Rattle.vectors.proofs.Laws.{kept-none, kept-then}
 use Rattle.differences.specs.Diff.{diffK}
 use Rattle.differences.proofs.Laws.{length-diffK}
-use Rattle.questions.specs.Groups.{asking}
+use Rattle.questions.specs.Asking.{asking}
 use Rattle.trend_filter.proofs.Laws.{take-put}
 use Rattle.trend_filter.proofs.Wrote.{wrote-over}
 use Rattle.trend_filter.proofs.Won.{length-either, search-shows}

@@ -11,7 +11,7 @@ use Rattle.vectors.specs.Vec.{part}
 use Rattle.vectors.proofs.Laws.{kept-then}
 use Rattle.vectors.proofs.Parts.{part-below}
 use Rattle.differences.specs.Diff.{diffK, gramRow}
-use Rattle.questions.specs.Groups.{asking}
+use Rattle.questions.specs.Asking.{asking}
 use Rattle.dual_point.specs.Dual.{Dual}
 use Rattle.certificate.specs.Certificate.{certify}
 use Rattle.polish.specs.Polish.{polish}
