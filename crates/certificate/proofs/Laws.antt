@@ -61,13 +61,17 @@ edge-in m w j a b = rw (lt-ltb 0 j a, lt-ltb (j - 1) m (omega arith))
 pub edge-past : (m : ℕ) (w : ℕ → Float) (j : ℕ) → m < j → before (here m w) j ≡ c0
 edge-past m w j a = rw (lt-ltb 0 j (omega arith), le-ltb (j - 1) m (omega arith))
 
-pub fall-edges : (m : ℕ) (w : ℕ → Float) (j : ℕ) → j ≤ m → fall m w j ≡ before (here m w) j ⊖ before (here m w) (j + 1)
+fall-edges : (m : ℕ) (w : ℕ → Float) (j : ℕ) → j ≤ m → fall m w j ≡ before (here m w) j ⊖ before (here m w) (j + 1)
 fall-edges m w j h =
     let p : before w j ≡ before (here m w) j =
     cond-cong (ltb 0 j) (w (j - 1)) (here m w (j - 1)) c0 (λ t. let l = ltb-true 0 j t in sym (rw (lt-ltb (j - 1) m (omega arith)))) in
     let d : j + 1 - 1 ≡ j = omega arith in
     let q : here m w j ≡ before (here m w) (j + 1) = rw (lt-ltb 0 (j + 1) (omega arith), d) in
     ap₂ (λ (x y : Float). x ⊖ y) p q
+
+-- and of its transposed first differences, by such reads
+pub edge-fall : (m : ℕ) (w : ℕ → Float) (j : ℕ) → 0 < j → j ≤ m + 1 → before (here (m + 1) (fall m w)) j ≡ before (here m w) (j - 1) ⊖ before (here m w) j
+edge-fall m w j a b = let d : j - 1 + 1 ≡ j = omega arith in edge-in (m + 1) (fall m w) j a b ∙ (rw d at (fall-edges m w (j - 1) (omega arith)))
 
 -- place j of D' by such reads, for order 1 and 2
 pub edges-1 : (v : List Float) (m j : ℕ) → length v ≡ m → j < m + 1 → at (diffKT 1 v) j ≡ before (here m (at v)) j ⊖ before (here m (at v)) (j + 1)

@@ -1,13 +1,13 @@
 use borrow.Author.Needs.{needs}
 use mathlib.Core.Path.{_≡_, _∙_}
-use Prim.Native.Nat.{suc, _≤_, _-_, _+_}
+use Prim.Native.Nat.{_≤_, _-_, _+_}
 use native.Mathlib.Omega.{arith}
 use native.Mathlib.Nat.{sub-self}
 use lib.Ieee.{binary64, mul, ofBits}
-use Rattle.vectors.specs.Vec.{at}
+use Rattle.vectors.specs.Vec.{at, apart}
 use Rattle.gram.specs.Gram.{product}
 use Rattle.vectors.specs.Sums.{more}
-use Rattle.vectors.specs.Vec.{apart}
+use Rattle.vectors.proofs.Sums.{more-more}
 use Rattle.gram.proofs.product_any.Statement.{statement}
 use Rattle.gram.proofs.product_any.Tie as tie
 
@@ -28,19 +28,18 @@ array-read-v : tie.Need-array-read-v Inv-loop μ-loop
 array-read-v c = omega (arith, c .apart .ensures)
 
 loop-again : tie.Need-loop-again Inv-loop μ-loop
-unfolding more
-loop-again c = let l = c .before .before .before in
-    let lo = l .before .before .over .result in
-    let j = l .loop .j in
-    let e : j + 1 - lo ≡ suc (j - lo) = omega arith in
+loop-again c = let lp = c .before .before .before in
+    let lo = lp .before .before .over .result in
+    let j = lp .loop .j in
     let f : lo + (j - lo) ≡ j = omega arith in
-    (search needs, search needs, rw (e, f) (cc))
+    (search needs, search needs, more-more _ _ (j - lo) (lp .loop .inv .2) (rw (f, c .before .apart .ensures)) (omega arith))
 
 returns : tie.Need-returns Inv-loop μ-loop
 unfolding product
-returns c = let l = c .before in
-    let e : l .loop .j ≡ l .before .smaller .result = omega arith in
-    rw (e ∙ l .before .smaller .ensures, l .before .before .over .ensures) at (l .loop .inv .2)
+returns c = let lp = c .before in
+    let sm = lp .before in
+    let e : lp .loop .j ≡ sm .smaller .result = omega arith in
+    rw (e ∙ sm .smaller .ensures, sm .before .over .ensures) at (lp .loop .inv .2)
 
 pub product-any-spec : {M : Type 1} → statement M
 product-any-spec =

@@ -43,7 +43,7 @@ returns-2 c = let r3 = c .before .before in
     let g = sc .stencil .result in
     let low : k + 1 ≤ m = omega arith in
     let first = r1 .ridge-rows2 .ensures (a .s .now) (laid-none k (ridge k g (a .lam) n) (a .s .now)) in
-    let inner = laid-repeat first (re .repeat .ensures) (omega arith) low (rows-span (k + 1) m low) (λ i j h l u. ridge-alike k g (a .lam) n i j (omega arith) l u) in
+    let inner = laid-repeat {a = ridge k g (a .lam) n} first (re .repeat .ensures) (omega arith) low (rows-span (k + 1) m low) (λ i j h l u. ridge-alike k g (a .lam) n i j (omega arith) l u) in
     rw (sc .stencil .ensures) at (r3 .ridge-rows3 .ensures (a .s .now) inner)
 
 pub fill-ridge-spec : {M : Type 1} → statement M

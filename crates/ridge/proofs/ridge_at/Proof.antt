@@ -11,7 +11,7 @@ use Rattle.ridge.proofs.ridge_at.Statement.{statement}
 use Rattle.ridge.proofs.ridge_at.Tie as tie
 
 abbrev Inv-loop : tie.InvT-loop
-Inv-loop lam k n i p c j lo hi v₀ r₀ v r = (lo ≤ r) × ((r ≤ hi) × (v ≡ more v₀ (λ t. share c lam i (i + p - k) (lo + t)) (r - lo)))
+Inv-loop lam k n i p c j lo hi v₀ r₀ v r = (lo ≤ r) × (r ≤ hi) × (v ≡ more v₀ (λ t. share c lam i (i + p - k) (lo + t)) (r - lo))
 
 abbrev μ-loop : tie.MeasureT-loop
 μ-loop lam k n i p c j lo hi v₀ r₀ v r = hi - r
@@ -22,14 +22,14 @@ returns c = simp (lt-ltb _ _ (c .if1 .taken))
 
 loop-holds : tie.Need-loop-holds Inv-loop μ-loop
 unfolding more
-loop-holds c = (search needs, (omega arith, rw sub-self))
+loop-holds c = (search needs, omega arith, rw sub-self)
 
 loop-again : tie.Need-loop-again Inv-loop μ-loop
 loop-again c = let lp = c .before in
     let lo = lp .before .before .before .over .result in
     let r = lp .loop .r in
     let f : lo + (r - lo) ≡ r = omega arith in
-    (search needs, (search needs, more-more _ _ (r - lo) (lp .loop .inv .1 .1) (rw f) (omega arith)))
+    (search needs, search needs, more-more _ _ (r - lo) (lp .loop .inv .2) (rw f) (omega arith))
 
 returns-2 : tie.Need-returns-2 Inv-loop μ-loop
 unfolding ridge
@@ -37,7 +37,7 @@ returns-2 c = let lp = c .before in
     let sm = lp .before .before in
     let e : lp .loop .r ≡ sm .smaller .result = omega arith in
     simp (le-ltb _ _ (sm .before .before .if1 .left))
-    (rw (e ∙ sm .smaller .ensures, sm .before .over .ensures, lp .before .start .ensures) at (lp .loop .inv .1 .1))
+    (rw (e ∙ sm .smaller .ensures, sm .before .over .ensures, lp .before .start .ensures) at (lp .loop .inv .2))
 
 pub ridge-at-spec : {M : Type 1} → statement M
 ridge-at-spec =
