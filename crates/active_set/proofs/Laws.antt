@@ -11,11 +11,14 @@ use borrow.Author.Tests.{eq-eqb, ne-eqb}
 use lib.Dec.{eqb}
 use lib.ListN.{length, getD, set, length-append, length-set, List·getD-append}
 use lib.Seq.{getD-at, getD-set-same, getD-set-other}
-use lib.Ieee.{Float}
+use lib.Ieee.{Float, lt}
+use Rattle.float64.specs.Ops.{_⊕_, _⊖_}
 use Rattle.vectors.specs.Vec.{at, KeptOf}
 use Rattle.vectors.proofs.Laws.{list-ext}
+use Rattle.vectors.proofs.Parts.{at-part}
+use Rattle.dual_point.specs.Places.{point}
 use Rattle.banded.specs.Rows.{Matrix, matrix}
-use Rattle.active_set.specs.ActiveSet.{Hold, free, at-lam, at-minus-lam, isFree, freeTo, compressed, lessHeld, lessTo, rightOf}
+use Rattle.active_set.specs.ActiveSet.{Hold, free, at-lam, at-minus-lam, isFree, holdAt, freeTo, compressed, lessHeld, lessTo, rightOf}
 use Rattle.active_set.specs.Marks.{markOf, holdOf, Marks}
 
 -- ---- marks
@@ -39,6 +42,12 @@ free-place {A} x u v e = ap (λ (b : Bool). cond b u v) (free-mark x ∙ eq-eqb 
 
 pub held-place : {A : Type 0} (x : ℕ) (u v : A) → (x ≡ 0 → ⊥) → cond (isFree (holdOf x)) u v ≡ v
 held-place {A} x u v e = ap (λ (b : Bool). cond b u v) (free-mark x ∙ ne-eqb x 0 e)
+
+-- how a place is held, read from the run in which the point stands from a on
+pub hold-place : (lam : Float) (a m : ℕ) (s : List Float) (i : ℕ) → i < m
+    → holdAt lam (point a m s) i ≡ cond (lt (lam ⊖ at s (a + i)) (at s (a + m + i))) at-lam (cond (lt (lam ⊕ at s (a + i)) (at s (a + m + m + i))) at-minus-lam free)
+unfolding holdAt
+hold-place lam a m s i l = rw (at-part a m s i (a + i) l refl, at-part (a + m) m s i (a + m + i) l refl, at-part (a + m + m) m s i (a + m + m + i) l refl)
 
 -- ---- how many free places there are
 

@@ -5,22 +5,10 @@ ghost use Prim.Native.Nat.{_≤_, _+_, _*_};
 ghost use lib.ListN.{length};
 ghost use lib.Ieee.{isNan};
 ghost use Rattle.vectors.specs.Vec.{at, list, part, Kept};
-ghost use Rattle.newton_system.specs.Newton.{squareAt, squares, norm};
+ghost use Rattle.newton_system.specs.Newton.{squares, norm};
 ghost use Rattle.dual_point.specs.Places.{point};
 ghost use Rattle.line_search.specs.LineSearch.{capped, capTo, along, lower};
 ghost use Rattle.line_search.specs.Places.{dmuAt, Lane, Directed, PointRoom, LineRoom, Attempted, Searched};
-
-// What one place adds to the square of the residual: q is (D D') z there, u is 1 / t.
-fn residual_of(q: f64, dy: f64, z: f64, mu1: f64, mu2: f64, lam: f64, u: f64) -> f64
-    ensures { λ r. ⌜ r ≡ squareAt lam u q dy z mu1 mu2 ⌝ }
-{
-    let f1 = z - lam;
-    let f2 = -z - lam;
-    let rd = q - dy + mu1 - mu2;
-    let rc1 = -mu1 * f1 - u;
-    let rc2 = -mu2 * f2 - u;
-    rd * rd + rc1 * rc1 + rc2 * rc2
-}
 
 // The square of the residual at the point in the first places of s.
 fn residual(s: &[f64], dy: &[f64], lam: f64, u: f64, g: [f64; 3], k: usize, m: usize) -> f64
@@ -31,7 +19,7 @@ fn residual(s: &[f64], dy: &[f64], lam: f64, u: f64, g: [f64; 3], k: usize, m: u
     let mut i = 0;
     while i < m {
         let q = gram::product(&s[0..m], g, k, i);
-        let e = residual_of(q, dy[i], s[i], s[m + i], s[m + m + i], lam, u);
+        let e = newton_system::residual_of(q, dy[i], s[i], s[m + i], s[m + m + i], lam, u);
         a = a + e;
         i += 1;
     }

@@ -11,7 +11,9 @@ use Rattle.vectors.proofs.Parts.{length-part}
 use Rattle.banded.specs.Rows.{sound}
 use Rattle.square_root.specs.Sqrt.{sqrtOf}
 use Rattle.dual_point.specs.Dual.{Dual}
-use Rattle.newton_system.specs.Newton.{system, newtonZ, squares, norm}
+use Rattle.newton_system.specs.Newton.{system, newtonZ, norm}
+use Rattle.newton_system.specs.Rows.{NewtonSolved}
+use Rattle.newton_system.specs.declared.Solved.{Solved}
 use Rattle.line_search.specs.LineSearch.{Trial, direction, capTo, trials, searchLine, taken}
 use Rattle.vectors.specs.Sums.{inside}
 use Rattle.dual_point.specs.Places.{point}
@@ -46,31 +48,30 @@ take-done lam m p e s₁ s₂ s₃ step within q b f w h =
 
 -- ---- the whole step
 
-module _ (k : ℕ) (g dy : List Float) (lam u : Float) (m n : ℕ) (s₀ s₁ : List Float) (good : Bool)
-    (sums : n ≡ m * (k + 1)) (is-sound : good ≡ sound k (system k g lam (point 0 m s₀)) m) (kept : Kept (6 * m) (n + m) s₀ s₁) where
-  pub lost-step : good ≡ false → Stepped k g dy lam u 0 m s₀ s₁ Lost
+module _ (k : ℕ) (g dy : List Float) (lam u : Float) (m : ℕ) (s₀ s₁ : List Float) (w : Solved) (z : NewtonSolved k g dy lam u (6 * m) m s₀ s₁ w) where
+  pub lost-step : w .good ≡ false → Stepped k g dy lam u 0 m s₀ s₁ Lost
   lost-step f =
-      let z : sound k (system k g lam (point 0 m s₀)) m ≡ false = sym is-sound ∙ f in
+      let no : sound k (system k g lam (point 0 m s₀)) m ≡ false = sym (z .answer) ∙ f in
       record {
-        answer = rw z;
-        moves = point-below 0 m kept (omega arith) ∙ rw z;
-        kept = kept-then 0 (stepArea k m) kept (kept-none 0 0 s₁) (omega arith) (omega arith) (omega arith) (omega arith);
+        answer = rw no;
+        moves = point-below 0 m (z .kept) (omega arith) ∙ rw no;
+        kept = kept-then 0 (stepArea k m) (z .kept) (kept-none 0 0 s₁) (omega arith) (omega arith) (omega arith) (omega arith);
       }
 
-  pub moved-step : (acc cap old step : Float) (within : Bool) (s₂ s₃ s₄ : List Float) (b : ℕ) → good ≡ true → b ≡ 6 * m + n
-      → acc ≡ squares k g dy lam u (point 0 m s₀) → part b m s₁ ≡ newtonZ k g dy lam u (point 0 m s₀) → Directed lam u b m s₁ s₂ cap
-      → old ≡ sqrtOf acc → Searched k g dy lam u m b cap old s₂ s₃ step within
+  pub moved-step : (cap old step : Float) (within : Bool) (s₂ s₃ s₄ : List Float) (b : ℕ) → w .good ≡ true → b ≡ 6 * m + m * (k + 1)
+      → Directed lam u b m s₁ s₂ cap → old ≡ sqrtOf (w .acc) → Searched k g dy lam u m b cap old s₂ s₃ step within
       → point 0 m s₄ ≡ cond within (point (3 * m) m s₃) (point 0 m s₃) → Kept 0 (3 * m) s₃ s₄
       → Stepped k g dy lam u 0 m s₀ s₄ (Moved step)
   unfolding norm
-  moved-step acc cap old step within s₂ s₃ s₄ b f at-b e d v o line h x =
-      let z : sound k (system k g lam (point 0 m s₀)) m ≡ true = sym is-sound ∙ f in
-      let p : point 0 m s₁ ≡ point 0 m s₀ = point-below 0 m kept (omega arith) in
+  moved-step cap old step within s₂ s₃ s₄ b f at-b v o line h x =
+      let yes : sound k (system k g lam (point 0 m s₀)) m ≡ true = sym (z .answer) ∙ f in
+      let p : point 0 m s₁ ≡ point 0 m s₀ = point-below 0 m (z .kept) (omega arith) in
       let p₂ : point 0 m s₂ ≡ point 0 m s₀ = point-below 0 m (v .kept) (omega arith) ∙ p in
+      let d : part b m s₁ ≡ newtonZ k g dy lam u (point 0 m s₀) = rw at-b (z .dz f) in
       let all = stepArea k m in
-      let found = line-done k g dy lam u m b cap old s₀ s₂ s₃ step within p₂ (v .ways ∙ λ i. direction lam u (p i) (d i)) (v .cap-is ∙ λ i. capTo (p i) (direction lam u (p i) (d i)) m) (o ∙ ap sqrtOf e) line in
+      let found = line-done k g dy lam u m b cap old s₀ s₂ s₃ step within p₂ (v .ways ∙ λ i. direction lam u (p i) (d i)) (v .cap-is ∙ λ i. capTo (p i) (direction lam u (p i) (d i)) m) (o ∙ ap sqrtOf (z .norm f)) line in
       record {
-        answer = rw (z, found);
-        moves = take-done lam m (point 0 m s₀) (searchLine k g dy lam u (point 0 m s₀)) s₂ s₃ s₄ step within found (line .in-bounds) p₂ (line .kept) h ∙ rw z;
-        kept = kept-then 0 all (kept-then 0 all (kept-then 0 all kept (v .kept) (omega arith) (omega arith) (omega arith) (omega arith)) (line .kept) (omega arith) (omega arith) (omega arith) (omega arith)) x (omega arith) (omega arith) (omega arith) (omega arith);
+        answer = rw (yes, found);
+        moves = take-done lam m (point 0 m s₀) (searchLine k g dy lam u (point 0 m s₀)) s₂ s₃ s₄ step within found (line .in-bounds) p₂ (line .kept) h ∙ rw yes;
+        kept = kept-then 0 all (kept-then 0 all (kept-then 0 all (z .kept) (v .kept) (omega arith) (omega arith) (omega arith) (omega arith)) (line .kept) (omega arith) (omega arith) (omega arith) (omega arith)) x (omega arith) (omega arith) (omega arith) (omega arith);
       }

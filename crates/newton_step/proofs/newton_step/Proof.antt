@@ -1,7 +1,6 @@
 use borrow.Author.Needs.{needs}
 use borrow.Author.Tests.{not-true, not-false}
-use mathlib.Core.Path.{_≡_, refl}
-use mathlib.Core.Bool.{true, false}
+use mathlib.Core.Path.{refl}
 use Prim.Native.Nat.{_+_, _*_}
 use native.Mathlib.Omega.{arith}
 use Rattle.newton_step.proofs.Steps.{lost-step, moved-step}
@@ -12,19 +11,13 @@ returns : tie.Need-returns
 returns c = let nz = c .before .before .before .before in
     let a = nz .before .before .before .before .args in
     let z = nz .newton-z in
-    let n : z .result .good ≡ false = not-true _ (c .if1 .taken) in
-    lost-step (a .k) (a .g) (a .dy .now) (a .lam) (a .u) (a .m) (a .m * (a .k + 1)) (a .s .now) (z .last .0) (z .result .good) refl (z .ensures .answer) (z .ensures .kept) n
+    lost-step (a .k) (a .g) (a .dy .now) (a .lam) (a .u) (a .m) (a .s .now) (z .last .0) (z .result) (z .ensures) (not-true _ (c .if1 .taken))
 
 line-search-requires : tie.Need-line-search-requires
 line-search-requires c κs = let dr = c .before .before .before .before in
     let nz = dr .before .before .before .before .before .before in
     let p = nz .before .before .before .before .pre in
-    record {
-      order = p .order .high;
-      after = omega arith;
-      room = omega (arith, nz .newton-z .ensures .kept .size, dr .directions .ensures .kept .size, p .room);
-      dy = p .dy;
-    }
+    record { order = p .order .high; after = omega arith; room = omega (arith, nz .newton-z .ensures .kept .size, dr .directions .ensures .kept .size, p .room); dy = p .dy }
 
 take-trial-requires : tie.Need-take-trial-requires
 take-trial-requires c κs = let ls = c .before .before .before in
@@ -41,10 +34,9 @@ returns-2 c = let tk = c .before .before in
     let nz = el .before .before .before .before in
     let a = nz .before .before .before .before .args in
     let z = nz .newton-z in
-    let y : z .result .good ≡ true = not-false _ (el .if1 .left) in
-    moved-step (a .k) (a .g) (a .dy .now) (a .lam) (a .u) (a .m) (a .m * (a .k + 1)) (a .s .now) (z .last .0) (z .result .good) refl (z .ensures .answer) (z .ensures .kept)
-    (z .result .acc) (dr .directions .result) (sq .sqrt .result) (ls .line-search .result .step) (ls .line-search .result .inside) (dr .directions .last .0) (ls .line-search .last .0) (tk .take-trial .last .0)
-    (6 * a .m + a .m * (a .k + 1)) y refl (z .ensures .norm y) (z .ensures .dz y) (dr .directions .ensures) (sq .sqrt .ensures) (ls .line-search .ensures) (tk .take-trial .ensures .0) (tk .take-trial .ensures .1)
+    moved-step (a .k) (a .g) (a .dy .now) (a .lam) (a .u) (a .m) (a .s .now) (z .last .0) (z .result) (z .ensures) (dr .directions .result) (sq .sqrt .result)
+    (ls .line-search .result .step) (ls .line-search .result .inside) (dr .directions .last .0) (ls .line-search .last .0) (tk .take-trial .last .0)
+    (6 * a .m + a .m * (a .k + 1)) (not-false _ (el .if1 .left)) refl (dr .directions .ensures) (sq .sqrt .ensures) (ls .line-search .ensures) (tk .take-trial .ensures .0) (tk .take-trial .ensures .1)
 
 pub newton-step-spec : {M : Type 1} → statement M
 newton-step-spec =
