@@ -1,5 +1,5 @@
 -- Which case of `readWeek` holds, from the tests of `read_week`. Assumes nothing.
-use mathlib.Core.Path.{_≡_, refl, sym, ap, ap₂, _∙_}
+use mathlib.Core.Path.{_≡_, refl, sym, ap, _∙_}
 use Prim.Native.Nat.{ℕ, suc, _≤_, _<_}
 use native.Mathlib.Omega.{arith}
 use mathlib.Core.List.{List, [], _∷_}
@@ -8,8 +8,8 @@ use lib.ListN.{length}
 use lib.Ieee.{Float}
 use borrow.Author.Tests.{lt-ltb, le-ltb, le-leb, lt-leb, eq-eqb, ne-eqb}
 use Rattle.vectors.specs.Vec.{Wrote}
-use Rattle.records.specs.Entries.{Entry, slot, settings, slotsOf, countSettings, hoursOf}
-use Rattle.records.specs.Week.{Answer, refused, taken, entriesIn, askEntries, readWeek}
+use Rattle.records.specs.Entries.{Entry, slot, settings, slotsOf, countSettings}
+use Rattle.records.specs.Week.{refused, taken, entriesIn, askEntries, readWeek}
 use Rattle.records.specs.Reading.{answer, Reads, hoursIn, tallyOf, openingOf}
 use Rattle.records.specs.declared.Settings.{Settings}
 use Rattle.records.specs.declared.Tally.the-variants.{Broken, Whole}

@@ -9,8 +9,8 @@ use mathlib.Core.Option.{Option, none, some, Option·map}
 use lib.ListN.{length, take, drop, length-drop}
 use lib.Seq.{length-take-le}
 use lib.Dec.{eqb}
-use lib.Ieee.{Float, binary64, ofBits, ofInt}
-use borrow.Author.Tests.{eqb-true, eq-eqb}
+use lib.Ieee.{binary64, ofBits, ofInt}
+use borrow.Author.Tests.{eqb-true}
 use Rattle.float64.proofs.Clash.{clash}
 use Rattle.framing.specs.Bytes.{numberAt, signed32}
 use Rattle.framing.specs.Frames.{Rec, rec, records}
@@ -18,7 +18,7 @@ use Rattle.framing.specs.Places.{headAt}
 use Rattle.framing.specs.declared.Head.the-variants.{End, Bad, Record}
 use Rattle.framing.proofs.Numbers.{number-of-part}
 use Rattle.framing.proofs.Heads.{Opens, Heads, heads}
-use Rattle.records.specs.Entries.{Entry, slot, settings, silent, sounding, millisecondsIn, settingsIn, sized, entryOf, both, entries, slotsOf, countSettings, hoursOf}
+use Rattle.records.specs.Entries.{Entry, slot, settings, silent, sounding, millisecondsIn, settingsIn, entryOf, both, entries, slotsOf, countSettings, hoursOf}
 use Rattle.records.specs.Week.{saidBy, entriesIn}
 use Rattle.records.specs.declared.Settings.{Settings}
 use Rattle.records.specs.declared.Opening.the-variants.{Other, Set}

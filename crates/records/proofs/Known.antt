@@ -4,7 +4,7 @@ use mathlib.Core.List.{List, [], _∷_, _++_}
 use Prim.Native.Nat.{ℕ, zero, suc, _*_}
 use native.Mathlib.Omega.{arith}
 use lib.Ieee
-use lib.Ieee.{Float, binary64, toBits}
+use lib.Ieee.{binary64, toBits}
 use lib.ListN.{length, take, length-append}
 use Rattle.framing.specs.Bytes.{littleEndian, signed32}
 use Rattle.framing.specs.Frames.{recordsPast}

@@ -10,7 +10,7 @@ use lib.Dec.{eqb}
 use lib.Ieee.{Float}
 use Rattle.vectors.specs.Vec.{Wrote}
 use Rattle.vectors.proofs.Texts.{wrote-none, wrote-then, wrote-length}
-use Rattle.records.specs.Entries.{Slot, silent, sounding, Entry, slot, settings, slotsOf, countSettings, hoursOf}
+use Rattle.records.specs.Entries.{silent, sounding, Entry, slot, settings, slotsOf, countSettings, hoursOf}
 use Rattle.records.specs.Week.{entriesIn}
 use Rattle.records.specs.Reading.{hoursIn, hourAt, Found, Room}
 use Rattle.records.proofs.Entries.{says-count, found-hours}

@@ -13,7 +13,6 @@ use Rattle.framing.specs.declared.Head.{Head}
 use Rattle.framing.specs.declared.Head.the-variants.{End, Bad, Record}
 use Rattle.records.specs.Entries.{Entry, slot, settings, silent, sounding, millisecondsIn, settingsIn, slotsOf, countSettings, hoursOf}
 use Rattle.records.specs.Week.{Answer, refused, taken, entriesIn}
-use Rattle.records.specs.declared.Settings.{Settings}
 use Rattle.records.specs.declared.Tally.{Tally}
 use Rattle.records.specs.declared.Tally.the-variants.{Broken, Whole}
 use Rattle.records.specs.declared.Opening.{Opening}

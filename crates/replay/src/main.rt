@@ -4,14 +4,14 @@ use trend_filter::Answer;
 use trend_filter::Summary;
 use trend_filter::TrendFilterOptions;
 use trend_filter::l1_trend_filter;
-ghost use mathlib.Core.Path.{_≡_};
 ghost use Prim.Native.Nat.{_≤_, _<_};
 ghost use lib.ListN.{length};
+ghost use Rattle.replay.specs.Room.{Within};
 
 // Word i; 0 beyond the end.
 fn word(s: &[u8; 131072], i: usize) -> u64 {
     if i < 16384 {
-        records::eight(s, 8 * i)
+        framing::eight(s, 8 * i)
     } else {
         0
     }
@@ -32,10 +32,9 @@ fn option_at(s: &[u8; 131072], i: usize) -> u32 {
 }
 
 // The first n places of y become the words from `at` on.
-fn load(y: &mut [f64], s: &[u8; 131072], at: usize, n: usize)
-    requires { ⌜ n ≤ length (now y) ⌝ }
+fn load(y: &mut [f64; 168], s: &[u8; 131072], at: usize, n: usize)
+    requires { ⌜ n ≤ 168 ⌝ }
     requires { ⌜ at < 65536 ⌝ }
-    ensures { λ _. ⌜ length (now (y .exit)) ≡ length (now (y .entry)) ⌝ }
 {
     let mut i = 0;
     while i < n {
@@ -164,7 +163,7 @@ pub struct Lent {
 
 fn lent_at(s: &[u8; 131072], at: usize) -> Lent
     requires { ⌜ at < 16384 ⌝ }
-    ensures { λ r. ⌜ (r .n ≤ 168) × ((r .trend ≤ 168) × ((r .cycle ≤ 168) × ((r .knots ≤ 168) × ((r .work ≤ 6720) × (r .marks ≤ 336))))) ⌝ }
+    ensures { λ r. ⌜ Within r 168 168 168 168 ⌝ }
 {
     Lent {
         n: count_at(s, at + 3, 168),
@@ -217,23 +216,18 @@ fn same_answer(
     }
 }
 
-// The fit of the first n places of y with what is lent, compared with the answer stored from `at` on.
-fn fit_at(
+// The fit of the first places of y, lent the first places of the buffers.
+fn fit_in(
     y: &[f64],
     l: Lent,
     lam: f64,
     opts: TrendFilterOptions,
-    s: &[u8; 131072],
-    at: usize,
-) -> Tried
-    requires { ⌜ l .n ≤ length (now y) ⌝ }
-    requires { ⌜ (l .n ≤ 168) × ((l .trend ≤ 168) × ((l .cycle ≤ 168) × ((l .knots ≤ 168) × ((l .work ≤ 6720) × (l .marks ≤ 336))))) ⌝ }
-    requires { ⌜ at < 32000 ⌝ }
-    ensures { λ r. ⌜ r .next ≤ 40000 ⌝ }
+    trend: &mut [f64],
+    cycle: &mut [f64],
+    knots: &mut [u32],
+) -> Answer
+    requires { ⌜ Within l (length (now y)) (length (now trend)) (length (now cycle)) (length (now knots)) ⌝ }
 {
-    let mut trend = [0.0f64; 168];
-    let mut cycle = [0.0f64; 168];
-    let mut knots = [0u32; 168];
     let mut work = [0.0f64; 6720];
     let mut marks = [0u32; 336];
     let n = l.n;
@@ -242,7 +236,7 @@ fn fit_at(
     let c = l.knots;
     let d = l.work;
     let e = l.marks;
-    let r = l1_trend_filter(
+    l1_trend_filter(
         &y[0..n],
         lam,
         opts,
@@ -251,8 +245,27 @@ fn fit_at(
         &mut knots[0..c],
         &mut work[0..d],
         &mut marks[0..e],
-    );
-    same_answer(r, &trend, &cycle, &knots, s, at, n)
+    )
+}
+
+// The same, compared with the answer stored from `at` on.
+fn fit_at(
+    y: &[f64; 168],
+    l: Lent,
+    lam: f64,
+    opts: TrendFilterOptions,
+    s: &[u8; 131072],
+    at: usize,
+) -> Tried
+    requires { ⌜ Within l 168 168 168 168 ⌝ }
+    requires { ⌜ at < 32000 ⌝ }
+    ensures { λ r. ⌜ r .next ≤ 40000 ⌝ }
+{
+    let mut trend = [0.0f64; 168];
+    let mut cycle = [0.0f64; 168];
+    let mut knots = [0u32; 168];
+    let r = fit_in(y, l, lam, opts, &mut trend, &mut cycle, &mut knots);
+    same_answer(r, &trend, &cycle, &knots, s, at, l.n)
 }
 
 // The case from `at` on: fitted and compared.
@@ -298,8 +311,8 @@ fn print_group(g: usize) {
     }
 }
 
-fn print_line(g: usize, equal: u64, all: u64) {
-    print_group(g);
+// How many of so many are equal, and the end of the line.
+fn print_equal(equal: u64, all: u64) {
     io::write_all(1, b": ");
     io::print_decimal(1, equal);
     io::write_all(1, b" of ");
@@ -351,7 +364,8 @@ fn replayed(s: &[u8; 131072], cases: u64) -> Counts {
 fn print_all(c: Counts) {
     let mut g: usize = 0;
     while g < 12 {
-        print_line(g, c.equal[g], c.all[g]);
+        print_group(g);
+        print_equal(c.equal[g], c.all[g]);
         g += 1;
     }
 }
@@ -362,9 +376,6 @@ fn main() {
     let cases = word(&s, 0);
     let c = replayed(&s, cases);
     print_all(c);
-    io::write_all(1, b"all: ");
-    io::print_decimal(1, c.equal[12]);
-    io::write_all(1, b" of ");
-    io::print_decimal(1, cases);
-    io::write_all(1, b" equal\n");
+    io::write_all(1, b"all");
+    print_equal(c.equal[12], cases);
 }

@@ -1,4 +1,3 @@
-use mathlib.Core.Path.{refl}
 use borrow.Author.Tests.{eq-eqb, ne-eqb}
 use Rattle.records.proofs.is_known.Statement.{statement}
 use Rattle.records.proofs.is_known.Tie as tie

@@ -1,5 +1,4 @@
 use denote.Ref.{now}
-use mathlib.Core.Path.{sym}
 use Rattle.records.proofs.Entries.{settings-in}
 use borrow.Author.Needs.{needs}
 use Rattle.records.proofs.settings_at.Statement.{statement}

@@ -1,12 +1,10 @@
 use borrow.Author.Needs.{needs}
-use mathlib.Core.Path.{_≡_}
-use lib.ListN.{length}
 use Prim.Native.Nat.{_≤_, _-_}
 use Rattle.replay.proofs.load.Statement.{statement}
 use Rattle.replay.proofs.load.Tie as tie
 
 abbrev Inv-loop : tie.InvT-loop
-Inv-loop y₀ s at n i₀ y i = (i ≤ n) × (length y ≡ length y₀)
+Inv-loop y₀ s at n i₀ y i = i ≤ n
 
 abbrev μ-loop : tie.MeasureT-loop
 μ-loop y₀ s at n i₀ y i = n - i
@@ -16,4 +14,4 @@ load-spec =
     tie.close
     (tie.spec Inv-loop μ-loop (λ c. search needs) (λ c. search needs) (λ c κs. search needs) (λ c κs. search needs)
     (λ c. search needs) (λ c. search needs) (λ c. search needs) (λ c. search needs) (λ c. search needs)
-    (λ c. search needs) (λ c. search needs))
+    (λ c. search needs))
