@@ -12,12 +12,11 @@ use lib.Dec.{eqb}
 use lib.ListN.{length, getD, set, length-append, length-set, List·getD-append}
 use lib.Seq.{getD-at, getD-set-same, getD-set-other}
 use lib.Ieee.{Float}
-use Rattle.vectors.specs.Vec.{at, list, part, KeptOf}
+use Rattle.vectors.specs.Vec.{at, KeptOf}
 use Rattle.vectors.proofs.Laws.{list-ext}
-use Rattle.vectors.proofs.Parts.{at-part}
 use Rattle.banded.specs.Rows.{Matrix, matrix}
-use Rattle.active_set.specs.ActiveSet.{Hold, free, at-lam, at-minus-lam, isFree, heldAt, freeTo, compressed, lessHeld, lessTo, rightOf}
-use Rattle.active_set.specs.Marks.{markOf, holdOf, heldBy, Marks}
+use Rattle.active_set.specs.ActiveSet.{Hold, free, at-lam, at-minus-lam, isFree, freeTo, compressed, lessHeld, lessTo, rightOf}
+use Rattle.active_set.specs.Marks.{markOf, holdOf, Marks}
 
 -- ---- marks
 
@@ -32,7 +31,7 @@ free-cond false true = refl
 free-cond false false = refl
 
 -- the mark of a free place is 0
-pub free-mark : (x : ℕ) → isFree (holdOf x) ≡ eqb x 0
+free-mark : (x : ℕ) → isFree (holdOf x) ≡ eqb x 0
 free-mark x = free-cond (eqb x 0) (eqb x 1)
 
 pub free-place : {A : Type 0} (x : ℕ) (u v : A) → x ≡ 0 → cond (isFree (holdOf x)) u v ≡ u
@@ -51,7 +50,7 @@ pub one-le : (b : Bool) → cond b 1 0 ≤ 1
 one-le true = omega arith
 one-le false = omega arith
 
-pub count-suc : (h : ℕ → Hold) (n : ℕ) → length (freeTo h (suc n)) ≡ length (freeTo h n) + cond (isFree (h n)) 1 0
+count-suc : (h : ℕ → Hold) (n : ℕ) → length (freeTo h (suc n)) ≡ length (freeTo h n) + cond (isFree (h n)) 1 0
 unfolding freeTo
 count-suc h n =
     length-append (freeTo h n) (cond (isFree (h n)) (n ∷ []) [])

@@ -1,81 +1,64 @@
 -- The compressed system solved on a run. Assumes nothing.
-use mathlib.Core.Bool.{Bool, true, false, cond}
+use mathlib.Core.Bool.{Bool, true}
 use mathlib.Core.List.{List}
-use mathlib.Core.Option.{some}
-use mathlib.Core.Path.{_≡_, refl, sym, ap, _∙_}
+use mathlib.Core.Path.{_≡_, sym, ap, _∙_}
 use Prim.Native.Nat.{ℕ, _+_, _-_, _*_, _≤_, _<_}
 use native.Mathlib.Omega.{arith}
-use native.Mathlib.Nat.{mul-le-mul-left}
-use lib.ListN.{length, getD, take, drop, length-drop}
-use lib.Seq.{getD-drop, length-take-le}
+use native.Mathlib.Nat.{mul-le-mul-left, zero-add}
+use lib.ListN.{length, getD}
 use lib.Ieee.{Float, nan}
-use Rattle.vectors.specs.Vec.{at, list, partOf, part, Kept}
-use Rattle.vectors.proofs.Laws.{list-ext, cond-cong}
-use Rattle.vectors.proofs.Parts.{range-part, at-part, putBack, kept-put, part-put}
-use Rattle.banded.specs.Rows.{Matrix, rows, sound, matrix, concat}
+use Rattle.vectors.specs.Vec.{list, partOf, part, Kept}
+use Rattle.vectors.proofs.Laws.{list-ext, kept-none, kept-then}
+use Rattle.vectors.proofs.Parts.{part-below}
+use Rattle.differences.specs.Diff.{gramRow}
+use Rattle.banded.specs.Rows.{rows, sound, matrix, concat}
 use Rattle.banded.specs.Solve.{solve, forward, divided, back}
-use Rattle.vectors.proofs.Parts.{kept-take}
-use Rattle.active_set.specs.ActiveSet.{Hold, isFree, heldAt, freeTo, compressed, rightOf, solved}
-use Rattle.active_set.specs.Marks.{holdOf, heldBy, Marks}
-use Rattle.active_set.proofs.Laws.{hold-mark, free-index, free-ext, matrix-ext, band-ext, right-ext}
+use Rattle.substitution.specs.Solved.{Solved}
+use Rattle.active_set.specs.ActiveSet.{Hold, freeTo, compressed, rightOf, rightSide, solved}
+use Rattle.active_set.specs.Marks.{holdOf, heldBy, Marks, Settled}
+use Rattle.active_set.proofs.Laws.{hold-mark, matrix-ext, band-ext, right-ext}
+
+module _ {h : ℕ → Hold} {n m q : ℕ} {v : List ℕ} (w : Marks h n m v q) where
+  pub held-by : (j : ℕ) → j < m → heldBy n v j ≡ h j
+  held-by j l = ap holdOf (w .held j l) ∙ hold-mark (h j)
+
+  -- the rows over the first marks are those over the free places, and so is the right side
+  rows-is : (k : ℕ) (g : List Float) → concat (matrix k (compressed k g v) q) ≡ concat (matrix k (compressed k g (freeTo h m)) q)
+  rows-is k g = ap concat (matrix-ext k (compressed k g v) (compressed k g (freeTo h m)) q (band-ext k g v (freeTo h m) q (w .free)))
+
+  right-is : (k : ℕ) (g dy : List Float) (lam : Float) → list q (λ r. rightOf k g dy lam (heldBy n v) m (getD v r 0)) ≡ rightSide k g dy lam h m (freeTo h m)
+  right-is k g dy lam =
+      list-ext q (λ r. rightOf k g dy lam (heldBy n v) m (getD v r 0)) (λ r. rightOf k g dy lam h m (getD (freeTo h m) r 0))
+      (λ j l. right-ext k g dy lam (heldBy n v) h m (getD v j 0) held-by ∙ ap (rightOf k g dy lam h m) (w .free j l))
+      ∙ ap (λ (x : ℕ). list x (λ r. rightOf k g dy lam h m (getD (freeTo h m) r 0))) (w .count)
 
 -- with nothing to solve
-pub solved-none : (k : ℕ) (a : Matrix) (b : ℕ) (s : List Float) (f : ℕ → Float) (q : ℕ) → q ≡ 0
-    → (true ≡ sound k a q) × (true ≡ true → part b q s ≡ solve k (rows k a q) (list q f))
-unfolding sound rows solve forward divided back list partOf
-solved-none k a b s f q e = rw e (refl, λ t. refl)
-
-middle : (b q : ℕ) (s : List Float) → b + q ≤ length s → take q (drop b s) ≡ part b q s
-middle b q s h = let d : b + q - b ≡ q = omega arith in rw d at (range-part b (b + q) q s refl h)
-
--- the right side at the places f
-abbrev pub side : ℕ → List Float → List Float → Float → ℕ → List ℕ → ℕ → List ℕ → List Float
-side k g dy lam n v q f = list q (λ r. rightOf k g dy lam (heldBy n v) (n - k) (getD f r 0))
+pub settled-none : (k n : ℕ) (dy : List Float) (lam : Float) (v : List ℕ) (q : ℕ) (s : List Float) → q ≡ 0 → Settled k n dy lam v q s s true
+unfolding sound solved rows solve forward divided back list partOf
+settled-none k n dy lam v q s e = record {
+  answer = λ h w. rw e;
+  solution = λ h w t. let z : length (freeTo h (n - k)) ≡ 0 = sym (w .count) ∙ e in rw (e, z);
+  kept = kept-none 0 (q * (k + 1) + q) s;
+}
 
 -- s₀ with the rows, s₁, with the right side, s₂, solved, s₃
-module _ (k q n : ℕ) (g dy : List Float) (lam : Float) (v : List ℕ) (s₀ s₁ s₂ s₃ : List Float) (ok : Bool) (room : q * (k + 1) + q ≤ length s₀)
-    (bands : take (q * (k + 1)) s₁ ≡ concat (matrix k (compressed k g v) q)) (one : Kept 0 (q * (k + 1)) s₀ s₁)
-    (right : part (q * (k + 1)) q s₂ ≡ side k g dy lam n v q v) (two : Kept (q * (k + 1)) q s₁ s₂) (size : length s₃ ≡ length s₂)
-    (rest : drop (q * (k + 1) + q) s₃ ≡ drop (q * (k + 1) + q) s₂)
-    (made : (a : Matrix) → take (q * (k + 1)) s₂ ≡ concat (matrix k a q)
-    → (ok ≡ sound k a q) × (ok ≡ true → take q (drop (q * (k + 1)) s₃) ≡ solve k (rows k a q) (take q (drop (q * (k + 1)) s₂)))) where
-  abbrev b : ℕ
-  b = q * (k + 1)
-
-  holds : (f : List ℕ) → ((j : ℕ) → j < q → getD v j 0 ≡ getD f j 0) → take b s₂ ≡ concat (matrix k (compressed k g f) q)
-  holds f e =
-      let l₁ = one .size in
-      kept-take two (omega arith) ∙ bands
-      ∙ ap concat (matrix-ext k (compressed k g v) (compressed k g f) q (band-ext k g v f q e))
-
-  pub settled : (f : List ℕ) → ((j : ℕ) → j < q → getD v j 0 ≡ getD f j 0)
-      → (ok ≡ sound k (compressed k g f) q) × (ok ≡ true → part b q s₃ ≡ solve k (rows k (compressed k g f) q) (side k g dy lam n v q f))
-  settled f e =
-      let l₁ = one .size in
-      let l₂ = two .size in
-      let a = compressed k g f in
-      let m = made a (holds f e) in
-      let r : part b q s₂ ≡ side k g dy lam n v q f =
-      right ∙ list-ext q (λ r. rightOf k g dy lam (heldBy n v) (n - k) (getD v r 0)) (λ r. rightOf k g dy lam (heldBy n v) (n - k) (getD f r 0))
-      (λ j l. ap (rightOf k g dy lam (heldBy n v) (n - k)) (e j l)) in
-      (m .0, λ t. sym (middle b q s₃ (omega arith)) ∙ m .1 t ∙ ap (solve k (rows k a q)) (middle b q s₂ (omega arith) ∙ r))
-
-  pub settled-kept : Kept 0 (b + q) s₀ s₃
-  settled-kept = record {
-    size = size ∙ two .size ∙ one .size;
-    below = λ j h. absurd (omega arith);
-    above = λ j h.
-        let i = j - (b + q) in
-        let e : b + q + i ≡ j = omega arith in
-        sym (getD-drop (b + q) s₃ i nan ∙ ap (at s₃) e) ∙ ap (λ (u : List Float). at u i) rest ∙ (getD-drop (b + q) s₂ i nan ∙ ap (at s₂) e)
-        ∙ two .above j (omega arith) ∙ one .above j (omega arith);
-  }
-
-  pub settled-all : (g′ : List Float) → g ≡ g′
-      → ((f : List ℕ) → ((j : ℕ) → j < q → getD v j 0 ≡ getD f j 0)
-      → (ok ≡ sound k (compressed k g′ f) q) × (ok ≡ true → part b q s₃ ≡ solve k (rows k (compressed k g′ f) q) (side k g′ dy lam n v q f)))
-      × Kept 0 (b + q) s₀ s₃
-  settled-all g′ e = rw (← e) (settled, settled-kept)
+pub settled-all : (k q n : ℕ) (g dy : List Float) (lam : Float) (v : List ℕ) (s₀ s₁ s₂ s₃ : List Float) (ok : Bool) → g ≡ gramRow k
+    → part 0 (q * (k + 1)) s₁ ≡ concat (matrix k (compressed k g v) q) → Kept 0 (q * (k + 1)) s₀ s₁
+    → part (q * (k + 1)) q s₂ ≡ list q (λ r. rightOf k g dy lam (heldBy n v) (n - k) (getD v r 0)) → Kept (q * (k + 1)) q s₁ s₂
+    → Solved 0 k q s₂ s₃ ok → Settled k n dy lam v q s₀ s₃ ok
+unfolding solved
+settled-all k q n g dy lam v s₀ s₁ s₂ s₃ ok isg bands one right two sol =
+    let b = q * (k + 1) in
+    let holds : (h : ℕ → Hold) → Marks h n (n - k) v q → part 0 b s₂ ≡ concat (matrix k (compressed k g (freeTo h (n - k))) q) =
+    λ h w. part-below nan 0 b two (omega arith) ∙ bands ∙ rows-is w k g in
+    record {
+      answer = λ h w. sol .answer (compressed k g (freeTo h (n - k))) (holds h w) ∙ λ i. sound k (compressed k (isg i) (freeTo h (n - k))) q;
+      solution = λ h w t. rw zero-add at (sol .solution (compressed k g (freeTo h (n - k))) (holds h w) t)
+          ∙ ap (solve k (rows k (compressed k g (freeTo h (n - k))) q)) (right ∙ right-is w k g dy lam)
+          ∙ (λ i. solve k (rows k (compressed k g (freeTo h (n - k))) (w .count i)) (rightSide k g dy lam h (n - k) (freeTo h (n - k))))
+          ∙ λ i. solved k (isg i) dy lam h (n - k);
+      kept = kept-then 0 (b + q) (kept-then 0 (b + q) one two (omega arith) (omega arith) (omega arith) (omega arith)) (sol .kept) (omega arith) (omega arith) (omega arith) (omega arith);
+    }
 
 -- the rows and the right side of a system of q among n places
 pub room : (k q n : ℕ) → k ≤ 2 → q ≤ n → q * (k + 1) + q ≤ 4 * n

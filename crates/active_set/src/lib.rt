@@ -3,12 +3,12 @@ pub mod system;
 
 ghost use mathlib.Core.Path.{_≡_};
 ghost use mathlib.Core.Bool.{cond};
-ghost use Prim.Native.Nat.{_≤_, _<_, _+_, _^_};
+ghost use Prim.Native.Nat.{_≤_, _<_, _+_};
 ghost use lib.ListN.{length};
 ghost use Rattle.vectors.specs.Vec.{KeptOf};
 ghost use Rattle.dual_point.specs.Places.{point};
 ghost use Rattle.active_set.specs.ActiveSet.{isFree, heldAt, holdAt};
-ghost use Rattle.active_set.specs.Marks.{markOf, holdOf, Marks};
+ghost use Rattle.active_set.specs.Marks.{markOf, holdOf, Marks, Markable};
 
 // Where a place with this mark is held; 0 if it is free.
 pub fn held_value(h: u32, lam: f64) -> f64
@@ -48,7 +48,7 @@ fn mark_at(s: &[f64], a: usize, lam: f64, m: usize, i: usize) -> u32
 
 // Marks from n on: how each of the m places of the point from place n of s on is held. The first marks: the free places, rising; how many.
 pub fn mark(s: &[f64], marks: &mut [u32], lam: f64, n: usize, m: usize) -> usize
-    requires { ⌜ (m ≤ n) × ((n < 2 ^ 32) × ((n + m + m + m ≤ length (now s)) × (n + m ≤ length (now marks)))) ⌝ }
+    requires { ⌜ Markable n m (length (now s)) (length (now marks)) ⌝ }
     ensures { λ q. ⌜ Marks (holdAt lam (point n m (now (s .entry)))) n m (now (marks .exit)) q × KeptOf 0 0 (n + m) (now (marks .entry)) (now (marks .exit)) ⌝ }
 {
     let mut q = 0;

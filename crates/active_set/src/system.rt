@@ -1,15 +1,11 @@
 // The compressed system, over the free places.
 ghost use mathlib.Core.Path.{_≡_};
-ghost use mathlib.Core.Bool.{true};
-ghost use mathlib.Core.List.{List};
-ghost use Prim.Native.Nat.{ℕ, _≤_, _<_, _-_, _+_, _*_};
-ghost use lib.ListN.{length, take, getD};
+ghost use Prim.Native.Nat.{_≤_, _-_, _+_, _*_};
+ghost use lib.ListN.{length, getD};
 ghost use Rattle.vectors.specs.Vec.{list, part, Written, Kept};
-ghost use Rattle.differences.specs.Diff.{gramRow};
-ghost use Rattle.banded.specs.Rows.{rows, sound, matrix, concat};
-ghost use Rattle.banded.specs.Solve.{solve};
+ghost use Rattle.banded.specs.Rows.{matrix, concat};
 ghost use Rattle.active_set.specs.ActiveSet.{compressed, lessHeld, rightOf};
-ghost use Rattle.active_set.specs.Marks.{holdOf, heldBy};
+ghost use Rattle.active_set.specs.Marks.{holdOf, heldBy, Cell, Bands, Side, Freed, Settled};
 
 fn wide(x: u32) -> usize
     ensures { λ r. ⌜ r ≡ x ⌝ }
@@ -19,7 +15,7 @@ fn wide(x: u32) -> usize
 
 // Place c of row p of the system.
 fn band_at(free: &[u32], g: [f64; 3], k: usize, p: usize, c: usize) -> f64
-    requires { ⌜ (k ≤ 2) × ((c ≤ k) × (p < length (now free))) ⌝ }
+    requires { ⌜ Cell k p c (length (now free)) ⌝ }
     ensures { λ x. ⌜ x ≡ compressed k g (now (free .entry)) p c ⌝ }
 {
     if p + c < k {
@@ -36,7 +32,7 @@ fn band_at(free: &[u32], g: [f64; 3], k: usize, p: usize, c: usize) -> f64
 
 // Row p of it, in its place of s.
 fn fill_row(s: &mut [f64], free: &[u32], g: [f64; 3], k: usize, p: usize)
-    requires { ⌜ (k ≤ 2) × ((p < length (now free)) × ((p + 1) * (k + 1) ≤ length (now s))) ⌝ }
+    requires { ⌜ Bands k (p + 1) (length (now free)) (length (now s)) ⌝ }
     ensures { λ _. ⌜ Written (p * (k + 1)) (p * (k + 1) + (k + 1)) (λ j. compressed k g (now (free .entry)) p (j - p * (k + 1))) (now (s .entry)) (now (s .exit)) ⌝ }
 {
     let a = p * (k + 1);
@@ -50,8 +46,8 @@ fn fill_row(s: &mut [f64], free: &[u32], g: [f64; 3], k: usize, p: usize)
 
 // Its q rows in the first places of s.
 fn fill_bands(s: &mut [f64], free: &[u32], g: [f64; 3], k: usize, q: usize)
-    requires { ⌜ (k ≤ 2) × ((q ≤ length (now free)) × (q * (k + 1) ≤ length (now s))) ⌝ }
-    ensures { λ _. ⌜ (take (q * (k + 1)) (now (s .exit)) ≡ concat (matrix k (compressed k g (now (free .entry))) q))
+    requires { ⌜ Bands k q (length (now free)) (length (now s)) ⌝ }
+    ensures { λ _. ⌜ (part 0 (q * (k + 1)) (now (s .exit)) ≡ concat (matrix k (compressed k g (now (free .entry))) q))
         × Kept 0 (q * (k + 1)) (now (s .entry)) (now (s .exit)) ⌝ }
 {
     let mut p = 0;
@@ -69,7 +65,7 @@ fn less_held(v: f64, g: [f64; 3], lam: f64, i: usize, j: usize, h: u32) -> f64
     if h == 0 {
         return v;
     }
-    let d = vectors::over(i, j) + vectors::over(j, i);
+    let d = vectors::apart(i, j);
     let x = crate::held_value(h, lam);
     v - g[d] * x
 }
@@ -85,7 +81,7 @@ fn right_at(
     m: usize,
     i: usize,
 ) -> f64
-    requires { ⌜ (k ≤ 2) × ((i < m) × ((n + m ≤ length (now marks)) × (m ≤ length (now dy)))) ⌝ }
+    requires { ⌜ Side k n m i (length (now marks)) (length (now dy)) ⌝ }
     ensures { λ r. ⌜ r ≡ rightOf k g (now (dy .entry)) lam (heldBy n (now (marks .entry))) m i ⌝ }
 {
     let lo = vectors::over(i, k);
@@ -112,7 +108,7 @@ fn fill_right(
     n: usize,
     q: usize,
 )
-    requires { ⌜ (k ≤ 2) × ((b + q ≤ length (now s)) × ((2 * n ≤ length (now marks)) × ((n ≤ length (now dy) + k) × ((q ≤ n) × ((j : ℕ) → j < q → getD (now marks) j 0 + k < n))))) ⌝ }
+    requires { ⌜ Freed k n (now marks) (length (now dy)) q × (b + q ≤ length (now s)) ⌝ }
     ensures { λ _. ⌜ (part b q (now (s .exit)) ≡ list q (λ r. rightOf k g (now (dy .entry)) lam (heldBy n (now (marks .entry))) (n - k) (getD (now (marks .entry)) r 0)))
         × Kept b q (now (s .entry)) (now (s .exit)) ⌝ }
 {
@@ -135,10 +131,8 @@ pub fn settle(
     n: usize,
     q: usize,
 ) -> bool
-    requires { ⌜ (k ≤ 2) × ((q * (k + 1) + q ≤ length (now s)) × ((2 * n ≤ length (now marks)) × ((n ≤ length (now dy) + k) × ((q ≤ n) × ((j : ℕ) → j < q → getD (now marks) j 0 + k < n))))) ⌝ }
-    ensures { λ r. ⌜ ((f : List ℕ) → ((j : ℕ) → j < q → getD (now (marks .entry)) j 0 ≡ getD f j 0) → (r ≡ sound k (compressed k (gramRow k) f) q)
-        × (r ≡ true → part (q * (k + 1)) q (now (s .exit)) ≡ solve k (rows k (compressed k (gramRow k) f) q) (list q (λ r. rightOf k (gramRow k) (now (dy .entry)) lam (heldBy n (now (marks .entry))) (n - k) (getD f r 0)))))
-        × Kept 0 (q * (k + 1) + q) (now (s .entry)) (now (s .exit)) ⌝ }
+    requires { ⌜ Freed k n (now marks) (length (now dy)) q × (q * (k + 1) + q ≤ length (now s)) ⌝ }
+    ensures { λ r. ⌜ Settled k n (now (dy .entry)) lam (now (marks .entry)) q (now (s .entry)) (now (s .exit)) r ⌝ }
 {
     if q == 0 {
         return true;
@@ -147,5 +141,5 @@ pub fn settle(
     let b = q * (k + 1);
     fill_bands(s, marks, g, k, q);
     fill_right(s, b, marks, dy, lam, g, k, n, q);
-    substitution::factor_solve(s, k, q)
+    substitution::factor_solve_at(s, 0, k, q)
 }

@@ -9,6 +9,7 @@ use lib.ListN.{length, take, drop}
 use lib.Ieee.{Float}
 use Rattle.vectors.specs.Vec.{Written}
 use Rattle.vectors.proofs.Laws.{kept-none}
+use Rattle.vectors.proofs.Parts.{first-part}
 use Rattle.banded.specs.Rows.{Matrix, matrix, concat}
 use Rattle.banded.specs.Layout.{Laid}
 use Rattle.banded.proofs.Laws.{above, one-row, of-holds, shape-matrix, look-matrix, kept-after}
@@ -31,6 +32,6 @@ laid-more {k} {r} {a} {s₀} {s} {s′} w v =
 pub laid-done : {k m : ℕ} {a : Matrix} {s₀ s : List Float} → Laid k m a s₀ s → m * (k + 1) ≤ length s
     → (take (m * (k + 1)) s ≡ concat (matrix k a m)) × (drop (m * (k + 1)) s ≡ drop (m * (k + 1)) s₀)
 laid-done {k} {m} {a} {s₀} {s} w room = (
-  of-holds k m (matrix k a m) s room (record { shape = shape-matrix k a m; same = λ i j h g. w .same i j h g ∙ sym (look-matrix k a m i j h g) }),
+  first-part (m * (k + 1)) s room ∙ of-holds k m (matrix k a m) s (record { shape = shape-matrix k a m; same = λ i j h g. w .same i j h g ∙ sym (look-matrix k a m i j h g) }),
   kept-after (m * (k + 1)) s s₀ (w .kept .size) (λ q h. w .kept .above q (omega arith)),
 )

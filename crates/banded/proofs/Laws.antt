@@ -12,10 +12,11 @@ use lib.ListN.{length, getD, set, take, drop, length-append, length-set, length-
 use lib.Seq.{getD-at, getD-set-same, getD-set-other, getD-take, getD-drop, getD-append-add, length-take-le, ext-getD}
 use lib.Ieee.{Float, nan, binary64, ofBits, mul, sub, div}
 use borrow.Author.Tests.{ltb-true, ltb-false}
-use Rattle.vectors.specs.Vec.{at, list}
-use Rattle.vectors.proofs.Laws.{length-list, at-list, cond-cong}
+use Rattle.vectors.specs.Vec.{at, list, part}
+use Rattle.vectors.proofs.Laws.{length-list, at-list, cond-cong, kept-none}
+use Rattle.vectors.proofs.Parts.{length-part, at-part, partOf-range}
 use Rattle.banded.specs.Rows.{Matrix, line, look, less, taken, rest, entry, rowTo, row, rows, sound, good, matrix, concat}
-use Rattle.banded.specs.Run.{flat, Shape, Holds, Stands, Factored}
+use Rattle.banded.specs.Run.{flat, Shape, Holds, Stands, Factored, HasRow}
 
 -- ---- places of rows
 
@@ -32,11 +33,17 @@ rows-fit k r m n h g =
     let f : (r + 1) * (k + 1) ≤ m * (k + 1) = mul-le-mul-right (k + 1) (omega arith) in
     omega arith
 
+pub row-fits : {k m r n : ℕ} → HasRow k m r n → (r + 1) * (k + 1) ≤ n
+row-fits {k} {m} {r} {n} h = let room = h .room in rows-fit k r m n (h .row) (omega arith)
+
 pub one-row : (k r : ℕ) → (r + 1) * (k + 1) ≡ r * (k + 1) + (k + 1)
 one-row k r = add-mul r 1 (k + 1) ∙ rw (one-mul (k + 1))
 
 pub wide : (k r : ℕ) → r ≤ r * (k + 1)
 wide k r = omega (arith, rw (← add-one k) at (mul-suc r k))
+
+pub wide-row : (k m : ℕ) → 1 ≤ m → k + 1 ≤ m * (k + 1)
+wide-row k m h = let e = one-mul (k + 1) in let f : 1 * (k + 1) ≤ m * (k + 1) = mul-le-mul-right (k + 1) h in omega arith
 
 -- a row above ends before row r begins
 pub above : (k r i j : ℕ) → i < r → j ≤ k → i * (k + 1) + j < r * (k + 1)
@@ -127,7 +134,7 @@ holds-kept {k} {r} {f} {s} {s′} h e = record { shape = h .shape; same = λ i j
 
 -- nothing stored yet; one more place, at q
 pub row-none : {k r : ℕ} {s : List Float} → Factored k r 0 s s
-row-none = record { size = refl; below = λ q h. refl; after = λ q h. refl; made = λ j b. absurd (omega arith) }
+row-none {k} {r} {s} = record { kept = kept-none (r * (k + 1)) 0 s; made = λ j b. absurd (omega arith) }
 
 pub row-more : {k r c : ℕ} {s₀ s : List Float} {x : Float} (q : ℕ) → Factored k r c s₀ s → c ≤ k → q ≡ r * (k + 1) + c → q < length s
     → x ≡ entry k (flat k s) (flat k s r c) r c → Factored k r (c + 1) s₀ (set s q x)
@@ -135,14 +142,16 @@ row-more {k} {r} {c} {s₀} {s} {x} q w b e fits is =
     let up : (i j : ℕ) → i < r → j ≤ k → flat k s i j ≡ flat k (set s q x) i j = λ i j u g. sym (getD-set-other s q (i * (k + 1) + j) x nan (ne-of-lt (omega (arith, above k r i j u g)))) in
     let left : (j : ℕ) → j < c → flat k s r j ≡ flat k (set s q x) r j = λ j u. sym (getD-set-other s q (r * (k + 1) + j) x nan (ne-of-lt (omega arith))) in
     record {
-      size = length-set s q x ∙ w .size;
-      below = λ p u. getD-set-other s q p x nan (ne-of-lt (omega arith)) ∙ w .below p u;
-      after = λ p u. getD-set-other s q p x nan (ne-of-gt (omega arith)) ∙ w .after p (omega arith);
+      kept = record {
+        size = length-set s q x ∙ w .kept .size;
+        below = λ p u. getD-set-other s q p x nan (ne-of-lt (omega arith)) ∙ w .kept .below p u;
+        above = λ p u. getD-set-other s q p x nan (ne-of-gt (omega arith)) ∙ w .kept .above p (omega arith);
+      };
       made = λ j u.
           ⊎-elim
           (λ (z : j ≡ c).
           rw z (ap (at (set s q x)) (sym e) ∙ getD-set-same s q x nan fits ∙ is
-          ∙ entry-ext k r c (flat k s) (flat k (set s q x)) (flat k s r c) (flat k s₀ r c) b (λ g. w .after (r * (k + 1) + c) (omega arith)) up left))
+          ∙ entry-ext k r c (flat k s) (flat k (set s q x)) (flat k s r c) (flat k s₀ r c) b (λ g. w .kept .above (r * (k + 1) + c) (omega arith)) up left))
           (λ (z : j < c).
           sym (left j z) ∙ w .made j z
           ∙ entry-ext k r j (flat k s) (flat k (set s q x)) (flat k s₀ r j) (flat k s₀ r j) (omega arith) (λ g. refl) up (λ i h. left i (omega arith)))
@@ -167,25 +176,27 @@ length-concat k (x ∷ f) h =
     length-append x (concat f)
     ∙ omega (arith, h 0 (omega arith), length-concat k f (λ n u. h (suc n) (omega arith)), suc-mul (length f) (k + 1))
 
-module _ (k m : ℕ) (f : List (List Float)) (s : List Float) (room : m * (k + 1) ≤ length s) where
-  pub holds-of : Shape k m f → take (m * (k + 1)) s ≡ concat f → Holds k m f s
+module _ (k m : ℕ) (f : List (List Float)) (s : List Float) where
+  pub holds-of : Shape k m f → part 0 (m * (k + 1)) s ≡ concat f → Holds k m f s
   holds-of h e = record {
     shape = h;
     same = λ i j b g.
-        sym (getD-take (m * (k + 1)) s (i * (k + 1) + j) nan (above k m i j b g)) ∙ ap (λ (l : List Float). at l (i * (k + 1) + j)) e
+        let q = i * (k + 1) + j in
+        sym (at-part 0 (m * (k + 1)) s q q (above k m i j b g) (zero-add q)) ∙ ap (λ (l : List Float). at l q) e
         ∙ at-concat k f (λ n u. h .full n (omega (arith, h .count))) i j (omega (arith, h .count)) g;
   }
 
-  pub of-holds : Holds k m f s → take (m * (k + 1)) s ≡ concat f
+  pub of-holds : Holds k m f s → part 0 (m * (k + 1)) s ≡ concat f
   of-holds h =
       let n = h .shape .count in
+      let l = length-part 0 (m * (k + 1)) s in
       let full : (i : ℕ) → i < length f → length (line f i) ≡ k + 1 = λ i u. h .shape .full i (omega arith) in
-      ext-getD nan (take (m * (k + 1)) s) (concat f) (length-take-le (m * (k + 1)) s room ∙ sym (length-concat k f full ∙ rw n))
+      ext-getD nan (part 0 (m * (k + 1)) s) (concat f) (l ∙ sym (length-concat k f full ∙ rw n))
       (λ q u.
-      let b : q < m * (k + 1) = omega (arith, length-take-le (m * (k + 1)) s room) in
+      let b : q < m * (k + 1) = omega arith in
       let i : q / (k + 1) < m = div-lt-iff-lt-mul (omega arith) .1 b in
       let j : q % (k + 1) < k + 1 = mod-lt q (omega arith) in
-      getD-take (m * (k + 1)) s q nan b
+      at-part 0 (m * (k + 1)) s q q b (zero-add q)
       ∙ ap (at s) (sym (div-add-mod' q (k + 1)))
       ∙ h .same (q / (k + 1)) (q % (k + 1)) i (omega arith)
       ∙ sym (at-concat k f full (q / (k + 1)) (q % (k + 1)) (omega arith) (omega arith))
@@ -240,30 +251,14 @@ kept-after n s s₀ e h =
     (λ i l. getD-drop n s i nan ∙ h (n + i) (omega arith) ∙ sym (getD-drop n s₀ i nan))
 
 -- the n places from b on, as a list
-pub part-stands : (b n : ℕ) (s : List Float) → Stands b (take n (drop b s)) s
-part-stands b n s j h = let u : j < n = omega (arith, length-take n (drop b s), min-le-left n (length (drop b s))) in
-    sym (getD-take n (drop b s) j nan u ∙ getD-drop b s j nan)
+pub part-stands : (b n : ℕ) (s : List Float) → Stands b (part b n s) s
+part-stands b n s j h = sym (at-part b n s j (b + j) (omega (arith, length-part b n s)) refl)
 
-pub stands-part : (b n : ℕ) (x s : List Float) → length x ≡ n → b + n ≤ length s → Stands b x s → take n (drop b s) ≡ x
-stands-part b n x s e room h =
-    let l : length (take n (drop b s)) ≡ n = length-take-le n (drop b s) (omega (arith, length-drop b s)) in
-    ext-getD nan (take n (drop b s)) x (l ∙ sym e)
-    (λ i u. getD-take n (drop b s) i nan (omega arith) ∙ getD-drop b s i nan ∙ h i (omega arith))
+pub stands-part : (b n : ℕ) (x s : List Float) → length x ≡ n → Stands b x s → part b n s ≡ x
+stands-part b n x s e h =
+    let l = length-part b n s in
+    ext-getD nan (part b n s) x (l ∙ sym e) (λ i u. at-part b n s i (b + i) (omega arith) refl ∙ h i (omega arith))
 
--- a run that was filled with a matrix place by place, from the first on
-pub filled : (k m : ℕ) (a : Matrix) (s : List Float) → m * (k + 1) ≤ length s → ((q : ℕ) → q < m * (k + 1) → at s q ≡ a (q / (k + 1)) (q % (k + 1)))
-    → take (m * (k + 1)) s ≡ concat (matrix k a m)
-filled k m a s room h =
-    let f = matrix k a m in
-    let n = shape-matrix k a m .count in
-    let full : (i : ℕ) → i < length f → length (line f i) ≡ k + 1 = λ i u. shape-matrix k a m .full i (omega arith) in
-    ext-getD nan (take (m * (k + 1)) s) (concat f) (length-take-le (m * (k + 1)) s room ∙ sym (length-concat k f full ∙ rw n))
-    (λ q u.
-    let b : q < m * (k + 1) = omega (arith, length-take-le (m * (k + 1)) s room) in
-    let i : q / (k + 1) < m = div-lt-iff-lt-mul (omega arith) .1 b in
-    let j : q % (k + 1) < k + 1 = mod-lt q (omega arith) in
-    getD-take (m * (k + 1)) s q nan b
-    ∙ h q b
-    ∙ sym (look-matrix k a m (q / (k + 1)) (q % (k + 1)) i (omega arith))
-    ∙ sym (at-concat k f full (q / (k + 1)) (q % (k + 1)) (omega arith) (omega arith))
-    ∙ ap (at (concat f)) (div-add-mod' q (k + 1)))
+-- a part of the n places from p on
+pub sub-part : (p n b l : ℕ) (s : List Float) → p + n ≤ length s → b + l ≤ n → part b l (take n (drop p s)) ≡ part (p + b) l s
+sub-part p n b l s room h = let d : p + n - p ≡ n = omega arith in rw d at (partOf-range nan b l p (p + n) s (omega arith) room (omega arith))

@@ -5,7 +5,7 @@ use mathlib.Core.List.{List}
 use Prim.Native.Nat.{ℕ, _+_, _*_, _<_, _≤_}
 use lib.ListN.{length}
 use lib.Ieee.{Float}
-use Rattle.vectors.specs.Vec.{at}
+use Rattle.vectors.specs.Vec.{at, Kept}
 use Rattle.banded.specs.Rows.{Matrix, line, look, entry, good}
 use Rattle.banded.specs.Solve.{forwardAt}
 
@@ -29,17 +29,30 @@ Stands b x s = (j : ℕ) → j < length x → at s (b + j) ≡ at x j
 
 -- s is s₀ but for the first c places of row r, which are now the factor's
 pub record Factored (k r c : ℕ) (s₀ s : List Float) : Type 0 where
-  pub size : length s ≡ length s₀
-  pub below : (q : ℕ) → q < r * (k + 1) → at s q ≡ at s₀ q
-  pub after : (q : ℕ) → r * (k + 1) + c ≤ q → at s q ≡ at s₀ q
+  pub kept : Kept (r * (k + 1)) c s₀ s
   pub made : (j : ℕ) → j < c → flat k s r j ≡ entry k (flat k s) (flat k s₀ r j) r j
 
--- s is s₀ but for row r, which is now the factor's, and place r of the right side, which is carried forward; ok says whether the row's pivot is good
-pub record Eliminated (k m r : ℕ) (s₀ s : List Float) (ok : Bool) : Type 0 where
+-- a run of n places has m rows and their right side, and row r is one of the m
+pub record HasRow (k m r n : ℕ) : Type 0 where
+  pub row : r < m
+  pub room : m * (k + 1) + m ≤ n
+
+-- s is s₀ but for row r and place r of the right side
+pub record Elsewhere (k m r : ℕ) (s₀ s : List Float) : Type 0 where
   pub size : length s ≡ length s₀
   pub below : (q : ℕ) → q < r * (k + 1) → at s q ≡ at s₀ q
   pub between : (q : ℕ) → (r + 1) * (k + 1) ≤ q → q < m * (k + 1) + r → at s q ≡ at s₀ q
   pub above : (q : ℕ) → m * (k + 1) + r < q → at s q ≡ at s₀ q
+
+-- that row is now v, and that place x
+pub record Stored (k m r : ℕ) (v : ℕ → Float) (x : Float) (s₀ s : List Float) : Type 0 where
+  pub elsewhere : Elsewhere k m r s₀ s
+  pub row : (c : ℕ) → c ≤ k → flat k s r c ≡ v c
+  pub side : at s (m * (k + 1) + r) ≡ x
+
+-- that row is now the factor's, and that place carried forward; ok says whether the row's pivot is good
+pub record Eliminated (k m r : ℕ) (s₀ s : List Float) (ok : Bool) : Type 0 where
+  pub elsewhere : Elsewhere k m r s₀ s
   pub made : (c : ℕ) → c ≤ k → flat k s r c ≡ entry k (flat k s) (flat k s₀ r c) r c
   pub carried : at s (m * (k + 1) + r) ≡ forwardAt k (flat k s) (λ j. at s (m * (k + 1) + j)) (at s₀ (m * (k + 1) + r)) r
   pub pivot : ok ≡ good (flat k s r k)

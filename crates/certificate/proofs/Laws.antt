@@ -1,8 +1,8 @@
 -- Laws of the certificate: the places of its vectors, D' by reads that go beyond the ends, and a point inside the bounds. Assumes nothing.
 use mathlib.Core.Path.{_≡_, refl, sym, ap, ap₂, _∙_}
-use mathlib.Core.Bool.{Bool, true, false, cond}
+use mathlib.Core.Bool.{Bool, true, false}
 use mathlib.Core.List.{List}
-use Prim.Native.Nat.{ℕ, zero, suc, _+_, _-_, _*_, _≤_, _<_, min}
+use Prim.Native.Nat.{ℕ, _+_, _-_, _*_, _≤_, _<_, min}
 use native.Mathlib.Omega.{arith}
 use borrow.Author.Tests.{lt-ltb, le-ltb, ltb-true}
 use lib.Dec.{ltb}
@@ -11,15 +11,17 @@ use lib.Seq.{getD-take}
 use lib.Ieee.{Float, nan, inf, fin, lt, neg, below, up, down}
 use Rattle.float64.specs.Ops.{_⊕_, _⊖_, _⊗_, c0, half}
 use Rattle.float64.specs.Helpers.{absOf, clampOf}
-use Rattle.vectors.specs.Vec.{at, list, part, Written}
-use Rattle.vectors.specs.Sums.{sumTo, norm2Sq, dot, sumAbs, inside}
+use Rattle.float64.proofs.Clash.{clash}
+use Rattle.vectors.specs.Vec.{at, part, Written}
+use Rattle.vectors.specs.Sums.{norm2Sq, dot, sumAbs, inside}
 use Rattle.vectors.proofs.Laws.{length-list, at-list, list-ext, list-is, cond-cong}
 use Rattle.vectors.proofs.Parts.{partOf-ext, range-part, length-part, part-above}
 use Rattle.vectors.proofs.Sums.{sum-ext, inside-at}
 use Rattle.differences.specs.Diff.{before, here, fall, diffK, diffKT}
-use Rattle.differences.proofs.Laws.{at-fall-1, at-fall-2}
+use Rattle.differences.proofs.Laws.{length-diffK, at-fall-1, at-fall-2}
 use Rattle.certificate.specs.Certificate.{minus, clamped, certify}
-use Rattle.certificate.specs.Run.{dualOf, Trend, Certified}
+use Rattle.certificate.specs.Run.{dualOf, dualAt, Trend, Beside, Summed, Certified}
+use Rattle.certificate.specs.Ready.{Ready}
 
 -- ---- the places
 
@@ -77,23 +79,20 @@ edges-2 v m j e h = at-fall-2 v j (omega arith) ∙ rw e (fall-edges (m + 1) (fa
 
 -- ---- a point inside the bounds is its own clamped point
 
-no : false ≡ true → ⊥
-no e = let z : _≡_ {A = ℕ} 0 1 = cc in omega arith
-
 under : (s : Bool) (a b : ℕ) → ltb a b ≡ true → (below s a true b ≡ false) × (below false b s a ≡ false)
 under true a b h = (le-ltb b a (omega (arith, ltb-true a b h)), refl)
 under false a b h = (refl, le-ltb b a (omega (arith, ltb-true a b h)))
 
 pub clamp-inside : (z lam : Float) → lt (absOf z) lam ≡ true → clampOf z lam ≡ z
 unfolding lt absOf clampOf neg
-clamp-inside nan lam h = absurd (no h)
-clamp-inside (inf s) nan h = absurd (no h)
-clamp-inside (inf s) (inf t) h = absurd (no h)
-clamp-inside (inf s) (fin t n d) h = absurd (no h)
-clamp-inside (fin s m e) nan h = absurd (no h)
-clamp-inside (fin s m e) (inf true) h = absurd (no h)
+clamp-inside nan lam h = absurd (clash h refl)
+clamp-inside (inf s) nan h = absurd (clash h refl)
+clamp-inside (inf s) (inf t) h = absurd (clash h refl)
+clamp-inside (inf s) (fin t n d) h = absurd (clash h refl)
+clamp-inside (fin s m e) nan h = absurd (clash h refl)
+clamp-inside (fin s m e) (inf true) h = absurd (clash h refl)
 clamp-inside (fin s m e) (inf false) h = refl
-clamp-inside (fin s m e) (fin true n d) h = absurd (no h)
+clamp-inside (fin s m e) (fin true n d) h = absurd (clash h refl)
 clamp-inside (fin s m e) (fin false n d) h =
     let u = under s (m * up e * down d) (n * up d * down e) h in
     rw (u .0, u .1)
@@ -109,26 +108,39 @@ clamped-inside lam z h =
 pub room : (b c : List Float) (m : ℕ) → take m b ≡ c → length c ≡ m → m ≤ length b
 room b c m e h = let l : min m (length b) ≡ m = sym (length-take m b) ∙ ap length e ∙ h in omega arith
 
-module _ (k : ℕ) (y s₀ s : List Float) (a : Float) (t : Trend k y s₀ s a) (fits : length y + (length y - k) ≤ length s₀) where
-  -- the dual point after the trend, as it was
-  pub dual-part : take (length y + (length y - k) - length y) (drop (length y) s) ≡ dualOf k y s₀
-  dual-part =
-      let size = t .kept .size in
-      range-part (length y) (length y + (length y - k)) (length y - k) s refl (omega arith) ∙ part-above nan (length y) (length y - k) (t .kept) (omega arith)
+-- D y has its places in dy
+pub ready-long : {k least places : ℕ} {y dy : List Float} → Ready k y dy least places → length y - k ≤ length dy
+ready-long {k} {y = y} {dy = dy} r = room dy (diffK k y) (length y - k) (r .known) (length-diffK k y)
 
-  pub squares-part : a ≡ norm2Sq (diffKT k (take (length y + (length y - k) - length y) (drop (length y) s)))
-  squares-part = t .squared ∙ ap (λ (v : List Float). norm2Sq (diffKT k v)) (sym dual-part)
+-- the trend has been written into s₀, with a = Σ(D'z)²
+module _ {k : ℕ} {y dy s₀ s : List Float} {a : Float} (r : Ready k y dy (length y + (length y - k)) (length s₀)) (t : Trend k y s₀ s a) where
+  pub beside : Beside k (length y) (length s) (length dy)
+  beside = let size = t .kept .size in record { series = r .series; room = omega arith; long = ready-long r }
 
-  pub certified : (lam : Float) (dy : List Float) (j g : Float) → j ≡ sumAbs (diffK k (part 0 (length y) s)) → take (length y - k) dy ≡ diffK k y
-      → (z : List Float) → z ≡ dualOf k y s₀ → g ≡ neg half ⊗ norm2Sq (diffKT k (clamped lam z)) ⊕ dot (clamped lam z) dy
-      → Certified k y lam s₀ s (half ⊗ a ⊕ lam ⊗ j) g
+  -- the dual point after the trend, as a part of the run and as it was
+  range : take (length y + (length y - k) - length y) (drop (length y) s) ≡ part (length y) (length y - k) s
+  range = let size = t .kept .size in range-part (length y) (length y + (length y - k)) (length y - k) s refl (omega arith)
+
+  point : take (length y + (length y - k) - length y) (drop (length y) s) ≡ dualOf k y s₀
+  point = range ∙ part-above nan (length y) (length y - k) (t .kept) (omega arith)
+
+  pub summed : {b : Float} → b ≡ dot (part (length y) (length y - k) s) dy → Summed k (take (length y + (length y - k) - length y) (drop (length y) s)) dy a b
+  summed e = record {
+    order = r .series .order;
+    long = rw range (omega (arith, ready-long r, length-part (length y) (length y - k) s));
+    squared = t .squared ∙ ap (λ (v : List Float). norm2Sq (diffKT k v)) (sym point);
+    multiplied = e ∙ ap (λ (v : List Float). dot v dy) (sym range);
+  }
+
+  pub certified : (lam : Float) {j g : Float} → j ≡ sumAbs (diffK k (part 0 (length y) s))
+      → g ≡ dualAt k lam dy (take (length y + (length y - k) - length y) (drop (length y) s)) → Certified k y lam s₀ s (half ⊗ a ⊕ lam ⊗ j) g
   unfolding certify
-  certified lam dy j g p q z e r =
+  certified lam p q =
       let zc = clamped lam (dualOf k y s₀) in
       let l : length zc ≡ length y - k = length-clamped lam (dualOf k y s₀) ∙ length-part (length y) (length y - k) s₀ in
       record {
         trend = t .trend;
         primal-is = ap₂ (λ (u v : Float). half ⊗ u ⊕ lam ⊗ v) (t .squared) (p ∙ ap (λ (v : List Float). sumAbs (diffK k v)) (t .trend));
-        dual-is = (rw e at r) ∙ ap (λ (v : Float). neg half ⊗ norm2Sq (diffKT k zc) ⊕ v) (dot-take zc dy (diffK k y) (length y - k) l q);
+        dual-is = (rw point at q) ∙ ap (λ (v : Float). neg half ⊗ norm2Sq (diffKT k zc) ⊕ v) (dot-take zc dy (diffK k y) (length y - k) l (r .known));
         kept = t .kept;
       }

@@ -1,14 +1,14 @@
 // The certificate of a dual point.
 ghost use mathlib.Core.Path.{_≡_};
 ghost use Prim.Native.Nat.{_≤_, _<_, _-_, _+_};
-ghost use lib.ListN.{length, take};
-ghost use lib.Ieee.{neg};
-ghost use Rattle.float64.specs.Ops.{_⊕_, _⊗_, half};
-ghost use Rattle.vectors.specs.Vec.{at, part, Kept};
+ghost use lib.ListN.{length};
+ghost use Rattle.vectors.specs.Vec.{at, part};
 ghost use Rattle.vectors.specs.Sums.{norm2Sq, dot, sumAbs};
 ghost use Rattle.differences.specs.Diff.{before, here, fall, diffK, diffKT};
 ghost use Rattle.certificate.specs.Certificate.{clamped};
-ghost use Rattle.certificate.specs.Run.{Trend, Certified};
+ghost use Rattle.differences.specs.Series.{Order, Series};
+ghost use Rattle.certificate.specs.Run.{dualAt, Trend, Beside, Summed, Certified};
+ghost use Rattle.certificate.specs.Ready.{Ready};
 
 // P and G.
 pub struct Pair {
@@ -18,7 +18,7 @@ pub struct Pair {
 
 // The first n places of s become the trend y - D'z, where z stands after them; the sum of the squares of D'z.
 fn trend_into(s: &mut [f64], y: &[f64], k: usize) -> f64
-    requires { ⌜ (1 ≤ k) × ((k ≤ 2) × ((k < length (now y)) × (length (now y) + (length (now y) - k) ≤ length (now s)))) ⌝ }
+    requires { ⌜ Series k (length (now y)) × (length (now y) + (length (now y) - k) ≤ length (now s)) ⌝ }
     ensures { λ r. ⌜ Trend k (now (y .entry)) (now (s .entry)) (now (s .exit)) r ⌝ }
 {
     let n = y.len();
@@ -41,7 +41,7 @@ struct Sums {
 
 // The sum of |D x| and that of z·D y, for the trend x in the first n places of s and z after them.
 fn add_up(s: &[f64], dy: &[f64], k: usize, n: usize) -> Sums
-    requires { ⌜ (1 ≤ k) × ((k ≤ 2) × ((k < n) × ((n + (n - k) ≤ length (now s)) × (n - k ≤ length (now dy))))) ⌝ }
+    requires { ⌜ Beside k n (length (now s)) (length (now dy)) ⌝ }
     ensures { λ r. ⌜ (r .jumps ≡ sumAbs (diffK k (part 0 n (now (s .entry)))))
         × (r .dot ≡ dot (part n (n - k) (now (s .entry))) (now (dy .entry))) ⌝ }
 {
@@ -89,7 +89,7 @@ fn fall_before(z: &[f64], lam: f64, j: usize) -> f64
 
 // Place j of D' of the clamped z.
 fn clamped_at(z: &[f64], lam: f64, k: usize, j: usize) -> f64
-    requires { ⌜ (1 ≤ k) × ((k ≤ 2) × (j < length (now z) + k)) ⌝ }
+    requires { ⌜ Order k × (j < length (now z) + k) ⌝ }
     ensures { λ r. ⌜ r ≡ at (diffKT k (clamped lam (now (z .entry)))) j ⌝ }
 {
     if k == 1 {
@@ -100,7 +100,7 @@ fn clamped_at(z: &[f64], lam: f64, k: usize, j: usize) -> f64
 
 // The sum of the squares of D' of the clamped z.
 fn sum_clamped(z: &[f64], lam: f64, k: usize) -> f64
-    requires { ⌜ (1 ≤ k) × (k ≤ 2) ⌝ }
+    requires { ⌜ Order k ⌝ }
     ensures { λ r. ⌜ r ≡ norm2Sq (diffKT k (clamped lam (now (z .entry)))) ⌝ }
 {
     let n = z.len() + k;
@@ -131,8 +131,8 @@ fn dot_clamped(z: &[f64], dy: &[f64], lam: f64) -> f64
 
 // G at z, of which Σ(D'z)² and z·D y are known: they serve where every |z| is below lam.
 fn dual_of(z: &[f64], dy: &[f64], lam: f64, k: usize, squares: f64, product: f64) -> f64
-    requires { ⌜ (1 ≤ k) × ((k ≤ 2) × ((length (now z) ≤ length (now dy)) × ((squares ≡ norm2Sq (diffKT k (now z))) × (product ≡ dot (now z) (now dy))))) ⌝ }
-    ensures { λ r. ⌜ r ≡ neg half ⊗ norm2Sq (diffKT k (clamped lam (now (z .entry)))) ⊕ dot (clamped lam (now (z .entry))) (now (dy .entry)) ⌝ }
+    requires { ⌜ Summed k (now z) (now dy) squares product ⌝ }
+    ensures { λ r. ⌜ r ≡ dualAt k lam (now (dy .entry)) (now (z .entry)) ⌝ }
 {
     if vectors::inside(z, lam) {
         return -0.5 * squares + product;
@@ -144,8 +144,7 @@ fn dual_of(z: &[f64], dy: &[f64], lam: f64, k: usize, squares: f64, product: f64
 
 // The certificate at z, which stands in s after n places for the trend. dy begins with D y.
 pub fn certify_l1(s: &mut [f64], y: &[f64], dy: &[f64], lam: f64, k: usize) -> Pair
-    requires { ⌜ (1 ≤ k) × ((k ≤ 2) × ((k < length (now y)) × ((length (now y) + (length (now y) - k) ≤ length (now s))
-        × (take (length (now y) - k) (now dy) ≡ diffK k (now y))))) ⌝ }
+    requires { ⌜ Ready k (now y) (now dy) (length (now y) + (length (now y) - k)) (length (now s)) ⌝ }
     ensures { λ r. ⌜ Certified k (now (y .entry)) lam (now (s .entry)) (now (s .exit)) (r .primal) (r .dual) ⌝ }
 {
     let n = y.len();

@@ -10,11 +10,13 @@ ghost use Rattle.vectors.specs.Vec.{put, Wrote};
 ghost use Rattle.vectors.specs.Sums.{maxAbs};
 ghost use Rattle.differences.specs.Diff.{diffK};
 ghost use Rattle.certificate.specs.Certificate.{minus};
+ghost use Rattle.differences.specs.Series.{Series};
 ghost use Rattle.decomposition.specs.Knots.{threshold, knots as knotsOf};
+ghost use Rattle.decomposition.specs.Written.{buffers, KnotPlaces, Places, WroteOut};
 
 // The greatest |D y|, from 0; NaN is ignored.
 fn max_abs_diff(y: &[f64], k: usize) -> f64
-    requires { ⌜ (1 ≤ k) × ((k ≤ 2) × (k < length (now y))) ⌝ }
+    requires { ⌜ Series k (length (now y)) ⌝ }
     ensures { λ r. ⌜ r ≡ maxAbs (diffK k (now (y .entry))) ⌝ }
 {
     let m = y.len() - k;
@@ -31,7 +33,7 @@ fn max_abs_diff(y: &[f64], k: usize) -> f64
 
 // Above this a difference of the trend is a knot.
 fn threshold(y: &[f64], k: usize) -> f64
-    requires { ⌜ (1 ≤ k) × ((k ≤ 2) × (k < length (now y))) ⌝ }
+    requires { ⌜ Series k (length (now y)) ⌝ }
     ensures { λ r. ⌜ r ≡ threshold k (now (y .entry)) ⌝ }
 {
     let a = max_abs_diff(y, k);
@@ -53,11 +55,9 @@ fn add_knot(knots: &mut [u32], n: usize, i: usize, d: f64, t: f64) -> usize
 }
 
 // The first places of knots become the knots of the trend x of y; how many there are.
-pub fn find_knots(knots: &mut [u32], x: &[f64], y: &[f64], k: usize) -> usize
-    requires { ⌜ (1 ≤ k) × ((k ≤ 2) × ((length (now x) ≡ length (now y)) × ((k < length (now y))
-        × ((length (now y) ≤ 65536) × (length (now y) - k ≤ length (now knots)))))) ⌝ }
-    ensures { λ r. ⌜ (r ≡ length (knotsOf k (now (y .entry)) (diffK k (now (x .entry)))))
-        × (now (knots .exit) ≡ put (now (knots .entry)) 0 (knotsOf k (now (y .entry)) (diffK k (now (x .entry))))) ⌝ }
+fn find_knots(knots: &mut [u32], x: &[f64], y: &[f64], k: usize) -> usize
+    requires { ⌜ KnotPlaces k (length (now y)) (length (now x)) (length (now knots)) ⌝ }
+    ensures { λ r. ⌜ Wrote (now (knots .entry)) 0 (knotsOf k (now (y .entry)) (diffK k (now (x .entry)))) (now (knots .exit)) r ⌝ }
 {
     let t = threshold(y, k);
     let m = x.len() - k;
@@ -72,7 +72,7 @@ pub fn find_knots(knots: &mut [u32], x: &[f64], y: &[f64], k: usize) -> usize
 }
 
 // The first places of c become y - x.
-pub fn minus_into(c: &mut [f64], y: &[f64], x: &[f64])
+fn minus_into(c: &mut [f64], y: &[f64], x: &[f64])
     requires { ⌜ (length (now y) ≤ length (now x)) × (length (now y) ≤ length (now c)) ⌝ }
     ensures { λ _. ⌜ now (c .exit) ≡ put (now (c .entry)) 0 (minus (now (y .entry)) (now (x .entry))) ⌝ }
 {
@@ -81,4 +81,22 @@ pub fn minus_into(c: &mut [f64], y: &[f64], x: &[f64])
         c[i] = y[i] - x[i];
         i += 1;
     }
+}
+
+// x, y - x and the knots of x in the first places of trend, cycle and knots; how many knots there are.
+pub fn write_out(
+    trend: &mut [f64],
+    cycle: &mut [f64],
+    knots: &mut [u32],
+    y: &[f64],
+    x: &[f64],
+    k: usize,
+) -> usize
+    requires { ⌜ Places k (now y) (now x) (buffers (now trend) (now cycle) (now knots)) ⌝ }
+    ensures { λ r. ⌜ WroteOut k (now (y .entry)) (now (x .entry)) r
+        (buffers (now (trend .entry)) (now (cycle .entry)) (now (knots .entry))) (buffers (now (trend .exit)) (now (cycle .exit)) (now (knots .exit))) ⌝ }
+{
+    vectors::copy(trend, x);
+    minus_into(cycle, y, x);
+    find_knots(knots, x, y, k)
 }

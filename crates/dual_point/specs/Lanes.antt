@@ -14,6 +14,10 @@ candidateTrend n = 11 * n
 abbrev pub candidateLane : ℕ → ℕ
 candidateLane n = 12 * n
 
+-- the polish's lanes together
+abbrev pub polishArea : ℕ → ℕ
+polishArea n = 6 * n
+
 -- the whole area
 abbrev pub searchArea : ℕ → ℕ
 searchArea n = 13 * n

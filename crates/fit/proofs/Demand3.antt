@@ -16,10 +16,10 @@ use Rattle.interior_point.specs.InteriorPoint.{State, problem, origin, interior
 use Rattle.l2.specs.L2.{soundL2}
 use Rattle.questions.specs.Questions.{Asked, Lent, question}
 use Rattle.questions.proofs.Laws as questions
-use Rattle.fit.specs.Fit.{Fit, Outcome, refused, fitted, places, closed, fitL2, fitZero, fitFlat, polished, searchOf, keptOf, firstGap, fitWith, fitEnd, lamZero, lamHigh, fitL1, fitBy, soundDD, fit}
+use Rattle.fit.specs.Fit.{Found, Fit, Outcome, refused, fitted, places, closed, pathL2, pathZero, pathFlat, polished, searchOf, keptOf, firstGap, foundWith, pathEnd, lamZero, lamHigh, pathL1, path, written, outcome, soundDD, fit}
 use Rattle.fit.specs.Demand3.{Bounds, withMaxIter, Demand3}
 use Rattle.fit.proofs.Sign.{tol-positive, lam-positive, primal-clear}
-use Rattle.fit.proofs.Passed.{same-questions, fit-passed, passed}
+use Rattle.fit.proofs.Passed.{same-questions, fit-passed, outcome-some, passed}
 
 -- ---- the search of a fit
 abbrev problemOf : Asked → Problem State
@@ -35,115 +35,113 @@ searches a l q z =
     (origin (places a))
 
 -- ---- the numeric bounds
-abbrev Within : ℕ → Outcome → Type 0
-Within max (refused n) = T true
-Within max (fitted f) = Bounds max f
 
-bounds-closed : (max : ℕ) (a : Asked) (x d : List Float) (g o : Float) → Bounds max (closed a x d g o)
-unfolding closed
-bounds-closed max a x d g o = let k = kept-closed max g in record { limit = k .limit; ten = k .ten; few = k .few; shrunk = k .shrunk }
+-- the same four bounds of what a path finds
+record Bounded (max-iter : ℕ) (f : Found) : Type 0 where
+  kept : search.Kept max-iter (f .n-iter) (f .improvements) (f .first-gap) (f .best-gap)
 
-bounds-end : (a : Asked) → Searches a → Bounds (a .max-iter) (fitEnd a (searchOf a))
-unfolding fitEnd searchOf interiorPoint firstGap problem
-bounds-end a s = let k = s .kept (a .max-iter) in record { limit = k .limit; ten = k .ten; few = k .few; shrunk = k .shrunk }
+abbrev Within : ℕ → Option Found → Type 0
+Within max none = T true
+Within max (some f) = Bounded max f
 
-within-l2 : (max : ℕ) (a : Asked) → Within max (fitL2 a)
-unfolding fitL2
-within-l2 max a = go (soundL2 (a .order) (a .y) (a .lam)) _ (bounds-closed max a _ _ _ _)
+bounded-closed : (max : ℕ) (x d : List Float) (g o : Float) → Bounded max (closed x d g o)
+bounded-closed max x d g o = record { kept = kept-closed max g }
+
+bounded-end : (a : Asked) → Searches a → Bounded (a .max-iter) (pathEnd a (searchOf a))
+unfolding pathEnd searchOf interiorPoint firstGap problem
+bounded-end a s = record { kept = s .kept (a .max-iter) }
+
+within-l2 : (max : ℕ) (a : Asked) → Within max (pathL2 a)
+unfolding pathL2
+within-l2 max a = go (soundL2 (a .order) (a .y) (a .lam)) _ (bounded-closed max _ _ _ _)
   where
-    go : (b : Bool) (f : Fit) → Bounds max f → Within max (cond b (fitted f) (refused 10))
+    go : (b : Bool) (f : Found) → Bounded max f → Within max (cond b (some f) none)
     go true f k = k
     go false f k = tt
 
-within-l1 : (a : Asked) (l : Lent) → questions.Passed a l → Bounds (a .max-iter) (fitL1 a)
-unfolding fitL1 fitZero fitFlat
+within-l1 : (a : Asked) (l : Lent) → questions.Passed a l → Bounded (a .max-iter) (pathL1 a)
+unfolding pathL1 pathZero pathFlat
 within-l1 a l q = go (lamZero a) refl (lamHigh a)
   where
-    go : (z : Bool) → lamZero a ≡ z → (m : Bool) → Bounds (a .max-iter) (cond z (fitZero a) (cond m (fitFlat a) (fitEnd a (searchOf a))))
-    go true e m = bounds-closed (a .max-iter) a _ _ _ _
-    go false e true = bounds-closed (a .max-iter) a _ _ _ _
-    go false e false = bounds-end a (searches a l q e)
+    go : (z : Bool) → lamZero a ≡ z → (m : Bool) → Bounded (a .max-iter) (cond z (pathZero a) (cond m (pathFlat a) (pathEnd a (searchOf a))))
+    go true e m = bounded-closed (a .max-iter) _ _ _ _
+    go false e true = bounded-closed (a .max-iter) _ _ _ _
+    go false e false = bounded-end a (searches a l q e)
 
-within : (a : Asked) (l : Lent) → questions.Passed a l → Within (a .max-iter) (fitBy a)
-unfolding fitBy
+within : (a : Asked) (l : Lent) → questions.Passed a l → Within (a .max-iter) (path a)
+unfolding path
 within a l q = go (eqb (a .penalty) 2)
   where
-    go : (p : Bool) → Within (a .max-iter) (cond p (fitL2 a) (fitted (fitL1 a)))
+    go : (p : Bool) → Within (a .max-iter) (cond p (pathL2 a) (some (pathL1 a)))
     go true = within-l2 (a .max-iter) a
     go false = within-l1 a l q
 
 pub bounds : (a : Asked) (l : Lent) (f : Fit) → fit a l ≡ fitted f → Bounds (a .max-iter) f
-bounds a l f e = let p = passed a l f e in subst (Within (a .max-iter)) (p .made) (within a l (questions.passed a l (p .asked)))
+unfolding written
+bounds a l f e =
+    let p = passed a l f e in
+    let w : Bounded (a .max-iter) (p .found) = subst (Within (a .max-iter)) (p .path-is) (within a l (questions.passed a l (p .asked))) in
+    let k = w .kept in
+    subst (Bounds (a .max-iter)) (sym (p .made)) (record { limit = k .limit; ten = k .ten; few = k .few; shrunk = k .shrunk })
 
 -- ---- another limit
+
 -- an end with the same state, best gap and counts
 abbrev endWith : State → ℕ → Float → ℕ → Ended State
 endWith s steps best gains = record { state = s; steps = steps; best = best; gains = gains; reason = small }
 
 -- the reason does not reach the fit
-end-from : (a : Asked) (e : Ended State) → fitEnd a e ≡ fitEnd a (endWith (e .state) (e .steps) (e .best) (e .gains))
-unfolding fitEnd keptOf
+end-from : (a : Asked) (e : Ended State) → pathEnd a e ≡ pathEnd a (endWith (e .state) (e .steps) (e .best) (e .gains))
+unfolding pathEnd keptOf
 end-from a e = refl
+
+same-end : (a : Asked) (e f : Ended State) → search.Alike e f → pathEnd a e ≡ pathEnd a f
+same-end a e f h = end-from a e ∙ (λ i. pathEnd a (endWith (h .state i) (h .steps i) (h .best i) (h .gains i))) ∙ sym (end-from a f)
 
 polished-other : (m : ℕ) (a : Asked) (c : Certificate) (z : Option (List Float)) → polished (withMaxIter m a) c z ≡ polished a c z
 unfolding polished
 polished-other m a c none = refl
 polished-other m a c (some z) = refl
 
-kept-other : (m : ℕ) (a : Asked) (e : Ended State) → keptOf (withMaxIter m a) e ≡ keptOf a e
-unfolding keptOf
-kept-other m a e = polished-other m a _ _
+end-other : (m : ℕ) (a : Asked) (e : Ended State) → pathEnd (withMaxIter m a) e ≡ pathEnd a e
+unfolding pathEnd firstGap keptOf
+end-other m a e = ap (λ (c : Certificate). foundWith a c e) (polished-other m a _ _)
 
-end-other : (m : ℕ) (a : Asked) (e : Ended State) → fitEnd (withMaxIter m a) e ≡ fitEnd a e
-unfolding fitEnd firstGap
-end-other m a e = ap (λ (c : Certificate). fitWith a c e) (kept-other m a e)
+-- what the path finds, given where the search ended
+abbrev pathWith : Asked → Found → Option Found
+pathWith a x = cond (eqb (a .penalty) 2) (pathL2 a) (some (cond (lamZero a) (pathZero a) (cond (lamHigh a) (pathFlat a) x)))
 
-same-fit : (a : Asked) (e f : Ended State) → search.Alike e f → fitEnd a e ≡ fitEnd a f
-same-fit a e f h = end-from a e ∙ (λ i. fitEnd a (endWith (h .state i) (h .steps i) (h .best i) (h .gains i))) ∙ sym (end-from a f)
+path-is : (a : Asked) → path a ≡ pathWith a (pathEnd a (searchOf a))
+unfolding path pathL1
+path-is a = refl
 
-zero-other : (m : ℕ) (a : Asked) → fitZero (withMaxIter m a) ≡ fitZero a
-unfolding fitZero closed
-zero-other m a = refl
+path-other : (n : ℕ) (a : Asked) → path (withMaxIter n a) ≡ pathWith a (pathEnd a (searchOf (withMaxIter n a)))
+unfolding path pathL1 pathZero pathFlat pathL2
+path-other n a = ap (pathWith a) (end-other n a (searchOf (withMaxIter n a)))
 
-flat-other : (m : ℕ) (a : Asked) → fitFlat (withMaxIter m a) ≡ fitFlat a
-unfolding fitFlat closed
-flat-other m a = refl
+outcome-other : (n : ℕ) (a : Asked) (o : Option Found) → outcome (withMaxIter n a) o ≡ outcome a o
+unfolding outcome written
+outcome-other n a none = refl
+outcome-other n a (some f) = refl
 
-l2-other : (m : ℕ) (a : Asked) → fitL2 (withMaxIter m a) ≡ fitL2 a
-unfolding fitL2 closed
-l2-other m a = refl
+-- where two searches end alike, or none is made, the same is found
+same-with : (p z m : Bool) (l2 : Option Found) (o c x y : Found) → (p ≡ false → z ≡ false → m ≡ false → x ≡ y)
+    → cond p l2 (some (cond z o (cond m c x))) ≡ cond p l2 (some (cond z o (cond m c y)))
+same-with true z m l2 o c x y h = refl
+same-with false true m l2 o c x y h = refl
+same-with false false true l2 o c x y h = refl
+same-with false false false l2 o c x y h = ap some (h refl refl refl)
 
--- the paths, and the fit on each
-abbrev by : (p z m : Bool) → Outcome → Fit → Fit → Fit → Outcome
-by p z m l2 o c x = cond p l2 (fitted (cond z o (cond m c x)))
+-- how many iterations a path reports
+abbrev iterations : Option Found → ℕ
+iterations none = 0
+iterations (some f) = f .n-iter
 
-by-path : (a : Asked) → fitBy a ≡ by (eqb (a .penalty) 2) (lamZero a) (lamHigh a) (fitL2 a) (fitZero a) (fitFlat a) (fitEnd a (searchOf a))
-unfolding fitBy fitL1
-by-path a = refl
-
-by-path-other : (n : ℕ) (a : Asked)
-    → fitBy (withMaxIter n a) ≡ by (eqb (a .penalty) 2) (lamZero a) (lamHigh a) (fitL2 a) (fitZero a) (fitFlat a) (fitEnd a (searchOf (withMaxIter n a)))
-by-path-other n a =
-    by-path (withMaxIter n a)
-    ∙ (λ i. by (eqb (a .penalty) 2) (lamZero a) (lamHigh a) (l2-other n a i) (zero-other n a i) (flat-other n a i) (end-other n a (searchOf (withMaxIter n a)) i))
-
--- where two searches end alike, or none is made, the fits are the same
-same-by : (p z m : Bool) (l2 : Outcome) (o c x y : Fit) → (p ≡ false → z ≡ false → m ≡ false → x ≡ y) → by p z m l2 o c x ≡ by p z m l2 o c y
-same-by true z m l2 o c x y h = refl
-same-by false true m l2 o c x y h = refl
-same-by false false true l2 o c x y h = refl
-same-by false false false l2 o c x y h = ap fitted (h refl refl refl)
-
--- how many iterations an outcome reports
-abbrev iterations : Outcome → ℕ
-iterations (refused n) = 0
-iterations (fitted f) = f .n-iter
-
-end-steps : (a : Asked) (f : Fit) → fitBy a ≡ fitted f → eqb (a .penalty) 2 ≡ false → lamZero a ≡ false → lamHigh a ≡ false → searchOf a .steps ≡ f .n-iter
-unfolding fitEnd
+end-steps : (a : Asked) (f : Found) → path a ≡ some f → eqb (a .penalty) 2 ≡ false → lamZero a ≡ false → lamHigh a ≡ false → searchOf a .steps ≡ f .n-iter
+unfolding pathEnd
 end-steps a f e p z m =
-    let q : fitBy a ≡ fitted (fitEnd a (searchOf a)) =
-    by-path a ∙ (λ i. by (p i) (z i) (m i) (fitL2 a) (fitZero a) (fitFlat a) (fitEnd a (searchOf a))) in
+    let x = pathEnd a (searchOf a) in
+    let q : path a ≡ some x = path-is a ∙ (λ i. cond (p i) (pathL2 a) (some (cond (z i) (pathZero a) (cond (m i) (pathFlat a) x)))) in
     ap iterations (sym q ∙ e)
 
 -- where n_iter is below the limit, a limit that is at least n_iter
@@ -156,37 +154,46 @@ unfolding searchOf interiorPoint
 ends-settled a one other s h g = s .settled other one g h
 
 pub alike : (a : Asked) (l : Lent) (f : Fit) → fit a l ≡ fitted f → f .n-iter < a .max-iter → (other : ℕ) → 1 ≤ other → f .n-iter ≤ other → fit (withMaxIter other a) l ≡ fitted f
+unfolding written
 alike a l f e h other one g =
     let p = passed a l f e in
     let q = questions.passed a l (p .asked) in
+    let n : f .n-iter ≡ p .found .n-iter = ap (λ (x : Fit). x .n-iter) (p .made) in
     fit-passed (withMaxIter other a) l (questions.same-question a l other (q .max-iter) one ∙ p .asked)
-    ∙ ap (λ (b : Bool). cond b (fitBy (withMaxIter other a)) (refused 10)) (p .sound)
-    ∙ by-path-other other a
-    ∙ same-by (eqb (a .penalty) 2) (lamZero a) (lamHigh a) (fitL2 a) (fitZero a) (fitFlat a) (fitEnd a (searchOf (withMaxIter other a))) (fitEnd a (searchOf a))
-    (λ b z m. same-fit a (searchOf (withMaxIter other a)) (searchOf a) (ends-alike a other (f .n-iter) (searches a l q z) (end-steps a f (p .made) b z m) h g))
-    ∙ sym (by-path a) ∙ p .made
+    ∙ ap (λ (b : Bool). cond b (outcome (withMaxIter other a) (path (withMaxIter other a))) (refused 10)) (p .sound)
+    ∙ outcome-other other a (path (withMaxIter other a))
+    ∙ ap (outcome a)
+    (path-other other a
+    ∙ same-with (eqb (a .penalty) 2) (lamZero a) (lamHigh a) (pathL2 a) (pathZero a) (pathFlat a) (pathEnd a (searchOf (withMaxIter other a))) (pathEnd a (searchOf a))
+    (λ b z m. same-end a (searchOf (withMaxIter other a)) (searchOf a) (ends-alike a other (f .n-iter) (searches a l q z) (end-steps a (p .found) (p .path-is) b z m ∙ sym n) h g))
+    ∙ sym (path-is a) ∙ p .path-is)
+    ∙ outcome-some a (p .found) ∙ ap fitted (sym (p .made))
 
 -- any two limits above 1,447,640
 from-high : (m : ℕ) → 1447640 < m → 1 ≤ m
 from-high m h = omega arith
 
-same-high : (a : Asked) (l : Lent) (one other : ℕ) → 1447640 < one → 1447640 < other → question (withMaxIter one a) l ≡ 0 → fitBy (withMaxIter one a) ≡ fitBy (withMaxIter other a)
+same-high : (a : Asked) (l : Lent) (one other : ℕ) → 1447640 < one → 1447640 < other → question (withMaxIter one a) l ≡ 0
+    → outcome (withMaxIter one a) (path (withMaxIter one a)) ≡ outcome (withMaxIter other a) (path (withMaxIter other a))
 same-high a l one other h g e =
     let q = questions.passed (withMaxIter one a) l e in
-    by-path-other one a
-    ∙ same-by (eqb (a .penalty) 2) (lamZero a) (lamHigh a) (fitL2 a) (fitZero a) (fitFlat a) (fitEnd a (searchOf (withMaxIter one a))) (fitEnd a (searchOf (withMaxIter other a)))
-    (λ b z m. ap (fitEnd a) (ends-settled a one other (searches (withMaxIter one a) l q z) h g))
-    ∙ sym (by-path-other other a)
+    outcome-other one a (path (withMaxIter one a))
+    ∙ ap (outcome a)
+    (path-other one a
+    ∙ same-with (eqb (a .penalty) 2) (lamZero a) (lamHigh a) (pathL2 a) (pathZero a) (pathFlat a) (pathEnd a (searchOf (withMaxIter one a))) (pathEnd a (searchOf (withMaxIter other a)))
+    (λ b z m. ap (pathEnd a) (ends-settled a one other (searches (withMaxIter one a) l q z) h g))
+    ∙ sym (path-other other a))
+    ∙ sym (outcome-other other a (path (withMaxIter other a)))
 
 pub settled : (a : Asked) (l : Lent) (one other : ℕ) → 1447640 < one → 1447640 < other → fit (withMaxIter one a) l ≡ fit (withMaxIter other a) l
 unfolding fit
 settled a l one other h g =
     go (eqb (question (withMaxIter one a) l) 0) (eqb→eq (question (withMaxIter one a) l) 0)
-    ∙ ap (λ (q : ℕ). cond (eqb q 0) (cond (soundDD a) (fitBy (withMaxIter other a)) (refused 10)) (refused q)) (same-questions a l one other (from-high one h) (from-high other g))
+    ∙ ap (λ (q : ℕ). cond (eqb q 0) (cond (soundDD a) (outcome (withMaxIter other a) (path (withMaxIter other a))) (refused 10)) (refused q)) (same-questions a l one other (from-high one h) (from-high other g))
   where
     go : (b : Bool) → (T b → question (withMaxIter one a) l ≡ 0)
-        → cond b (cond (soundDD a) (fitBy (withMaxIter one a)) (refused 10)) (refused (question (withMaxIter one a) l))
-        ≡ cond b (cond (soundDD a) (fitBy (withMaxIter other a)) (refused 10)) (refused (question (withMaxIter one a) l))
+        → cond b (cond (soundDD a) (outcome (withMaxIter one a) (path (withMaxIter one a))) (refused 10)) (refused (question (withMaxIter one a) l))
+        ≡ cond b (cond (soundDD a) (outcome (withMaxIter other a) (path (withMaxIter other a))) (refused 10)) (refused (question (withMaxIter one a) l))
     go true k = ap (λ (x : Outcome). cond (soundDD a) x (refused 10)) (same-high a l one other h g (k tt))
     go false k = refl
 

@@ -1,5 +1,5 @@
 -- How long the lists of a fit are: trend and cycle have a place for each of y, and a knot is one of the n - k differences.
-use mathlib.Core.Path.{_≡_, refl, ap, _∙_, subst}
+use mathlib.Core.Path.{_≡_, refl, sym, ap, _∙_, subst}
 use Prim.Native.Nat.{ℕ, _-_, _≤_}
 use native.Mathlib.Nat.{le-trans, le-of-eq}
 use mathlib.Core.Bool.{Bool, true, false, cond}
@@ -11,7 +11,7 @@ use lib.Ieee.{Float}
 use Rattle.differences.specs.Diff.{diffK}
 use Rattle.differences.proofs.Laws.{length-diffK}
 use Rattle.banded.specs.Solve.{forward, divided, solve}
-use Rattle.banded.proofs.Elimination.{length-forward}
+use Rattle.banded.proofs.Forward.{length-forward}
 use Rattle.substitution.proofs.Laws.{length-divided, length-back}
 use Rattle.certificate.specs.Certificate.{Certificate, certify}
 use Rattle.certificate.proofs.Laws.{length-minus}
@@ -21,7 +21,7 @@ use Rattle.search.specs.Search.{Ended}
 use Rattle.interior_point.specs.InteriorPoint.{State}
 use Rattle.l2.specs.L2.{soundL2, trendL2}
 use Rattle.questions.specs.Questions.{Asked, Lent}
-use Rattle.fit.specs.Fit.{Fit, Outcome, refused, fitted, places, closed, fitL2, fitZero, fitFlat, better, polished, searchOf, keptOf, fitEnd, lamZero, lamHigh, fitL1, fitBy, fit}
+use Rattle.fit.specs.Fit.{Found, Fit, fitted, places, closed, pathL2, pathZero, pathFlat, replaces, polished, searchOf, keptOf, pathEnd, lamZero, lamHigh, pathL1, path, written, fit}
 use Rattle.fit.proofs.Passed.{passed}
 
 pub record Lengths (a : Asked) (f : Fit) : Type 0 where
@@ -56,51 +56,54 @@ certified a z = record { trend = length-minus (a .y) _; jumps = jumps-of a _ (le
 kept-sizes : (a : Asked) (c : Certificate) (z : Option (List Float)) → Sizes a c → Sizes a (polished a c z)
 unfolding polished
 kept-sizes a c none h = h
-kept-sizes a c (some z) h = go (better (certify (a .order) (a .y) (a .lam) z) c)
+kept-sizes a c (some z) h = go (replaces (certify (a .order) (a .y) (a .lam) z) c)
   where
     go : (b : Bool) → Sizes a (cond b (certify (a .order) (a .y) (a .lam) z) c)
     go true = certified a z
     go false = h
 
--- ---- of the fit on each path
-closed-lengths : (a : Asked) (x d : List Float) (g o : Float) → length x ≡ length (a .y) → length d ≡ places a → Lengths a (closed a x d g o)
-unfolding closed
-closed-lengths a x d g o e h = record { trend = e; cycle = length-minus (a .y) x; knots = le-trans (length-knots (a .order) (a .y) d) (le-of-eq h) }
+-- ---- of what each path finds
+pub record Spans (a : Asked) (f : Found) : Type 0 where
+  pub trend : length (f .trend) ≡ length (a .y)
+  pub dx : length (f .dx) ≡ places a
 
-end-lengths : (a : Asked) (e : Ended State) → Lengths a (fitEnd a e)
-unfolding fitEnd keptOf
-end-lengths a e =
-    let s = kept-sizes a _ _ (certified a (e .state .point .z)) in
-    record { trend = s .trend; cycle = length-minus (a .y) _; knots = le-trans (length-knots (a .order) (a .y) _) (le-of-eq (s .jumps)) }
+abbrev pub Spanned : Asked → Option Found → Type 0
+Spanned a none = T true
+Spanned a (some f) = Spans a f
 
-abbrev Long : Asked → Outcome → Type 0
-Long a (refused n) = T true
-Long a (fitted f) = Lengths a f
+end-spans : (a : Asked) (e : Ended State) → Spans a (pathEnd a e)
+unfolding pathEnd keptOf
+end-spans a e = let s = kept-sizes a _ _ (certified a (e .state .point .z)) in record { trend = s .trend; dx = s .jumps }
 
-l2-lengths : (a : Asked) → Long a (fitL2 a)
-unfolding fitL2 trendL2
-l2-lengths a = go (soundL2 (a .order) (a .y) (a .lam)) _ (closed-lengths a _ _ _ _ (length-solve (a .order) _ (a .y)) (jumps-of a _ (length-solve (a .order) _ (a .y))))
+l2-spans : (a : Asked) → Spanned a (pathL2 a)
+unfolding pathL2 trendL2
+l2-spans a = go (soundL2 (a .order) (a .y) (a .lam)) _ (record { trend = length-solve (a .order) _ (a .y); dx = jumps-of a _ (length-solve (a .order) _ (a .y)) })
   where
-    go : (b : Bool) (f : Fit) → Lengths a f → Long a (cond b (fitted f) (refused 10))
+    go : (b : Bool) (f : Found) → Spans a f → Spanned a (cond b (some f) none)
     go true f h = h
     go false f h = tt
 
-l1-lengths : (a : Asked) → Lengths a (fitL1 a)
-unfolding fitL1 fitZero fitFlat
-l1-lengths a = go (lamZero a) (lamHigh a)
+l1-spans : (a : Asked) → Spans a (pathL1 a)
+unfolding pathL1 pathZero pathFlat
+l1-spans a = go (lamZero a) (lamHigh a)
   where
-    go : (z m : Bool) → Lengths a (cond z (fitZero a) (cond m (fitFlat a) (fitEnd a (searchOf a))))
-    go true m = closed-lengths a _ _ _ _ refl (jumps-of a (a .y) refl)
-    go false true = let s = certified a _ in closed-lengths a _ _ _ _ (s .trend) (s .jumps)
-    go false false = end-lengths a (searchOf a)
+    go : (z m : Bool) → Spans a (cond z (pathZero a) (cond m (pathFlat a) (pathEnd a (searchOf a))))
+    go true m = record { trend = refl; dx = jumps-of a (a .y) refl }
+    go false true = let s = certified a _ in record { trend = s .trend; dx = s .jumps }
+    go false false = end-spans a (searchOf a)
 
-by-lengths : (a : Asked) → Long a (fitBy a)
-unfolding fitBy
-by-lengths a = go (eqb (a .penalty) 2)
+pub spans : (a : Asked) → Spanned a (path a)
+unfolding path
+spans a = go (eqb (a .penalty) 2)
   where
-    go : (p : Bool) → Long a (cond p (fitL2 a) (fitted (fitL1 a)))
-    go true = l2-lengths a
-    go false = l1-lengths a
+    go : (p : Bool) → Spanned a (cond p (pathL2 a) (some (pathL1 a)))
+    go true = l2-spans a
+    go false = l1-spans a
 
 pub lengths : (a : Asked) (l : Lent) (f : Fit) → fit a l ≡ fitted f → Lengths a f
-lengths a l f e = subst (Long a) (passed a l f e .made) (by-lengths a)
+unfolding written
+lengths a l f e =
+    let p = passed a l f e in
+    let s : Spans a (p .found) = subst (Spanned a) (p .path-is) (spans a) in
+    subst (Lengths a) (sym (p .made))
+    (record { trend = s .trend; cycle = length-minus (a .y) (p .found .trend); knots = le-trans (length-knots (a .order) (a .y) (p .found .dx)) (le-of-eq (s .dx)) })

@@ -3,12 +3,12 @@ use mathlib.Core.Path.{_≡_, refl, sym, ap, _∙_, subst}
 use Prim.Native.Nat.{ℕ, _≤_, _<_}
 use native.Mathlib.Omega.{arith}
 use mathlib.Core.Bool.{Bool, true, false, cond}
+use mathlib.Core.Option.{Option, none, some}
 use lib.Dec.{T, eqb, eqb→eq}
 use lib.ListN.{length}
 use Rattle.questions.specs.Questions.{Asked, Lent, oneOrTwo, question}
 use Rattle.questions.proofs.Laws.{same-question, too-long, not-too-long}
-use Rattle.l2.specs.L2.{soundL2}
-use Rattle.fit.specs.Fit.{Fit, Outcome, refused, fitted, soundDD, fitL2, fitL1, fitBy, fit}
+use Rattle.fit.specs.Fit.{Fit, Outcome, refused, fitted, Found, soundDD, path, written, outcome, fit}
 use Rattle.fit.specs.Demand3.{withMaxIter}
 
 pub on : (b : Bool) → T b → b ≡ true
@@ -35,13 +35,13 @@ pub fitted-same : {f g : Fit} → fitted f ≡ fitted g → f ≡ g
 fitted-same {f} {g} e = ap (fitOf f) e
 
 -- from the questions answered
-pub fit-passed : (a : Asked) (l : Lent) → question a l ≡ 0 → fit a l ≡ cond (soundDD a) (fitBy a) (refused 10)
+pub fit-passed : (a : Asked) (l : Lent) → question a l ≡ 0 → fit a l ≡ cond (soundDD a) (outcome a (path a)) (refused 10)
 unfolding fit
-fit-passed a l e = ap (λ (q : ℕ). cond (eqb q 0) (cond (soundDD a) (fitBy a) (refused 10)) (refused q)) e
+fit-passed a l e = ap (λ (q : ℕ). cond (eqb q 0) (cond (soundDD a) (outcome a (path a)) (refused 10)) (refused q)) e
 
 pub fit-refused : (a : Asked) (l : Lent) (q : ℕ) → question a l ≡ q → eqb q 0 ≡ false → fit a l ≡ refused q
 unfolding fit
-fit-refused a l q e h = ap (λ (x : ℕ). cond (eqb x 0) (cond (soundDD a) (fitBy a) (refused 10)) (refused x)) e ∙ ap (λ (b : Bool). cond b (cond (soundDD a) (fitBy a) (refused 10)) (refused q)) h
+fit-refused a l q e h = ap (λ (x : ℕ). cond (eqb x 0) (cond (soundDD a) (outcome a (path a)) (refused 10)) (refused x)) e ∙ ap (λ (b : Bool). cond b (cond (soundDD a) (outcome a (path a)) (refused 10)) (refused q)) h
 
 -- any series of 65,537 places or more is refused with 3, where order and penalty are right
 pub size-refused : (a : Asked) (l : Lent) → oneOrTwo (a .order) ≡ true → oneOrTwo (a .penalty) ≡ true → 65536 < length (a .y) → fit a l ≡ refused 3
@@ -52,44 +52,41 @@ abbrev refusal : Outcome → ℕ
 refusal (refused n) = n
 refusal (fitted f) = 0
 
-refusal-l2 : (a : Asked) → refusal (fitL2 a) ≡ 3 → ⊥
-unfolding fitL2
-refusal-l2 a = go (soundL2 (a .order) (a .y) (a .lam)) _
-  where
-    go : (b : Bool) (f : Fit) → refusal (cond b (fitted f) (refused 10)) ≡ 3 → ⊥
-    go true f e = omega arith
-    go false f e = omega arith
-
-refusal-by : (a : Asked) → refusal (fitBy a) ≡ 3 → ⊥
-unfolding fitBy
-refusal-by a = go (eqb (a .penalty) 2)
-  where
-    go : (p : Bool) → refusal (cond p (fitL2 a) (fitted (fitL1 a))) ≡ 3 → ⊥
-    go true e = refusal-l2 a e
-    go false e = omega arith
+refusal-path : (a : Asked) (o : Option Found) → refusal (outcome a o) ≡ 3 → ⊥
+unfolding outcome
+refusal-path a none e = omega arith
+refusal-path a (some f) e = omega arith
 
 refusal-fit : (a : Asked) (l : Lent) → length (a .y) ≤ 65536 → refusal (fit a l) ≡ 3 → ⊥
 unfolding fit
 refusal-fit a l h = go (eqb (question a l) 0) (soundDD a)
   where
-    go : (b c : Bool) → refusal (cond b (cond c (fitBy a) (refused 10)) (refused (question a l))) ≡ 3 → ⊥
-    go true true e = refusal-by a e
+    go : (b c : Bool) → refusal (cond b (cond c (outcome a (path a)) (refused 10)) (refused (question a l))) ≡ 3 → ⊥
+    go true true e = refusal-path a (path a) e
     go true false e = omega arith
     go false c e = not-too-long a l h e
 
 pub size-passes : (a : Asked) (l : Lent) → length (a .y) ≤ 65536 → fit a l ≡ refused 3 → ⊥
 size-passes a l h e = refusal-fit a l h (ap refusal e)
 
+pub outcome-some : (a : Asked) (f : Found) → outcome a (some f) ≡ fitted (written a f)
+unfolding outcome
+outcome-some a f = refl
+
 pub record Passed (a : Asked) (l : Lent) (f : Fit) : Type 0 where
   pub asked : question a l ≡ 0
   pub sound : soundDD a ≡ true
-  pub made : fitBy a ≡ fitted f
+  pub found : Found
+  pub path-is : path a ≡ some found
+  pub made : f ≡ written a found
 
 pub passed : (a : Asked) (l : Lent) (f : Fit) → fit a l ≡ fitted f → Passed a l f
-unfolding fit
-passed a l f e = go (eqb (question a l) 0) (soundDD a) (eqb→eq (question a l) 0) refl e
+unfolding fit outcome
+passed a l f e = go (eqb (question a l) 0) (soundDD a) (path a) (eqb→eq (question a l) 0) refl refl e
   where
-    go : (b c : Bool) → (T b → question a l ≡ 0) → soundDD a ≡ c → cond b (cond c (fitBy a) (refused 10)) (refused (question a l)) ≡ fitted f → Passed a l f
-    go true true h s q = record { asked = h tt; sound = s; made = q }
-    go true false h s q = absurd (not-refused q)
-    go false c h s q = absurd (not-refused q)
+    go : (b c : Bool) (o : Option Found) → (T b → question a l ≡ 0) → soundDD a ≡ c → path a ≡ o
+        → cond b (cond c (outcome a o) (refused 10)) (refused (question a l)) ≡ fitted f → Passed a l f
+    go true true (some x) h s r q = record { asked = h tt; sound = s; found = x; path-is = r; made = sym (fitted-same q) }
+    go true true none h s r q = absurd (not-refused q)
+    go true false o h s r q = absurd (not-refused q)
+    go false c o h s r q = absurd (not-refused q)

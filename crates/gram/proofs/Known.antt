@@ -1,6 +1,6 @@
 -- Document 01, "Known fits and edges", as far as the preparation goes: z* and lam_max, worked out from the definitions.
 use mathlib.Core.Path.{_≡_, refl}
-use mathlib.Core.List.{List, [], _∷_}
+use mathlib.Core.List.{[], _∷_}
 use lib.Ieee.{Float, nan, binary64, ofBits, add, sub, mul, div, neg, lt, isNan}
 use Rattle.float64.specs.Ops.{c0, c2}
 use Rattle.float64.specs.Helpers.{absOf, isFinite, maxOf}

@@ -1,49 +1,79 @@
--- The system (D D') z = D y in one run: its rows, D y put after them, and what factor_solve leaves.
-use mathlib.Core.Bool.{Bool, true}
-use mathlib.Core.Path.{_≡_, refl, sym, ap, _∙_}
+-- The system (D D') z = D y laid out in a run, and where its solution stands. Assumes nothing.
+use mathlib.Core.Path.{_≡_, sym, ap, _∙_}
+use mathlib.Core.Bool.{true}
 use mathlib.Core.List.{List}
 use Prim.Native.Nat.{ℕ, _+_, _-_, _*_, _≤_}
-use native.Mathlib.Nat.{zero-add, add-comm}
+use native.Mathlib.Nat.{mul-le-mul-left, zero-add}
 use native.Mathlib.Omega.{arith}
 use lib.ListN.{length, take, drop, length-drop}
-use lib.Seq.{take-all, drop-drop, length-take-le}
+use lib.Seq.{take-all, length-take-le}
 use lib.Ieee.{Float, nan}
-use Rattle.vectors.specs.Vec.{put, Wrote}
-use Rattle.vectors.proofs.Parts.{putBack, mid-put, first-put, kept-put}
+use Rattle.vectors.specs.Vec.{put, part, Kept, Wrote}
+use Rattle.vectors.specs.Sums.{maxAbs}
+use Rattle.vectors.proofs.Laws.{kept-then}
+use Rattle.vectors.proofs.Parts.{putBack, mid-put, kept-put, mid-is, first-part, part-below, part-above}
 use Rattle.vectors.proofs.Texts.{wrote-take}
-use Rattle.differences.specs.Diff.{diffK}
+use Rattle.differences.specs.Diff.{diffK, gramRow}
+use Rattle.differences.specs.Series.{Series}
 use Rattle.differences.proofs.Laws.{length-diffK}
-use Rattle.banded.specs.Rows.{Matrix, rows, sound, matrix, concat}
+use Rattle.banded.specs.Rows.{rows}
 use Rattle.banded.specs.Solve.{solve}
-use Rattle.banded.proofs.Laws.{kept-after}
-use Rattle.gram.specs.Gram.{gram, zstar}
+use Rattle.banded.specs.Layout.{Laid}
+use Rattle.banded.proofs.Filling.{laid-done}
+use Rattle.substitution.specs.Solved.{Solved}
+use Rattle.gram.specs.Gram.{gram, zstar, lamMax}
+use Rattle.gram.specs.Prepared.{starLane, diffLane, preparation, System, Prepared}
+use Rattle.gram.specs.declared.Peak.{Peak}
 
-module _ (k m : ℕ) (g y s₀ s₁ x s₃ : List Float) (ok : Bool) (room : m * (k + 1) + m ≤ length s₁) (size : length y ≡ m + k) (l : length x ≡ m)
-    (held : take (m * (k + 1)) s₁ ≡ concat (matrix k (gram k g) m)) (kept : drop (m * (k + 1)) s₁ ≡ drop (m * (k + 1)) s₀)
-    (right : x ≡ put (take m (drop (m * (k + 1)) s₁)) 0 (diffK k y))
-    (after : drop (m * (k + 1) + m) s₃ ≡ drop (m * (k + 1) + m) (putBack (m * (k + 1)) m s₁ x))
-    (done : (a : Matrix) → take (m * (k + 1)) (putBack (m * (k + 1)) m s₁ x) ≡ concat (matrix k a m)
-    → (ok ≡ sound k a m) × (ok ≡ true → (take (m * (k + 1)) s₃ ≡ concat (rows k a m))
-    × (take m (drop (m * (k + 1)) s₃) ≡ solve k (rows k a m) (take m (drop (m * (k + 1)) (putBack (m * (k + 1)) m s₁ x)))))) where
-  differences : x ≡ diffK k y
-  differences =
-      let t = take m (drop (m * (k + 1)) s₁) in
-      let lt : length t ≡ m = length-take-le m (drop (m * (k + 1)) s₁) (omega (arith, length-drop (m * (k + 1)) s₁)) in
-      let ld : length (diffK k y) ≡ m = length-diffK k y ∙ omega arith in
+-- the system ends before the lane of D y begins
+pub system-fits : {k n : ℕ} → Series k n → starLane k n + (n - k) ≤ diffLane n
+system-fits {k} {n} o = let f : (n - k) * (k + 1) ≤ (n - k) * 3 = mul-le-mul-left (n - k) (omega arith) in omega arith
+
+-- s₁ holds the rows of D D', x the lane of D y, and s₂ also the right side
+module _ (k : ℕ) (y s₁ x : List Float) (o : Series k (length y)) (room : preparation (length y) ≤ length s₁) (l : length x ≡ length y - k)
+    (right : x ≡ put (take (length y - k) (drop (diffLane (length y)) s₁)) 0 (diffK k y)) where
+  put-all : x ≡ diffK k y
+  put-all =
+      let m = length y - k in
+      let t = take m (drop (diffLane (length y)) s₁) in
+      let lt : length t ≡ m = length-take-le m (drop (diffLane (length y)) s₁) (omega (arith, length-drop (diffLane (length y)) s₁)) in
+      let ld = length-diffK k y in
       let w : Wrote t 0 (diffK k y) x m = record { next = omega arith; room = omega arith; text = right } in
       sym (take-all m x (omega arith)) ∙ wrote-take w .0
 
-  pub star-done : (ok ≡ sound k (gram k g) m) × ((drop (m * (k + 1) + m) s₃ ≡ drop (m * (k + 1) + m) s₀)
-      × (ok ≡ true → (take (m * (k + 1)) s₃ ≡ concat (rows k (gram k g) m)) × (take m (drop (m * (k + 1)) s₃) ≡ zstar k g m y)))
-  unfolding zstar
-  star-done =
-      let b = m * (k + 1) in
-      let r = done (gram k g) (first-put b m s₁ x room l ∙ held) in
-      let f = kept-put b m s₁ x room l nan in
-      let two : (s : List Float) → drop (b + m) s ≡ drop m (drop b s) = λ s. sym (drop-drop m b s) in (
-        r .0,
-        (
-          after ∙ kept-after (b + m) (putBack b m s₁ x) s₁ (f .size) (f .above) ∙ two s₁ ∙ ap (drop m) kept ∙ sym (two s₀),
-          λ t. (r .1 t .0, r .1 t .1 ∙ ap (solve k (rows k (gram k g) m)) (mid-put b m s₁ x room l ∙ differences)),
-        ),
-      )
+  pub system-laid : {s₀ s₂ : List Float} → Laid k (length y - k) (gram k (gramRow k)) s₀ s₁
+      → (part (starLane k (length y)) (length y - k) s₂ ≡ part (diffLane (length y)) (length y - k) (putBack (diffLane (length y)) (length y - k) s₁ x))
+      → Kept (starLane k (length y)) (length y - k) (putBack (diffLane (length y)) (length y - k) s₁ x) s₂ → System k y s₀ s₂
+  system-laid w copied kept =
+      let n = length y in
+      let m = n - k in
+      let fits = system-fits o in
+      let f = kept-put (diffLane n) m s₁ x (omega arith) l nan in
+      let size = f .size in
+      let lane = sym (mid-is (diffLane n) m (putBack (diffLane n) m s₁ x) (omega arith)) ∙ mid-put (diffLane n) m s₁ x (omega arith) l ∙ put-all in
+      record {
+        ends = fits;
+        rows = part-below nan 0 (starLane k n) kept (omega arith) ∙ part-below nan 0 (starLane k n) f (omega arith) ∙ sym (first-part (starLane k n) s₁ (omega arith)) ∙ laid-done w (omega arith) .0;
+        right = copied ∙ lane;
+        differences = part-above nan (diffLane n) m kept (omega arith) ∙ lane;
+        kept = kept-then 0 (preparation n) (kept-then 0 (preparation n) (w .kept) f (omega arith) (omega arith) (omega arith) (omega arith)) kept (omega arith) (omega arith) (omega arith) (omega arith);
+      }
+
+-- s₁ holds the system, s₂ its solution
+pub system-solved : (k : ℕ) (y s₀ s₁ s₂ : List Float) (r : Peak) → System k y s₀ s₁ → Solved 0 k (length y - k) s₁ s₂ (r .good)
+    → r .top ≡ maxAbs (part (starLane k (length y)) (length y - k) s₂) → Prepared k y s₀ s₂ r
+unfolding lamMax zstar
+system-solved k y s₀ s₁ s₂ r h q t =
+    let n = length y in
+    let ends = h .ends in
+    let a = gram k (gramRow k) in
+    let z = zero-add (starLane k n) in
+    let star : r .good ≡ true → part (starLane k n) (n - k) s₂ ≡ solve k (rows k a (n - k)) (diffK k y) = λ e. (rw z at (q .solution a (h .rows) e)) ∙ ap (solve k (rows k a (n - k))) (h .right) in
+    record {
+      good = q .answer a (h .rows);
+      top = λ e. t ∙ ap maxAbs (star e);
+      factor = q .factor a (h .rows);
+      star = star;
+      differences = part-above nan (diffLane n) (n - k) (q .kept) (omega arith) ∙ h .differences;
+      kept = kept-then 0 (preparation n) (h .kept) (q .kept) (omega arith) (omega arith) (omega arith) (omega arith);
+    }

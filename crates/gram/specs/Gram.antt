@@ -1,5 +1,5 @@
 -- Document 01, "Differences and bands": D D' has g[d] at distance d up to k, 0 beyond; z* solves (D D') z = D y; lam_max is the NaN-ignoring maximum of |z*| from 0.
-use mathlib.Core.Bool.{Bool, cond}
+use mathlib.Core.Bool.{cond}
 use mathlib.Core.List.{List}
 use Prim.Native.Nat.{ℕ, _+_, _-_, min}
 use lib.Dec.{ltb}
@@ -9,7 +9,7 @@ use Rattle.float64.specs.Ops.{_⊗_, c0}
 use Rattle.vectors.specs.Sums.{more, maxAbs}
 use Rattle.vectors.specs.Vec.{at, apart}
 use Rattle.differences.specs.Diff.{diffK}
-use Rattle.banded.specs.Rows.{Matrix, rows, sound}
+use Rattle.banded.specs.Rows.{Matrix, rows}
 use Rattle.banded.specs.Solve.{solve}
 
 -- D D' of bandwidth k: g at the distance from the diagonal; +0 before column 0

@@ -3,12 +3,12 @@
 use mathlib.Core.Path.{_≡_}
 use mathlib.Core.Bool.{true}
 use mathlib.Core.List.{List}
-use Prim.Native.Nat.{ℕ, _+_, _-_, _*_}
+use Prim.Native.Nat.{ℕ, _+_, _-_, _*_, _≤_}
 use lib.ListN.{length}
 use lib.Ieee.{Float}
 use Rattle.vectors.specs.Vec.{part, Kept}
 use Rattle.differences.specs.Diff.{diffK, gramRow}
-use Rattle.banded.specs.Rows.{rows, sound, concat}
+use Rattle.banded.specs.Rows.{rows, sound, matrix, concat}
 use Rattle.gram.specs.Gram.{gram, zstar, lamMax}
 use Rattle.gram.specs.declared.Peak.{Peak}
 
@@ -23,6 +23,14 @@ diffLane n = 4 * n
 -- the whole preparation
 abbrev pub preparation : ℕ → ℕ
 preparation n = 5 * n
+
+-- the system that the preparation solves: the rows of D D' and D y after them; behind it D y in its own lane
+pub record System (k : ℕ) (y s₀ s : List Float) : Type 0 where
+  pub ends : starLane k (length y) + (length y - k) ≤ diffLane (length y)
+  pub rows : part 0 (starLane k (length y)) s ≡ concat (matrix k (gram k (gramRow k)) (length y - k))
+  pub right : part (starLane k (length y)) (length y - k) s ≡ diffK k y
+  pub differences : part (diffLane (length y)) (length y - k) s ≡ diffK k y
+  pub kept : Kept 0 (preparation (length y)) s₀ s
 
 -- r says whether the pivots of D D' are all good, and if so what lam_max is
 pub record Prepared (k : ℕ) (y s₀ s : List Float) (r : Peak) : Type 0 where

@@ -1,30 +1,29 @@
 // D D': its rows, its product with a vector at one place, and z*, which solves (D D') z = D y.
 ghost use mathlib.Core.Path.{_≡_};
-ghost use mathlib.Core.Bool.{true};
-ghost use Prim.Native.Nat.{_≤_, _<_, _-_, _+_, _*_, _^_};
-ghost use lib.ListN.{length, take, drop};
+ghost use Prim.Native.Nat.{_≤_, _<_, _-_, _+_, _*_};
+ghost use lib.ListN.{length};
 ghost use Rattle.vectors.specs.Vec.{Written};
-ghost use Rattle.banded.specs.Rows.{rows, sound, matrix, concat};
-ghost use Rattle.gram.specs.Gram.{gram, product as product_of, zstar, lamMax};
+ghost use Rattle.banded.specs.Layout.{Laid};
+ghost use Rattle.gram.specs.Gram.{gram, product as product_of};
+ghost use Rattle.gram.specs.Prepared.{preparation, System, Prepared};
 ghost use Rattle.differences.specs.Series.{Series};
 
 // Place c of row r of D D'.
 fn gram_at(g: [f64; 3], k: usize, r: usize, c: usize) -> f64
-    requires { ⌜ (k ≤ 2) × ((c ≤ k) × (r + c < 2 ^ 63)) ⌝ }
+    requires { ⌜ (k ≤ 2) × (c ≤ k) ⌝ }
     ensures { λ x. ⌜ x ≡ gram k g r c ⌝ }
 {
-    if r + c < k {
+    if r < k - c {
         return 0.0;
     }
     g[k - c]
 }
 
-// Row r of D D', in its place.
-fn gram_row(s: &mut [f64], g: [f64; 3], k: usize, r: usize)
-    requires { ⌜ (k ≤ 2) × ((r + 1) * (k + 1) ≤ length (now s)) ⌝ }
-    ensures { λ _. ⌜ Written (r * (k + 1)) (r * (k + 1) + (k + 1)) (λ q. gram k g r (q - r * (k + 1))) (now (s .entry)) (now (s .exit)) ⌝ }
+// Row r of D D', from place p on.
+fn gram_row(s: &mut [f64], g: [f64; 3], k: usize, r: usize, p: usize)
+    requires { ⌜ (k ≤ 2) × (p + (k + 1) ≤ length (now s)) ⌝ }
+    ensures { λ _. ⌜ Written p (p + (k + 1)) (λ q. gram k g r (q - p)) (now (s .entry)) (now (s .exit)) ⌝ }
 {
-    let p = r * (k + 1);
     let mut c = 0;
     while c <= k {
         let x = gram_at(g, k, r, c);
@@ -36,28 +35,29 @@ fn gram_row(s: &mut [f64], g: [f64; 3], k: usize, r: usize)
 // The m rows of D D' in the first places of s.
 fn fill_gram(s: &mut [f64], g: [f64; 3], k: usize, m: usize)
     requires { ⌜ (k ≤ 2) × (m * (k + 1) ≤ length (now s)) ⌝ }
-    ensures { λ _. ⌜ (take (m * (k + 1)) (now (s .exit)) ≡ concat (matrix k (gram k g) m)) × (drop (m * (k + 1)) (now (s .exit)) ≡ drop (m * (k + 1)) (now (s .entry))) ⌝ }
+    ensures { λ _. ⌜ Laid k m (gram k g) (now (s .entry)) (now (s .exit)) ⌝ }
 {
     let mut r = 0;
     while r < m {
-        gram_row(s, g, k, r);
+        gram_row(s, g, k, r, r * (k + 1));
         r += 1;
     }
 }
 
-// The factor of D D' and then z* in the first places of s; whether every pivot was good. What comes after them stays.
-fn star(s: &mut [f64], y: &[f64], g: [f64; 3], k: usize, m: usize) -> bool
-    requires { ⌜ Series k (length (now y)) × ((length (now y) ≡ m + k) × (m * (k + 1) + m ≤ length (now s))) ⌝ }
-    ensures { λ ok. ⌜ (ok ≡ sound k (gram k g) m)
-        × ((drop (m * (k + 1) + m) (now (s .exit)) ≡ drop (m * (k + 1) + m) (now (s .entry)))
-        × (ok ≡ true → (take (m * (k + 1)) (now (s .exit)) ≡ concat (rows k (gram k g) m))
-        × (take m (drop (m * (k + 1)) (now (s .exit))) ≡ zstar k g m (now (y .entry))))) ⌝ }
+// The system (D D') z = D y, with D y in its own lane too.
+fn lay_system(s: &mut [f64], y: &[f64], k: usize)
+    requires { ⌜ Series k (length (now y)) × (preparation (length (now y)) ≤ length (now s)) ⌝ }
+    ensures { λ _. ⌜ System k (now (y .entry)) (now (s .entry)) (now (s .exit)) ⌝ }
 {
-    fill_gram(s, g, k, m);
+    let n = y.len();
+    let m = n - k;
     let b = m * (k + 1);
-    let e = b + m;
-    differences::diff_k(&mut s[b..e], y, k);
-    substitution::factor_solve(s, k, m)
+    let g = differences::gram_offsets(k);
+    fill_gram(s, g, k, m);
+    let d = 4 * n;
+    let e = d + m;
+    differences::diff_k(&mut s[d..e], y, k);
+    vectors::copy_within(s, d, b, m);
 }
 
 pub struct Peak {
@@ -65,16 +65,14 @@ pub struct Peak {
     pub top: f64,
 }
 
-// The same, with the largest size in z*.
-pub fn prepare(s: &mut [f64], y: &[f64], g: [f64; 3], k: usize, m: usize) -> Peak
-    requires { ⌜ Series k (length (now y)) × ((length (now y) ≡ m + k) × (m * (k + 1) + m ≤ length (now s))) ⌝ }
-    ensures { λ r. ⌜ (r .good ≡ sound k (gram k g) m)
-        × ((drop (m * (k + 1) + m) (now (s .exit)) ≡ drop (m * (k + 1) + m) (now (s .entry)))
-        × (r .good ≡ true → (r .top ≡ lamMax k g m (now (y .entry)))
-        × ((take (m * (k + 1)) (now (s .exit)) ≡ concat (rows k (gram k g) m))
-        × (take m (drop (m * (k + 1)) (now (s .exit))) ≡ zstar k g m (now (y .entry)))))) ⌝ }
+// The preparation of a series: the factor of D D', z*, D y; whether every pivot was good, and lam_max.
+pub fn prepare(s: &mut [f64], y: &[f64], k: usize) -> Peak
+    requires { ⌜ Series k (length (now y)) × (preparation (length (now y)) ≤ length (now s)) ⌝ }
+    ensures { λ r. ⌜ Prepared k (now (y .entry)) (now (s .entry)) (now (s .exit)) r ⌝ }
 {
-    let ok = star(s, y, g, k, m);
+    lay_system(s, y, k);
+    let m = y.len() - k;
+    let ok = substitution::factor_solve_at(s, 0, k, m);
     let b = m * (k + 1);
     let e = b + m;
     let top = vectors::max_abs(&s[b..e]);

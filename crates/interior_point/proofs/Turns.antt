@@ -2,13 +2,14 @@
 use mathlib.Core.Path.{_≡_, refl, sym, ap, _∙_}
 use mathlib.Core.Bool.{Bool, true, false, cond, not}
 use mathlib.Core.List.{List}
-use Prim.Native.Nat.{ℕ, suc, _+_, _-_, _*_, _≤_, _<_}
+use Prim.Native.Nat.{ℕ, suc, _+_, _-_, _≤_, _<_}
 use native.Mathlib.Numerals.{add-one}
 use native.Mathlib.Omega.{arith}
 use borrow.Author.Tests.{ltb-true, ltb-false}
 use lib.Dec.{eqb, ltb}
 use lib.ListN.{length}
 use lib.Ieee.{Float, nan, lt, le}
+use Rattle.float64.proofs.Clash.{clash}
 use Rattle.float64.specs.Ops.{_⊖_, _⊗_, _⊘_, c0, c0·99, c1, c1e-10, infinity}
 use Rattle.vectors.specs.Vec.{at, partOf, part, Kept, Written}
 use Rattle.vectors.proofs.Laws.{kept-then, kept-none, list-ext, written-kept}
@@ -21,203 +22,42 @@ use Rattle.search.proofs.Trace.{run-small, run-spent, run-stalled, run-lost, ru
 use Rattle.dual_point.specs.Dual.{Dual}
 use Rattle.newton_system.specs.Newton.{system}
 use Rattle.line_search.specs.LineSearch.{searchLine, taken}
+use Rattle.dual_point.specs.Lanes.{searchArea}
 use Rattle.dual_point.specs.Places.{point}
 use Rattle.dual_point.proofs.Points.{point-above}
-use Rattle.newton_step.specs.Stepped.{stepOf, Stepped}
+use Rattle.newton_step.specs.Stepped.{stepArea, stepOf, Stepped}
 use Rattle.newton_step.specs.declared.Step.{Step}
 use Rattle.newton_step.specs.declared.Step.the-variants.{Lost, Moved}
 use Rattle.interior_point.specs.InteriorPoint.{State, nextT, landed, move, problem, origin, interiorPoint}
-use Rattle.interior_point.specs.Account.{stateOf, pointOf, Standing, leftOf, goes, improves, Settled, Turned, searchOf, Found}
+use Rattle.interior_point.specs.Account.{stateOf, pointOf, Standing, Started, leftOf, goes, improves, lostRun, Settled, Turned, searchOf, Found}
 use Rattle.interior_point.specs.declared.Run.{Run}
-
--- ---- the start
-
--- z, mu1 and mu2 filled, and then the trend written
-pub origin-stands : (n m : ℕ) (s₀ s₁ s₂ s₃ : List Float) → Written n (n + m) (λ j. c0) s₀ s₁ → Written (n + m) (n + m + m + m) (λ j. c1) s₁ s₂ → Kept 0 n s₂ s₃
-    → point n m s₃ ≡ origin m .point
-unfolding origin partOf
-origin-stands n m s₀ s₁ s₂ s₃ v w f = λ i. record {
-  z = list-ext m (λ j. at s₃ (n + j)) (λ j. c0) (λ j l. f .above (n + j) (omega arith) ∙ w .below (n + j) (omega arith) ∙ v .inside (n + j) (omega arith) (omega arith)) i;
-  mu1 = list-ext m (λ j. at s₃ (n + m + j)) (λ j. c1) (λ j l. f .above (n + m + j) (omega arith) ∙ w .inside (n + m + j) (omega arith) (omega arith)) i;
-  mu2 = list-ext m (λ j. at s₃ (n + m + m + j)) (λ j. c1) (λ j l. f .above (n + m + m + j) (omega arith) ∙ w .inside (n + m + m + j) (omega arith) (omega arith)) i;
-}
 
 -- the account of the start, where v is its gap
 abbrev pub startRun : Float → Float → Run
 startRun v p = record { t = c1e-10; step = infinity; gap = v; primal = p; first = v; best = v; «n_iter» = 0; improvements = 0; stalled = 0; lost = false }
 
-pub start-is : (k : ℕ) (g y : List Float) (lam : Float) (n m : ℕ) (s : List Float) (v p : Float) → point n m s ≡ origin m .point → v ≡ gapOf (certify k y lam (part n m s))
-    → pointOf n m s (startRun v p) ≡ start (problem k g y lam) (origin m)
-unfolding problem origin
-start-is k g y lam n m s v p e f = λ i. record {
-  state = record { point = e i; t = c1e-10; step = infinity };
-  steps = 0;
-  best = (f ∙ λ j. gapOf (certify k y lam (e j .z))) i;
-  gains = 0;
-  stall = 0;
-}
-
--- the fills, and then the certificate
-pub started : (k : ℕ) (y : List Float) (lam : Float) (n m : ℕ) (s₀ s₁ s₂ s₃ : List Float) (p d : Float) → m ≤ n
-    → Written n (n + m) (λ j. c0) s₀ s₁ → Written (n + m) (n + m + m + m) (λ j. c1) s₁ s₂
-    → part 0 n s₃ ≡ certify k y lam (part n m s₂) .trend → p ≡ certify k y lam (part n m s₂) .primal → d ≡ certify k y lam (part n m s₂) .dual → Kept 0 n s₂ s₃
-    → ((g : List Float) → pointOf n m s₃ (startRun (p ⊖ d) p) ≡ start (problem k g y lam) (origin m))
-    × (Standing k y lam n m s₃ (startRun (p ⊖ d) p) × ((p ⊖ d ≡ p ⊖ d) × ((false ≡ false) × Kept 0 (13 * n) s₀ s₃)))
-started k y lam n m s₀ s₁ s₂ s₃ p d o v w e f h q =
-    let z : part n m s₃ ≡ part n m s₂ = part-above nan n m q (omega arith) in
-    let x : p ⊖ d ≡ gapOf (certify k y lam (part n m s₃)) = λ i. (f ∙ λ j. certify k y lam (sym z j) .primal) i ⊖ (h ∙ λ j. certify k y lam (sym z j) .dual) i in
-    let b : Kept (n + m) (m + m) s₁ s₂ = record { size = w .size; below = w .below; above = λ j u. w .above j (omega arith) } in
-    let a = kept-then 0 (13 * n) (written-kept v) b (omega arith) (omega arith) (omega arith) (omega arith) in (
-      (λ g. start-is k g y lam n m s₃ (p ⊖ d) p (origin-stands n m s₀ s₁ s₂ s₃ v w q) x),
-      (
-        record { trend = e ∙ (λ i. certify k y lam (sym z i) .trend); primal = f ∙ (λ i. certify k y lam (sym z i) .primal); gap = x },
-        (refl, (refl, kept-then 0 (13 * n) a q (omega arith) (omega arith) (omega arith) (omega arith))),
-      ),
-    )
-
--- ---- one iteration
-
--- the move of the definition, t₁ being the next t
-pub move-is : (k : ℕ) (g y : List Float) (lam : Float) (m : ℕ) (p : Dual) (t step v t₁ : Float) → length (p .z) ≡ m → v ≡ gapOf (certify k y lam (p .z))
-    → t₁ ≡ nextT m v (record { point = p; t = t; step = step })
-    → move k g y lam (record { point = p; t = t; step = step })
-    ≡ cond (sound k (system k g lam p) m) (moved (landed lam (record { point = p; t = t; step = step }) t₁ (searchLine k g (diffK k y) lam (c1 ⊘ t₁) p))) lost
-unfolding move
-move-is k g y lam m p t step v t₁ l e f =
-    let st : State = record { point = p; t = t; step = step } in
-    let q : nextT (length (p .z)) (gapOf (certify k y lam (p .z))) st ≡ t₁ = (λ i. nextT (l i) (sym e i) st) ∙ sym f in
-    λ i. cond (sound k (system k g lam p) (l i)) (moved (landed lam st (q i) (searchLine k g (diffK k y) lam (c1 ⊘ q i) p))) lost
-
 -- what a step's answer says
-pub was-moved : (b : Bool) (x step : Float) → stepOf b x ≡ Moved step → (b ≡ true) × (x ≡ step)
+was-moved : (b : Bool) (x step : Float) → stepOf b x ≡ Moved step → (b ≡ true) × (x ≡ step)
 was-moved true x step e = (refl, cc)
 was-moved false x step e = let z : _≡_ {A = ℕ} 0 1 = cc in absurd (omega arith)
 
-pub was-lost : (b : Bool) (x : Float) → stepOf b x ≡ Lost → b ≡ false
+was-lost : (b : Bool) (x : Float) → stepOf b x ≡ Lost → b ≡ false
 was-lost true x e = let z : _≡_ {A = ℕ} 0 1 = cc in absurd (omega arith)
 was-lost false x e = refl
 
-abbrev pub lostRun : Run → Run
-lostRun r = record { t = r .t; step = r .step; gap = r .gap; primal = r .primal; first = r .first; best = r .best; «n_iter» = r .«n_iter» + 1; improvements = r .improvements; stalled = r .stalled; lost = true }
+-- what is so where another iteration is made
+pub record GoesOn (a b c d : Bool) : Type 0 where
+  pub found : a ≡ false
+  pub wide : b ≡ false
+  pub within : c ≡ true
+  pub lively : d ≡ false
 
-module _ (k : ℕ) (g y dy : List Float) (lam : Float) (n m : ℕ) (s₀ s₁ : List Float) (r : Run) (t₁ : Float) (w : Step)
-    (is-dy : dy ≡ diffK k y) (room : 6 * m + (m * (k + 1) + 3 * m) ≤ 12 * n) (stands : Standing k y lam n m s₀ r)
-    (next : t₁ ≡ nextT m (r .gap) (stateOf n m s₀ r)) (stepped : Stepped k g dy lam (c1 ⊘ t₁) n m s₀ s₁ w) where
-  abbrev L : Problem State
-  L = problem k g y lam
-
-  by-flag : (b : Bool) → sound k (system k g lam (point n m s₀)) m ≡ b
-      → move k g y lam (stateOf n m s₀ r) ≡ cond b (moved (landed lam (stateOf n m s₀ r) t₁ (searchLine k g dy lam (c1 ⊘ t₁) (point n m s₀)))) lost
-  by-flag b e =
-      move-is k g y lam m (point n m s₀) (r .t) (r .step) (r .gap) t₁ (length-part n m s₀) (stands .gap) next
-      ∙ λ i. cond (e i) (moved (landed lam (stateOf n m s₀ r) t₁ (searchLine k g (sym is-dy i) lam (c1 ⊘ t₁) (point n m s₀)))) lost
-
-  -- the definition's test of the gap is the code's
-  gap-test : (tol : Float) (b : Bool) → le (r .gap) (tol ⊗ r .primal) ≡ b → enough L tol (pointOf n m s₀ r) ≡ b
-  unfolding problem
-  gap-test tol b e = sym (λ i. le (stands .gap i) (tol ⊗ stands .primal i)) ∙ e
-
-  moves-as : L .move ≡ move k g y lam
-  unfolding problem
-  moves-as = refl
-
-  -- a lost pivot
-  pub turned-lost : w ≡ Lost → Turned k g y lam n m s₀ s₁ r (lostRun r)
-  turned-lost e =
-      let b : sound k (system k g lam (point n m s₀)) m ≡ false = was-lost (sound k (system k g lam (point n m s₀)) m) (searchLine k g dy lam (c1 ⊘ t₁) (point n m s₀) .step) (sym (stepped .answer) ∙ e) in
-      let same : point n m s₁ ≡ point n m s₀ = stepped .moves ∙ rw b in
-      let z : part n m s₁ ≡ part n m s₀ = ap (λ (p : Dual). p .z) same in
-      record {
-        ahead = λ tol j q f. run-lost L tol j (pointOf n m s₀ r) (gap-test tol false q) f (ap (λ (h : State → Turn State). h (stateOf n m s₀ r)) moves-as ∙ by-flag false b)
-            ∙ λ i. record { state = record { point = sym same i; t = r .t; step = r .step }; steps = sym (add-one (r .«n_iter»)) i; best = r .best; gains = r .improvements; reason = pivot };
-        standing = record {
-          trend = part-below nan 0 n (stepped .kept) (omega arith) ∙ stands .trend ∙ λ i. certify k y lam (sym z i) .trend;
-          primal = stands .primal ∙ λ i. certify k y lam (sym z i) .primal;
-          gap = stands .gap ∙ λ i. gapOf (certify k y lam (sym z i));
-        };
-        first = refl;
-        steps = refl;
-        gains = omega arith;
-        stall = omega arith;
-        kept = kept-then 0 (13 * n) (stepped .kept) (kept-none 0 0 s₁) (omega arith) (omega arith) (omega arith) (omega arith);
-      }
-
-  -- a step, and the certificate at the point that it left
-  module _ (step p d : Float) (s : List Float) (x : Run) (trend : part 0 n s ≡ certify k y lam (part n m s₁) .trend)
-      (primal : p ≡ certify k y lam (part n m s₁) .primal) (dual : d ≡ certify k y lam (part n m s₁) .dual) (kept : Kept 0 n s₁ s) (new : Settled r t₁ step p d x) where
-    at-s : point n m s ≡ point n m s₁
-    at-s = point-above n m kept (omega arith)
-
-    z-s : part n m s ≡ part n m s₁
-    z-s = ap (λ (q : Dual). q .z) at-s
-
-    gap-s : p ⊖ d ≡ gapOf (certify k y lam (part n m s))
-    gap-s = λ i. (primal ∙ λ j. certify k y lam (sym z-s j) .primal) i ⊖ (dual ∙ λ j. certify k y lam (sym z-s j) .dual) i
-
-    better-is : better L (pointOf n m s₀ r) (stateOf n m s x) ≡ improves r p d
-    unfolding problem
-    better-is = λ i. lt (sym gap-s i) (c0·99 ⊗ r .best)
-
-    gap-is : p ⊖ d ≡ L .primal (stateOf n m s x) ⊖ L .dual (stateOf n m s x)
-    unfolding problem
-    gap-is = gap-s
-
-    advanced : (b : Bool) → improves r p d ≡ b → pointOf n m s x ≡ advance L (pointOf n m s₀ r) (stateOf n m s x) b
-    advanced true e = λ i. record {
-      state = stateOf n m s x;
-      steps = (new .steps ∙ add-one (r .«n_iter»)) i;
-      best = (new .best ∙ (λ j. cond (e j) (p ⊖ d) (r .best)) ∙ gap-is) i;
-      gains = (new .gains ∙ (λ j. cond (e j) (r .improvements + 1) (r .improvements)) ∙ add-one (r .improvements)) i;
-      stall = (new .stall ∙ λ j. cond (e j) 0 (r .stalled + 1)) i;
-    }
-    advanced false e = λ i. record {
-      state = stateOf n m s x;
-      steps = (new .steps ∙ add-one (r .«n_iter»)) i;
-      best = (new .best ∙ λ j. cond (e j) (p ⊖ d) (r .best)) i;
-      gains = (new .gains ∙ λ j. cond (e j) (r .improvements + 1) (r .improvements)) i;
-      stall = (new .stall ∙ (λ j. cond (e j) 0 (r .stalled + 1)) ∙ add-one (r .stalled)) i;
-    }
-
-    at-most : (b : Bool) (a c : ℕ) → c ≤ a → cond b a c ≤ a
-    at-most true a c h = omega arith
-    at-most false a c h = h
-
-    landed-at : w ≡ Moved step → move k g y lam (stateOf n m s₀ r) ≡ moved (stateOf n m s x)
-    landed-at e =
-        let b = was-moved (sound k (system k g lam (point n m s₀)) m) (searchLine k g dy lam (c1 ⊘ t₁) (point n m s₀) .step) step (sym (stepped .answer) ∙ e) in
-        let there : point n m s ≡ taken lam (point n m s₀) (searchLine k g dy lam (c1 ⊘ t₁) (point n m s₀)) = at-s ∙ stepped .moves ∙ rw (b .0) in
-        by-flag true (b .0) ∙ λ i. moved (record { point = sym there i; t = sym (new .t) i; step = (b .1 ∙ sym (new .step)) i })
-
-    pub turned-moved : w ≡ Moved step → Turned k g y lam n m s₀ s r x
-    turned-moved e = record {
-      ahead = λ tol j q f. run-moved L tol j (pointOf n m s₀ r) (stateOf n m s x) (improves r p d) (gap-test tol false q) f
-          (ap (λ (h : State → Turn State). h (stateOf n m s₀ r)) moves-as ∙ landed-at e) better-is
-          ∙ sym (ap (run L tol j) (advanced (improves r p d) refl))
-          ∙ sym (ap (leftOf L tol j (pointOf n m s x)) (new .lost));
-      standing = record {
-        trend = trend ∙ λ i. certify k y lam (sym z-s i) .trend;
-        primal = new .primal ∙ primal ∙ λ i. certify k y lam (sym z-s i) .primal;
-        gap = new .gap ∙ gap-s;
-      };
-      first = new .first;
-      steps = new .steps;
-      gains = rw (new .gains) (at-most (improves r p d) (r .improvements + 1) (r .improvements) (omega arith));
-      stall = rw (new .stall) (no-more (improves r p d));
-      kept = kept-then 0 (13 * n) (stepped .kept) kept (omega arith) (omega arith) (omega arith) (omega arith);
-    }
-      where
-        no-more : (b : Bool) → cond b 0 (r .stalled + 1) ≤ r .stalled + 1
-        no-more true = omega arith
-        no-more false = omega arith
-
--- ---- the loop
-
-pub go-on : (a b c d : Bool) → cond a false (cond b false (cond c (not d) false)) ≡ true → (a ≡ false) × ((b ≡ false) × ((c ≡ true) × (d ≡ false)))
-go-on true b c d e = let z : _≡_ {A = ℕ} 0 1 = cc in absurd (omega arith)
-go-on false true c d e = let z : _≡_ {A = ℕ} 0 1 = cc in absurd (omega arith)
-go-on false false false d e = let z : _≡_ {A = ℕ} 0 1 = cc in absurd (omega arith)
-go-on false false true true e = let z : _≡_ {A = ℕ} 0 1 = cc in absurd (omega arith)
-go-on false false true false e = (refl, (refl, (refl, refl)))
+go-on : (a b c d : Bool) → cond a false (cond b false (cond c (not d) false)) ≡ true → GoesOn a b c d
+go-on true b c d e = absurd (clash e refl)
+go-on false true c d e = absurd (clash e refl)
+go-on false false false d e = absurd (clash e refl)
+go-on false false true true e = absurd (clash e refl)
+go-on false false true false e = record { found = refl; wide = refl; within = refl; lively = refl }
 
 -- the search ended at p
 pub record EndsAt (e : Ended State) (p : Point State) : Type 0 where
@@ -247,92 +87,271 @@ module _ (L : Problem State) (tol : Float) (limit : ℕ) (e : Ended State) (p : 
       let o : p .steps < limit = ltb-true (p .steps) limit w in
       let z : limit - p .steps ≡ suc (limit - suc (p .steps)) = omega arith in
       ended-at e p stalled (sym (run-stalled L tol (limit - suc (p .steps)) p v x) ∙ sym (ap (λ (j : ℕ). run L tol j p) z) ∙ sym (ap (leftOf L tol (limit - p .steps) p) u) ∙ left)
-  finish false false true false u v w x q = let z : _≡_ {A = ℕ} 0 1 = cc in absurd (omega arith)
+  finish false false true false u v w x q = absurd (clash refl q)
 
--- the definition's test of the gap
-pub enough-is : (k : ℕ) (g y : List Float) (lam tol : Float) (n m : ℕ) (s : List Float) (r : Run) → Standing k y lam n m s r
-    → enough (problem k g y lam) tol (pointOf n m s r) ≡ le (r .gap) (tol ⊗ r .primal)
-unfolding problem
-enough-is k g y lam tol n m s r w = sym (λ i. le (w .gap i) (tol ⊗ w .primal i))
+-- n is the length of the series and m of the dual point
+module _ (k : ℕ) (y : List Float) (lam : Float) where
+  abbrev n : ℕ
+  n = length y
 
--- what holds before each iteration: what is left of the search is the whole
-pub record Looping (k : ℕ) (g y : List Float) (lam tol : Float) (limit n m : ℕ) (s₀ s : List Float) (r : Run) : Type 0 where
-  pub left : leftOf (problem k g y lam) tol (limit - r .«n_iter») (pointOf n m s r) (r .lost) ≡ run (problem k g y lam) tol limit (start (problem k g y lam) (origin m))
-  pub standing : Standing k y lam n m s r
-  pub first : r .first ≡ gapOf (certify k y lam (origin m .point .z))
-  pub within : r .«n_iter» ≤ limit
-  pub fewer : r .improvements ≤ r .«n_iter»
-  pub idle : r .stalled ≤ 10
-  pub kept : Kept 0 (13 * n) s₀ s
+  abbrev m : ℕ
+  m = length y - k
 
-module _ (k : ℕ) (g y : List Float) (lam tol : Float) (limit n m : ℕ) (s₀ s : List Float) (r : Run) where
-  abbrev P : Problem State
-  P = problem k g y lam
+  -- ---- the start
 
-  pub loop-starts : pointOf n m s r ≡ start P (origin m) → Standing k y lam n m s r → r .first ≡ r .gap → r .lost ≡ false → Looping k g y lam tol limit n m s s r
-  loop-starts e w f o =
-      let none : r .«n_iter» ≡ 0 = ap (λ (p : Point State). p .steps) e in
-      let gains : r .improvements ≡ 0 = ap (λ (p : Point State). p .gains) e in
-      let stall : r .stalled ≡ 0 = ap (λ (p : Point State). p .stall) e in
-      let all : limit - r .«n_iter» ≡ limit = omega arith in
+  -- z, mu1 and mu2 filled, and then the trend written
+  origin-stands : (s₀ s₁ s₂ s₃ : List Float) → Written n (n + m) (λ j. c0) s₀ s₁ → Written (n + m) (n + m + m + m) (λ j. c1) s₁ s₂ → Kept 0 n s₂ s₃
+      → point n m s₃ ≡ origin m .point
+  unfolding origin partOf
+  origin-stands s₀ s₁ s₂ s₃ v w f = λ i. record {
+    z = list-ext m (λ j. at s₃ (n + j)) (λ j. c0) (λ j l. f .above (n + j) (omega arith) ∙ w .below (n + j) (omega arith) ∙ v .inside (n + j) (omega arith) (omega arith)) i;
+    mu1 = list-ext m (λ j. at s₃ (n + m + j)) (λ j. c1) (λ j l. f .above (n + m + j) (omega arith) ∙ w .inside (n + m + j) (omega arith) (omega arith)) i;
+    mu2 = list-ext m (λ j. at s₃ (n + m + m + j)) (λ j. c1) (λ j l. f .above (n + m + m + j) (omega arith) ∙ w .inside (n + m + m + j) (omega arith) (omega arith)) i;
+  }
+
+  start-is : (g s : List Float) (v p : Float) → point n m s ≡ origin m .point → v ≡ gapOf (certify k y lam (part n m s))
+      → pointOf k y s (startRun v p) ≡ start (problem k g y lam) (origin m)
+  unfolding problem origin
+  start-is g s v p e f = λ i. record {
+    state = record { point = e i; t = c1e-10; step = infinity };
+    steps = 0;
+    best = (f ∙ λ j. gapOf (certify k y lam (e j .z))) i;
+    gains = 0;
+    stall = 0;
+  }
+
+  -- the fills, and then the certificate
+  pub started : (s₀ s₁ s₂ s₃ : List Float) (p d : Float)
+      → Written n (n + m) (λ j. c0) s₀ s₁ → Written (n + m) (n + m + m + m) (λ j. c1) s₁ s₂
+      → part 0 n s₃ ≡ certify k y lam (part n m s₂) .trend → p ≡ certify k y lam (part n m s₂) .primal → d ≡ certify k y lam (part n m s₂) .dual → Kept 0 n s₂ s₃
+      → Started k y lam s₀ s₃ (startRun (p ⊖ d) p)
+  started s₀ s₁ s₂ s₃ p d v w e f h q =
+      let z : part n m s₃ ≡ part n m s₂ = part-above nan n m q (omega arith) in
+      let x : p ⊖ d ≡ gapOf (certify k y lam (part n m s₃)) = λ i. (f ∙ λ j. certify k y lam (sym z j) .primal) i ⊖ (h ∙ λ j. certify k y lam (sym z j) .dual) i in
+      let b : Kept (n + m) (m + m) s₁ s₂ = record { size = w .size; below = w .below; above = λ j u. w .above j (omega arith) } in
+      let a = kept-then 0 (searchArea n) (written-kept v) b (omega arith) (omega arith) (omega arith) (omega arith) in
       record {
-        left = ap (leftOf P tol (limit - r .«n_iter») (pointOf n m s r)) o ∙ λ i. run P tol (all i) (e i);
-        standing = w;
-        first = f ∙ w .gap ∙ λ i. gapOf (certify k y lam (e i .state .point .z));
-        within = omega arith;
-        fewer = omega arith;
-        idle = omega arith;
-        kept = kept-none 0 (13 * n) s;
+        begins = λ g. start-is g s₃ (p ⊖ d) p (origin-stands s₀ s₁ s₂ s₃ v w q) x;
+        standing = record { trend = e ∙ (λ i. certify k y lam (sym z i) .trend); primal = f ∙ (λ i. certify k y lam (sym z i) .primal); gap = x };
+        first = refl;
+        lost = refl;
+        kept = kept-then 0 (searchArea n) a q (omega arith) (omega arith) (omega arith) (omega arith);
       }
 
-  module _ (w : Looping k g y lam tol limit n m s₀ s r) where
-    pub goes-on : goes r tol limit ≡ true → (r .lost ≡ false) × ((le (r .gap) (tol ⊗ r .primal) ≡ false) × ((ltb (r .«n_iter») limit ≡ true) × (eqb (r .stalled) 10 ≡ false)))
-    goes-on h = go-on (r .lost) (le (r .gap) (tol ⊗ r .primal)) (ltb (r .«n_iter») limit) (eqb (r .stalled) 10) h
+  -- ---- one iteration
 
-    pub loop-goes : goes r tol limit ≡ true → (s′ : List Float) (x : Run) → Turned k g y lam n m s s′ r x → Looping k g y lam tol limit n m s₀ s′ x
-    loop-goes h s′ x t =
-        let o = goes-on h in
-        let b : r .«n_iter» < limit = ltb-true (r .«n_iter») limit (o .1 .1 .0) in
-        let c = t .steps in
-        let one : limit - r .«n_iter» ≡ suc (limit - x .«n_iter») = omega arith in
-        let d : suc (r .stalled) ≤ 10 = idle-room (r .stalled) (w .idle) (o .1 .1 .1) in
+  -- the move of the definition, t₁ being the next t
+  move-is : (g : List Float) (p : Dual) (t step v t₁ : Float) → length (p .z) ≡ m → v ≡ gapOf (certify k y lam (p .z))
+      → t₁ ≡ nextT m v (record { point = p; t = t; step = step })
+      → move k g y lam (record { point = p; t = t; step = step })
+      ≡ cond (sound k (system k g lam p) m) (moved (landed lam (record { point = p; t = t; step = step }) t₁ (searchLine k g (diffK k y) lam (c1 ⊘ t₁) p))) lost
+  unfolding move
+  move-is g p t step v t₁ l e f =
+      let st : State = record { point = p; t = t; step = step } in
+      let q : nextT (length (p .z)) (gapOf (certify k y lam (p .z))) st ≡ t₁ = (λ i. nextT (l i) (sym e i) st) ∙ sym f in
+      λ i. cond (sound k (system k g lam p) (l i)) (moved (landed lam st (q i) (searchLine k g (diffK k y) lam (c1 ⊘ q i) p))) lost
+
+  module _ (g s₀ s₁ : List Float) (r : Run) (t₁ : Float) (w : Step)
+      (room : n + stepArea k m ≤ searchArea n) (stands : Standing k y lam s₀ r)
+      (next : t₁ ≡ nextT m (r .gap) (stateOf k y s₀ r)) (stepped : Stepped k g (diffK k y) lam (c1 ⊘ t₁) n m s₀ s₁ w) where
+    abbrev dy : List Float
+    dy = diffK k y
+
+    abbrev L : Problem State
+    L = problem k g y lam
+
+    by-flag : (b : Bool) → sound k (system k g lam (point n m s₀)) m ≡ b
+        → move k g y lam (stateOf k y s₀ r) ≡ cond b (moved (landed lam (stateOf k y s₀ r) t₁ (searchLine k g dy lam (c1 ⊘ t₁) (point n m s₀)))) lost
+    by-flag b e =
+        move-is g (point n m s₀) (r .t) (r .step) (r .gap) t₁ (length-part n m s₀) (stands .gap) next
+        ∙ λ i. cond (e i) (moved (landed lam (stateOf k y s₀ r) t₁ (searchLine k g dy lam (c1 ⊘ t₁) (point n m s₀)))) lost
+
+    -- the definition's test of the gap is the code's
+    gap-test : (tol : Float) (b : Bool) → le (r .gap) (tol ⊗ r .primal) ≡ b → enough L tol (pointOf k y s₀ r) ≡ b
+    unfolding problem
+    gap-test tol b e = sym (λ i. le (stands .gap i) (tol ⊗ stands .primal i)) ∙ e
+
+    moves-as : L .move ≡ move k g y lam
+    unfolding problem
+    moves-as = refl
+
+    -- a lost pivot
+    pub turned-lost : w ≡ Lost → Turned k g y lam s₀ s₁ r (lostRun r)
+    turned-lost e =
+        let b : sound k (system k g lam (point n m s₀)) m ≡ false = was-lost (sound k (system k g lam (point n m s₀)) m) (searchLine k g dy lam (c1 ⊘ t₁) (point n m s₀) .step) (sym (stepped .answer) ∙ e) in
+        let same : point n m s₁ ≡ point n m s₀ = stepped .moves ∙ rw b in
+        let z : part n m s₁ ≡ part n m s₀ = ap (λ (p : Dual). p .z) same in
         record {
-          left = sym (t .ahead tol (limit - x .«n_iter») (o .1 .0) (o .1 .1 .1))
-              ∙ sym (ap (λ (j : ℕ). run P tol j (pointOf n m s r)) one)
-              ∙ sym (ap (leftOf P tol (limit - r .«n_iter») (pointOf n m s r)) (o .0))
-              ∙ w .left;
-          standing = t .standing;
-          first = t .first ∙ w .first;
-          within = omega arith;
-          fewer = omega (arith, t .gains, w .fewer);
-          idle = omega (arith, t .stall);
-          kept = kept-then 0 (13 * n) (w .kept) (t .kept) (omega arith) (omega arith) (omega arith) (omega arith);
+          ahead = λ tol j q f. run-lost L tol j (pointOf k y s₀ r) (gap-test tol false q) f (ap (λ (h : State → Turn State). h (stateOf k y s₀ r)) moves-as ∙ by-flag false b)
+              ∙ λ i. record { state = record { point = sym same i; t = r .t; step = r .step }; steps = sym (add-one (r .«n_iter»)) i; best = r .best; gains = r .improvements; reason = pivot };
+          standing = record {
+            trend = part-below nan 0 n (stepped .kept) (omega arith) ∙ stands .trend ∙ λ i. certify k y lam (sym z i) .trend;
+            primal = stands .primal ∙ λ i. certify k y lam (sym z i) .primal;
+            gap = stands .gap ∙ λ i. gapOf (certify k y lam (sym z i));
+          };
+          first = refl;
+          steps = refl;
+          gains = omega arith;
+          stall = omega arith;
+          kept = kept-then 0 (searchArea n) (stepped .kept) (kept-none 0 0 s₁) (omega arith) (omega arith) (omega arith) (omega arith);
         }
 
-    pub loop-ends : goes r tol limit ≡ false → EndsAt (run P tol limit (start P (origin m))) (pointOf n m s r)
-    loop-ends h =
-        finish P tol limit (run P tol limit (start P (origin m))) (pointOf n m s r) (r .lost) (w .within) (w .left)
-        (r .lost) (le (r .gap) (tol ⊗ r .primal)) (ltb (r .«n_iter») limit) (eqb (r .stalled) 10) refl (enough-is k g y lam tol n m s r (w .standing)) refl refl h
+    -- a step, and the certificate at the point that it left
+    module _ (step p d : Float) (s : List Float) (x : Run) (trend : part 0 n s ≡ certify k y lam (part n m s₁) .trend)
+        (primal : p ≡ certify k y lam (part n m s₁) .primal) (dual : d ≡ certify k y lam (part n m s₁) .dual) (kept : Kept 0 n s₁ s) (new : Settled r t₁ step p d x) where
+      at-s : point n m s ≡ point n m s₁
+      at-s = point-above n m kept (omega arith)
 
--- the whole search
-pub all-found : (k : ℕ) (g y : List Float) (lam tol : Float) (limit : ℕ) (s₀ s₁ s : List Float) (r : Run) → g ≡ gramRow k → Kept 0 (13 * length y) s₀ s₁
-    → Looping k g y lam tol limit (length y) (length y - k) s₁ s r → goes r tol limit ≡ false → Found k y lam tol limit s₀ s r
-unfolding interiorPoint
-all-found k g y lam tol limit s₀ s₁ s r isg v w h =
-    let n = length y in
-    let m = length y - k in
-    let e = loop-ends k g y lam tol limit n m s₁ s r w h in
-    let q : run (problem k g y lam) tol limit (start (problem k g y lam) (origin m)) ≡ searchOf k y lam tol limit =
-    λ i. run (problem k (isg i) y lam) tol limit (start (problem k (isg i) y lam) (origin m)) in
-    let p : point n m s ≡ searchOf k y lam tol limit .state .point = ap (λ (x : State). x .point) (e .state) ∙ ap (λ (x : Ended State). x .state .point) q in
-    record {
-      ends = p;
-      trend = w .standing .trend ∙ λ i. certify k y lam (p i .z) .trend;
-      gap = w .standing .gap ∙ λ i. gapOf (certify k y lam (p i .z));
-      primal = w .standing .primal ∙ λ i. certify k y lam (p i .z) .primal;
-      first = w .first;
-      best = e .best ∙ ap (λ (x : Ended State). x .best) q;
-      steps = e .steps ∙ ap (λ (x : Ended State). x .steps) q;
-      gains = e .gains ∙ ap (λ (x : Ended State). x .gains) q;
-      kept = kept-then 0 (13 * n) v (w .kept) (omega arith) (omega arith) (omega arith) (omega arith);
-    }
+      z-s : part n m s ≡ part n m s₁
+      z-s = ap (λ (q : Dual). q .z) at-s
+
+      gap-s : p ⊖ d ≡ gapOf (certify k y lam (part n m s))
+      gap-s = λ i. (primal ∙ λ j. certify k y lam (sym z-s j) .primal) i ⊖ (dual ∙ λ j. certify k y lam (sym z-s j) .dual) i
+
+      better-is : better L (pointOf k y s₀ r) (stateOf k y s x) ≡ improves r p d
+      unfolding problem
+      better-is = λ i. lt (sym gap-s i) (c0·99 ⊗ r .best)
+
+      gap-is : p ⊖ d ≡ L .primal (stateOf k y s x) ⊖ L .dual (stateOf k y s x)
+      unfolding problem
+      gap-is = gap-s
+
+      advanced : (b : Bool) → improves r p d ≡ b → pointOf k y s x ≡ advance L (pointOf k y s₀ r) (stateOf k y s x) b
+      advanced true e = λ i. record {
+        state = stateOf k y s x;
+        steps = (new .steps ∙ add-one (r .«n_iter»)) i;
+        best = (new .best ∙ (λ j. cond (e j) (p ⊖ d) (r .best)) ∙ gap-is) i;
+        gains = (new .gains ∙ (λ j. cond (e j) (r .improvements + 1) (r .improvements)) ∙ add-one (r .improvements)) i;
+        stall = (new .stall ∙ λ j. cond (e j) 0 (r .stalled + 1)) i;
+      }
+      advanced false e = λ i. record {
+        state = stateOf k y s x;
+        steps = (new .steps ∙ add-one (r .«n_iter»)) i;
+        best = (new .best ∙ λ j. cond (e j) (p ⊖ d) (r .best)) i;
+        gains = (new .gains ∙ λ j. cond (e j) (r .improvements + 1) (r .improvements)) i;
+        stall = (new .stall ∙ (λ j. cond (e j) 0 (r .stalled + 1)) ∙ add-one (r .stalled)) i;
+      }
+
+      at-most : (b : Bool) (a c : ℕ) → c ≤ a → cond b a c ≤ a
+      at-most true a c h = omega arith
+      at-most false a c h = h
+
+      landed-at : w ≡ Moved step → move k g y lam (stateOf k y s₀ r) ≡ moved (stateOf k y s x)
+      landed-at e =
+          let b = was-moved (sound k (system k g lam (point n m s₀)) m) (searchLine k g dy lam (c1 ⊘ t₁) (point n m s₀) .step) step (sym (stepped .answer) ∙ e) in
+          let there : point n m s ≡ taken lam (point n m s₀) (searchLine k g dy lam (c1 ⊘ t₁) (point n m s₀)) = at-s ∙ stepped .moves ∙ rw (b .0) in
+          by-flag true (b .0) ∙ λ i. moved (record { point = sym there i; t = sym (new .t) i; step = (b .1 ∙ sym (new .step)) i })
+
+      pub turned-moved : w ≡ Moved step → Turned k g y lam s₀ s r x
+      turned-moved e = record {
+        ahead = λ tol j q f. run-moved L tol j (pointOf k y s₀ r) (stateOf k y s x) (improves r p d) (gap-test tol false q) f
+            (ap (λ (h : State → Turn State). h (stateOf k y s₀ r)) moves-as ∙ landed-at e) better-is
+            ∙ sym (ap (run L tol j) (advanced (improves r p d) refl))
+            ∙ sym (ap (leftOf L tol j (pointOf k y s x)) (new .lost));
+        standing = record {
+          trend = trend ∙ λ i. certify k y lam (sym z-s i) .trend;
+          primal = new .primal ∙ primal ∙ λ i. certify k y lam (sym z-s i) .primal;
+          gap = new .gap ∙ gap-s;
+        };
+        first = new .first;
+        steps = new .steps;
+        gains = rw (new .gains) (at-most (improves r p d) (r .improvements + 1) (r .improvements) (omega arith));
+        stall = rw (new .stall) (no-more (improves r p d));
+        kept = kept-then 0 (searchArea n) (stepped .kept) kept (omega arith) (omega arith) (omega arith) (omega arith);
+      }
+        where
+          no-more : (b : Bool) → cond b 0 (r .stalled + 1) ≤ r .stalled + 1
+          no-more true = omega arith
+          no-more false = omega arith
+
+  -- ---- the loop
+
+  -- the definition's test of the gap
+  enough-is : (g : List Float) (tol : Float) (s : List Float) (r : Run) → Standing k y lam s r
+      → enough (problem k g y lam) tol (pointOf k y s r) ≡ le (r .gap) (tol ⊗ r .primal)
+  unfolding problem
+  enough-is g tol s r w = sym (λ i. le (w .gap i) (tol ⊗ w .primal i))
+
+  -- what holds before each iteration: what is left of the search is the whole
+  pub record Looping (g : List Float) (tol : Float) (limit : ℕ) (s₀ s : List Float) (r : Run) : Type 0 where
+    pub left : leftOf (problem k g y lam) tol (limit - r .«n_iter») (pointOf k y s r) (r .lost) ≡ run (problem k g y lam) tol limit (start (problem k g y lam) (origin m))
+    pub standing : Standing k y lam s r
+    pub first : r .first ≡ gapOf (certify k y lam (origin m .point .z))
+    pub within : r .«n_iter» ≤ limit
+    pub fewer : r .improvements ≤ r .«n_iter»
+    pub idle : r .stalled ≤ 10
+    pub kept : Kept 0 (searchArea n) s₀ s
+
+  module _ (g : List Float) (tol : Float) (limit : ℕ) (s₀ s : List Float) (r : Run) where
+    abbrev P : Problem State
+    P = problem k g y lam
+
+    pub loop-starts : Started k y lam s₀ s r → Looping g tol limit s s r
+    loop-starts w =
+        let e = w .begins g in
+        let none : r .«n_iter» ≡ 0 = ap (λ (p : Point State). p .steps) e in
+        let gains : r .improvements ≡ 0 = ap (λ (p : Point State). p .gains) e in
+        let stall : r .stalled ≡ 0 = ap (λ (p : Point State). p .stall) e in
+        let all : limit - r .«n_iter» ≡ limit = omega arith in
+        record {
+          left = ap (leftOf P tol (limit - r .«n_iter») (pointOf k y s r)) (w .lost) ∙ λ i. run P tol (all i) (e i);
+          standing = w .standing;
+          first = w .first ∙ w .standing .gap ∙ λ i. gapOf (certify k y lam (e i .state .point .z));
+          within = omega arith;
+          fewer = omega arith;
+          idle = omega arith;
+          kept = kept-none 0 (searchArea n) s;
+        }
+
+    module _ (w : Looping g tol limit s₀ s r) where
+      goes-on : goes r tol limit ≡ true → GoesOn (r .lost) (le (r .gap) (tol ⊗ r .primal)) (ltb (r .«n_iter») limit) (eqb (r .stalled) 10)
+      goes-on h = go-on (r .lost) (le (r .gap) (tol ⊗ r .primal)) (ltb (r .«n_iter») limit) (eqb (r .stalled) 10) h
+
+      pub still : goes r tol limit ≡ true → r .«n_iter» < limit
+      still h = ltb-true (r .«n_iter») limit (goes-on h .within)
+
+      pub loop-goes : goes r tol limit ≡ true → (s′ : List Float) (x : Run) → Turned k g y lam s s′ r x → Looping g tol limit s₀ s′ x
+      loop-goes h s′ x t =
+          let o = goes-on h in
+          let b = still h in
+          let c = t .steps in
+          let one : limit - r .«n_iter» ≡ suc (limit - x .«n_iter») = omega arith in
+          let d : suc (r .stalled) ≤ 10 = idle-room (r .stalled) (w .idle) (o .lively) in
+          record {
+            left = sym (t .ahead tol (limit - x .«n_iter») (o .wide) (o .lively))
+                ∙ sym (ap (λ (j : ℕ). run P tol j (pointOf k y s r)) one)
+                ∙ sym (ap (leftOf P tol (limit - r .«n_iter») (pointOf k y s r)) (o .found))
+                ∙ w .left;
+            standing = t .standing;
+            first = t .first ∙ w .first;
+            within = omega arith;
+            fewer = omega (arith, t .gains, w .fewer);
+            idle = omega (arith, t .stall);
+            kept = kept-then 0 (searchArea n) (w .kept) (t .kept) (omega arith) (omega arith) (omega arith) (omega arith);
+          }
+
+      loop-ends : goes r tol limit ≡ false → EndsAt (run P tol limit (start P (origin m))) (pointOf k y s r)
+      loop-ends h =
+          finish P tol limit (run P tol limit (start P (origin m))) (pointOf k y s r) (r .lost) (w .within) (w .left)
+          (r .lost) (le (r .gap) (tol ⊗ r .primal)) (ltb (r .«n_iter») limit) (eqb (r .stalled) 10) refl (enough-is g tol s r (w .standing)) refl refl h
+
+  -- the whole search
+  pub all-found : (g : List Float) (tol : Float) (limit : ℕ) (s₀ s₁ s : List Float) (r : Run) → g ≡ gramRow k → Kept 0 (searchArea (length y)) s₀ s₁
+      → Looping g tol limit s₁ s r → goes r tol limit ≡ false → Found k y lam tol limit s₀ s r
+  unfolding interiorPoint
+  all-found g tol limit s₀ s₁ s r isg v w h =
+      let e = loop-ends g tol limit s₁ s r w h in
+      let q : run (problem k g y lam) tol limit (start (problem k g y lam) (origin m)) ≡ searchOf k y lam tol limit =
+      λ i. run (problem k (isg i) y lam) tol limit (start (problem k (isg i) y lam) (origin m)) in
+      let p : point n m s ≡ searchOf k y lam tol limit .state .point = ap (λ (x : State). x .point) (e .state) ∙ ap (λ (x : Ended State). x .state .point) q in
+      record {
+        ends = p;
+        trend = w .standing .trend ∙ λ i. certify k y lam (p i .z) .trend;
+        gap = w .standing .gap ∙ λ i. gapOf (certify k y lam (p i .z));
+        primal = w .standing .primal ∙ λ i. certify k y lam (p i .z) .primal;
+        first = w .first;
+        best = e .best ∙ ap (λ (x : Ended State). x .best) q;
+        steps = e .steps ∙ ap (λ (x : Ended State). x .steps) q;
+        gains = e .gains ∙ ap (λ (x : Ended State). x .gains) q;
+        kept = kept-then 0 (searchArea n) v (w .kept) (omega arith) (omega arith) (omega arith) (omega arith);
+      }

@@ -1,8 +1,8 @@
--- Document 01, "Interior point": the code's account of the search, Run, beside the definition. n is the length of the series and m of the dual point.
+-- Document 01, "Interior point": the code's account of the search, Run, beside the definition.
 use mathlib.Core.Path.{_≡_}
 use mathlib.Core.Bool.{Bool, true, false, cond, not}
 use mathlib.Core.List.{List}
-use Prim.Native.Nat.{ℕ, suc, _+_, _-_, _*_, _≤_}
+use Prim.Native.Nat.{ℕ, suc, _+_, _-_, _≤_, _<_, _^_}
 use lib.Dec.{eqb, ltb}
 use lib.ListN.{length}
 use lib.Ieee.{Float, lt, le}
@@ -10,23 +10,38 @@ use Rattle.float64.specs.Ops.{_⊖_, _⊗_, c0·99}
 use Rattle.vectors.specs.Vec.{part, Kept}
 use Rattle.differences.specs.Diff.{gramRow}
 use Rattle.certificate.specs.Certificate.{Certificate, certify, gapOf}
-use Rattle.search.specs.Search.{Problem, Point, Ended, ended, pivot, run}
+use Rattle.certificate.specs.Ready.{Ready}
+use Rattle.search.specs.Search.{Problem, Point, Ended, ended, pivot, start, run}
+use Rattle.dual_point.specs.Dual.{Dual}
+use Rattle.dual_point.specs.Lanes.{searchArea}
 use Rattle.dual_point.specs.Places.{point}
 use Rattle.interior_point.specs.InteriorPoint.{State, problem, origin, interiorPoint}
 use Rattle.interior_point.specs.declared.Run.{Run}
 
--- where the search stands, its point in s after the n places of the trend
-abbrev pub stateOf : ℕ → ℕ → List Float → Run → State
-stateOf n m s r = record { point = point n m s; t = r .t; step = r .step }
+-- the point in s, after the places of the trend
+abbrev pub pointIn : ℕ → List Float → List Float → Dual
+pointIn k y s = point (length y) (length y - k) s
 
-abbrev pub pointOf : ℕ → ℕ → List Float → Run → Point State
-pointOf n m s r = record { state = stateOf n m s r; steps = r .«n_iter»; best = r .best; gains = r .improvements; stall = r .stalled }
+-- where the search stands
+abbrev pub stateOf : ℕ → List Float → List Float → Run → State
+stateOf k y s r = record { point = pointIn k y s; t = r .t; step = r .step }
+
+abbrev pub pointOf : ℕ → List Float → List Float → Run → Point State
+pointOf k y s r = record { state = stateOf k y s r; steps = r .«n_iter»; best = r .best; gains = r .improvements; stall = r .stalled }
 
 -- the trend in s, and P and the gap of r, are those of the point in s
-pub record Standing (k : ℕ) (y : List Float) (lam : Float) (n m : ℕ) (s : List Float) (r : Run) : Type 0 where
-  pub trend : part 0 n s ≡ certify k y lam (part n m s) .trend
-  pub primal : r .primal ≡ certify k y lam (part n m s) .primal
-  pub gap : r .gap ≡ gapOf (certify k y lam (part n m s))
+pub record Standing (k : ℕ) (y : List Float) (lam : Float) (s : List Float) (r : Run) : Type 0 where
+  pub trend : part 0 (length y) s ≡ certify k y lam (pointIn k y s .z) .trend
+  pub primal : r .primal ≡ certify k y lam (pointIn k y s .z) .primal
+  pub gap : r .gap ≡ gapOf (certify k y lam (pointIn k y s .z))
+
+-- the start: the definition's, its trend and certificate, and the first gap
+pub record Started (k : ℕ) (y : List Float) (lam : Float) (s₀ s : List Float) (r : Run) : Type 0 where
+  pub begins : (g : List Float) → pointOf k y s r ≡ start (problem k g y lam) (origin (length y - k))
+  pub standing : Standing k y lam s r
+  pub first : r .first ≡ r .gap
+  pub lost : r .lost ≡ false
+  pub kept : Kept 0 (searchArea (length y)) s₀ s
 
 -- what is left of the search from p on, unless a pivot was lost
 abbrev pub leftOf : Problem State → Float → ℕ → Point State → Bool → Ended State
@@ -36,6 +51,12 @@ leftOf L tol j p false = run L tol j p
 -- whether the next iteration is made
 abbrev pub goes : Run → Float → ℕ → Bool
 goes r tol limit = cond (r .lost) false (cond (le (r .gap) (tol ⊗ r .primal)) false (cond (ltb (r .«n_iter») limit) (not (eqb (r .stalled) 10)) false))
+
+-- one more iteration can be counted
+pub record Countable (r : Run) : Type 0 where
+  pub steps : r .«n_iter» + 1 < 2 ^ 64
+  pub gains : r .improvements ≤ r .«n_iter»
+  pub stall : r .stalled ≤ 10
 
 -- what an iteration adds to r, where it ends with P and G and is an improvement or not
 abbrev pub improves : Run → Float → Float → Bool
@@ -53,16 +74,37 @@ pub record Settled (r : Run) (t₁ step₁ p d : Float) (x : Run) : Type 0 where
   pub stall : x .stalled ≡ cond (improves r p d) 0 (r .stalled + 1)
   pub lost : x .lost ≡ false
 
+-- after a lost pivot: the iteration counts, and nothing else changes
+abbrev pub lostRun : Run → Run
+lostRun r = record {
+  t = r .t;
+  step = r .step;
+  gap = r .gap;
+  primal = r .primal;
+  first = r .first;
+  best = r .best;
+  «n_iter» = r .«n_iter» + 1;
+  improvements = r .improvements;
+  stalled = r .stalled;
+  lost = true;
+}
+
+-- what an iteration asks
+pub record Turnable (k : ℕ) (y dy : List Float) (lam : Float) (s : List Float) (r : Run) : Type 0 where
+  pub ready : Ready k y dy (searchArea (length y)) (length s)
+  pub counts : Countable r
+  pub standing : Standing k y lam s r
+
 -- one iteration: of the definition's search from s₀ and r what is left from s and x is left
-pub record Turned (k : ℕ) (g y : List Float) (lam : Float) (n m : ℕ) (s₀ s : List Float) (r x : Run) : Type 0 where
+pub record Turned (k : ℕ) (g y : List Float) (lam : Float) (s₀ s : List Float) (r x : Run) : Type 0 where
   pub ahead : (tol : Float) (j : ℕ) → le (r .gap) (tol ⊗ r .primal) ≡ false → eqb (r .stalled) 10 ≡ false
-      → run (problem k g y lam) tol (suc j) (pointOf n m s₀ r) ≡ leftOf (problem k g y lam) tol j (pointOf n m s x) (x .lost)
-  pub standing : Standing k y lam n m s x
+      → run (problem k g y lam) tol (suc j) (pointOf k y s₀ r) ≡ leftOf (problem k g y lam) tol j (pointOf k y s x) (x .lost)
+  pub standing : Standing k y lam s x
   pub first : x .first ≡ r .first
   pub steps : x .«n_iter» ≡ r .«n_iter» + 1
   pub gains : x .improvements ≤ r .improvements + 1
   pub stall : x .stalled ≤ r .stalled + 1
-  pub kept : Kept 0 (13 * n) s₀ s
+  pub kept : Kept 0 (searchArea (length y)) s₀ s
 
 -- the whole search: the point that it ended at stands in s after its trend; r has its gaps and counts
 abbrev pub searchOf : ℕ → List Float → Float → Float → ℕ → Ended State
@@ -72,7 +114,7 @@ abbrev pub endOf : ℕ → List Float → Float → Float → ℕ → Certificat
 endOf k y lam tol limit = certify k y lam (searchOf k y lam tol limit .state .point .z)
 
 pub record Found (k : ℕ) (y : List Float) (lam tol : Float) (limit : ℕ) (s₀ s : List Float) (r : Run) : Type 0 where
-  pub ends : point (length y) (length y - k) s ≡ searchOf k y lam tol limit .state .point
+  pub ends : pointIn k y s ≡ searchOf k y lam tol limit .state .point
   pub trend : part 0 (length y) s ≡ endOf k y lam tol limit .trend
   pub gap : r .gap ≡ gapOf (endOf k y lam tol limit)
   pub primal : r .primal ≡ endOf k y lam tol limit .primal
@@ -80,4 +122,4 @@ pub record Found (k : ℕ) (y : List Float) (lam tol : Float) (limit : ℕ) (s�
   pub best : r .best ≡ searchOf k y lam tol limit .best
   pub steps : r .«n_iter» ≡ searchOf k y lam tol limit .steps
   pub gains : r .improvements ≡ searchOf k y lam tol limit .gains
-  pub kept : Kept 0 (13 * length y) s₀ s
+  pub kept : Kept 0 (searchArea (length y)) s₀ s

@@ -1,18 +1,16 @@
 // The interior point search for the dual point of an L1 fit.
 ghost use mathlib.Core.Path.{_≡_};
 ghost use mathlib.Core.Bool.{true, false};
-ghost use mathlib.Core.List.{List};
 ghost use Prim.Native.Nat.{_≤_, _<_, _+_, _-_, _*_, _^_};
-ghost use lib.ListN.{length, take};
-ghost use lib.Ieee.{Float};
-ghost use Rattle.vectors.specs.Vec.{Kept, Written};
+ghost use lib.ListN.{length};
+ghost use Rattle.vectors.specs.Vec.{Written};
 ghost use Rattle.differences.specs.Diff.{diffK};
-ghost use Rattle.certificate.specs.Run.{Certified};
-ghost use Rattle.search.specs.Search.{start as start_of};
+ghost use Rattle.certificate.specs.Ready.{Ready};
 ghost use Rattle.dual_point.specs.Dual.{Dual};
+ghost use Rattle.dual_point.specs.Lanes.{searchArea};
 ghost use Rattle.newton_step.specs.Stepped.{Stepped};
-ghost use Rattle.interior_point.specs.InteriorPoint.{nextT, problem, origin};
-ghost use Rattle.interior_point.specs.Account.{pointOf, Standing, goes, Settled, Turned, Found};
+ghost use Rattle.interior_point.specs.InteriorPoint.{nextT};
+ghost use Rattle.interior_point.specs.Account.{Started, goes, Countable, lostRun, Settled, Turnable, Turned, Found};
 use certificate::Pair;
 use newton_step::Step;
 
@@ -42,29 +40,17 @@ fn fill(s: &mut [f64], a: usize, e: usize, v: f64)
     }
 }
 
-// The certificate at the z that stands after the n places of the trend, which it writes.
-fn certify_at(work: &mut [f64], y: &[f64], dy: &[f64], lam: f64, k: usize) -> Pair
-    requires { ⌜ (1 ≤ k) × ((k ≤ 2) × ((k < length (now y)) × ((13 * length (now y) ≤ length (now work)) × (take (length (now y) - k) (now dy) ≡ diffK k (now y))))) ⌝ }
-    ensures { λ r. ⌜ Certified k (now (y .entry)) lam (now (work .entry)) (now (work .exit)) (r .primal) (r .dual) ⌝ }
-{
-    let n = y.len();
-    let e = n + (n - k);
-    certificate::certify_l1(&mut work[0..e], y, dy, lam, k)
-}
-
 // z = 0, mu1 = mu2 = 1, t = 1e-10, step infinite; the best gap is the first.
 fn start(work: &mut [f64], y: &[f64], dy: &[f64], lam: f64, k: usize) -> Run
-    requires { ⌜ (1 ≤ k) × ((k ≤ 2) × ((k < length (now y)) × ((13 * length (now y) ≤ length (now work)) × (take (length (now y) - k) (now dy) ≡ diffK k (now y))))) ⌝ }
-    ensures { λ r. ⌜ ((g : List Float) → pointOf (length (now (y .entry))) (length (now (y .entry)) - k) (now (work .exit)) r ≡ start_of (problem k g (now (y .entry)) lam) (origin (length (now (y .entry)) - k)))
-        × (Standing k (now (y .entry)) lam (length (now (y .entry))) (length (now (y .entry)) - k) (now (work .exit)) r
-        × ((r .first ≡ r .gap) × ((r .lost ≡ false) × Kept 0 (13 * length (now (y .entry))) (now (work .entry)) (now (work .exit))))) ⌝ }
+    requires { ⌜ Ready k (now y) (now dy) (searchArea (length (now y))) (length (now work)) ⌝ }
+    ensures { λ r. ⌜ Started k (now (y .entry)) lam (now (work .entry)) (now (work .exit)) r ⌝ }
 {
     let n = y.len();
     let a = n + (n - k);
     let e = a + (n - k) + (n - k);
     fill(work, n, a, 0.0);
     fill(work, a, e, 1.0);
-    let p = certify_at(work, y, dy, lam, k);
+    let p = certificate::certify_l1(work, y, dy, lam, k);
     let gap = p.primal - p.dual;
     Run {
         t: 1e-10,
@@ -108,18 +94,19 @@ fn next_t(t: f64, step: f64, gap: f64, m: usize) -> f64
 }
 
 // The Newton step on the point that stands after the n places of the trend.
-fn step_at(work: &mut [f64], dy: &[f64], lam: f64, u: f64, g: [f64; 3], k: usize, n: usize) -> Step
-    requires { ⌜ (1 ≤ k) × ((k ≤ 2) × ((k < n) × ((13 * n ≤ length (now work)) × (n - k ≤ length (now dy))))) ⌝ }
-    ensures { λ r. ⌜ Stepped k g (take (n - k) (now (dy .entry))) lam u n (n - k) (now (work .entry)) (now (work .exit)) r ⌝ }
+fn step_at(work: &mut [f64], y: &[f64], dy: &[f64], lam: f64, u: f64, g: [f64; 3], k: usize) -> Step
+    requires { ⌜ Ready k (now y) (now dy) (searchArea (length (now y))) (length (now work)) ⌝ }
+    ensures { λ r. ⌜ Stepped k g (diffK k (now (y .entry))) lam u (length (now (y .entry))) (length (now (y .entry)) - k) (now (work .entry)) (now (work .exit)) r ⌝ }
 {
+    let n = y.len();
     let m = n - k;
-    let e = n + (6 * m + (m * (k + 1) + 3 * m));
+    let e = work.len();
     newton_step::newton_step(&mut work[n..e], &dy[0..m], lam, u, g, k, m)
 }
 
 // The account after a step that ended with the pair p.
 fn settled(r: Run, t: f64, step: f64, p: Pair) -> Run
-    requires { ⌜ (r .«n_iter» + 1 < 2 ^ 64) × ((r .improvements ≤ r .«n_iter») × (r .stalled ≤ 10)) ⌝ }
+    requires { ⌜ Countable r ⌝ }
     ensures { λ x. ⌜ Settled r t step (p .primal) (p .dual) x ⌝ }
 {
     let gap = p.primal - p.dual;
@@ -154,7 +141,7 @@ fn settled(r: Run, t: f64, step: f64, p: Pair) -> Run
 // The account after a lost pivot: the iteration counts, and nothing else changes.
 fn pivot_lost(r: Run) -> Run
     requires { ⌜ r .«n_iter» + 1 < 2 ^ 64 ⌝ }
-    ensures { λ x. ⌜ (x ≡ record { t = r .t; step = r .step; gap = r .gap; primal = r .primal; first = r .first; best = r .best; «n_iter» = r .«n_iter» + 1; improvements = r .improvements; stalled = r .stalled; lost = true }) ⌝ }
+    ensures { λ x. ⌜ x ≡ lostRun r ⌝ }
 {
     let n_iter = r.n_iter + 1;
     Run {
@@ -173,18 +160,16 @@ fn pivot_lost(r: Run) -> Run
 
 // One iteration: a Newton step with the next t, and the certificate at the point that it leaves.
 fn iterate(work: &mut [f64], y: &[f64], dy: &[f64], lam: f64, k: usize, g: [f64; 3], r: Run) -> Run
-    requires { ⌜ (1 ≤ k) × ((k ≤ 2) × ((k < length (now y)) × ((length (now y) ≤ 65536) × ((13 * length (now y) ≤ length (now work)) × ((take (length (now y) - k) (now dy) ≡ diffK k (now y))
-        × ((r .«n_iter» + 1 < 2 ^ 64) × ((r .improvements ≤ r .«n_iter») × ((r .stalled ≤ 10)
-        × Standing k (now y) lam (length (now y)) (length (now y) - k) (now work) r)))))))) ⌝ }
-    ensures { λ x. ⌜ Turned k g (now (y .entry)) lam (length (now (y .entry))) (length (now (y .entry)) - k) (now (work .entry)) (now (work .exit)) r x ⌝ }
+    requires { ⌜ Turnable k (now y) (now dy) lam (now work) r ⌝ }
+    ensures { λ x. ⌜ Turned k g (now (y .entry)) lam (now (work .entry)) (now (work .exit)) r x ⌝ }
 {
     let n = y.len();
     let t = next_t(r.t, r.step, r.gap, n - k);
-    let w = step_at(work, dy, lam, 1.0 / t, g, k, n);
+    let w = step_at(work, y, dy, lam, 1.0 / t, g, k);
     let Step::Moved(step) = w else {
         return pivot_lost(r);
     };
-    let p = certify_at(work, y, dy, lam, k);
+    let p = certificate::certify_l1(work, y, dy, lam, k);
     settled(r, t, step, p)
 }
 
@@ -198,7 +183,7 @@ pub fn ipm_l1(
     max_iter: u64,
     k: usize,
 ) -> Run
-    requires { ⌜ (1 ≤ k) × ((k ≤ 2) × ((k < length (now y)) × ((length (now y) ≤ 65536) × ((13 * length (now y) ≤ length (now work)) × (take (length (now y) - k) (now dy) ≡ diffK k (now y)))))) ⌝ }
+    requires { ⌜ Ready k (now y) (now dy) (searchArea (length (now y))) (length (now work)) ⌝ }
     ensures { λ r. ⌜ Found k (now (y .entry)) lam tol «max_iter» (now (work .entry)) (now (work .exit)) r ⌝ }
 {
     let g = differences::gram_offsets(k);

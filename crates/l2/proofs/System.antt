@@ -1,31 +1,28 @@
--- The system (I + lam D'D) x = y in one run: its rows, y put after them, and what factor_solve leaves. Assumes nothing.
-use mathlib.Core.Bool.{Bool, true}
-use mathlib.Core.Path.{_≡_, refl, sym, ap, _∙_}
+-- The system (I + lam D'D) x = y in one run: its rows, y put after them, and its solution. Assumes nothing.
+use mathlib.Core.Bool.{Bool}
+use mathlib.Core.Path.{_≡_, sym, ap, _∙_}
 use mathlib.Core.List.{List}
-use Prim.Native.Nat.{ℕ, _+_, _-_, _*_, _≤_}
+use Prim.Native.Nat.{ℕ, _+_, _*_, _≤_}
+use native.Mathlib.Nat.{zero-add}
 use native.Mathlib.Omega.{arith}
-use lib.ListN.{length, take, drop, getD, length-drop}
-use lib.Seq.{take-all, drop-drop, length-take-le, getD-drop}
+use lib.ListN.{length, take, drop, length-drop}
+use lib.Seq.{take-all, length-take-le}
 use lib.Ieee.{Float, nan}
-use Rattle.vectors.specs.Vec.{put, part, KeptOf, Wrote}
-use Rattle.vectors.proofs.Parts.{putBack, mid-put, first-put, kept-put, range-part, kept-drop, mid-is}
+use Rattle.vectors.specs.Vec.{put, Wrote}
+use Rattle.vectors.proofs.Laws.{kept-then}
+use Rattle.vectors.proofs.Parts.{putBack, mid-put, kept-put, mid-is, first-part, part-below}
 use Rattle.vectors.proofs.Texts.{wrote-take}
-use Rattle.differences.specs.Diff.{stencil}
-use Rattle.banded.specs.Rows.{Matrix, rows, sound, matrix, concat}
+use Rattle.banded.specs.Rows.{rows}
 use Rattle.banded.specs.Solve.{solve}
-use Rattle.banded.proofs.Laws.{kept-after}
-use Rattle.ridge.specs.Ridge.{ridge}
-use Rattle.l2.specs.L2.{soundL2, trendL2}
+use Rattle.banded.specs.Layout.{Laid}
+use Rattle.banded.proofs.Filling.{laid-done}
+use Rattle.substitution.specs.Solved.{Solved}
+use Rattle.l2.specs.L2.{systemL2, soundL2, trendL2}
 use Rattle.l2.specs.Solved.{SolvedL2}
 
-module _ (k : ℕ) (lam : Float) (y s₀ s₁ x s₃ : List Float) (ok : Bool) (room : length y * (k + 1) + length y ≤ length s₁) (l : length x ≡ length y)
-    (held : take (length y * (k + 1)) s₁ ≡ concat (matrix k (ridge k (stencil k) lam (length y)) (length y))) (kept : drop (length y * (k + 1)) s₁ ≡ drop (length y * (k + 1)) s₀)
-    (size₁ : length s₁ ≡ length s₀) (size₃ : length s₃ ≡ length s₀)
-    (right : x ≡ put (take (length y) (drop (length y * (k + 1)) s₁)) 0 y)
-    (after : drop (length y * (k + 1) + length y) s₃ ≡ drop (length y * (k + 1) + length y) (putBack (length y * (k + 1)) (length y) s₁ x))
-    (done : (a : Matrix) → take (length y * (k + 1)) (putBack (length y * (k + 1)) (length y) s₁ x) ≡ concat (matrix k a (length y))
-    → (ok ≡ sound k a (length y)) × (ok ≡ true → (take (length y * (k + 1)) s₃ ≡ concat (rows k a (length y)))
-    × (take (length y) (drop (length y * (k + 1)) s₃) ≡ solve k (rows k a (length y)) (take (length y) (drop (length y * (k + 1)) (putBack (length y * (k + 1)) (length y) s₁ x)))))) where
+-- s₁ holds the rows and x the places after them, s₂ the solution
+module _ (k : ℕ) (lam : Float) (y s₁ x : List Float) (room : length y * (k + 1) + length y ≤ length s₁) (l : length x ≡ length y)
+    (right : x ≡ put (take (length y) (drop (length y * (k + 1)) s₁)) 0 y) where
   series : x ≡ y
   series =
       let n = length y in
@@ -34,18 +31,20 @@ module _ (k : ℕ) (lam : Float) (y s₀ s₁ x s₃ : List Float) (ok : Bool) (
       let w : Wrote t 0 y x n = record { next = omega arith; room = omega arith; text = right } in
       sym (take-all n x (omega arith)) ∙ wrote-take w .0
 
-  pub l2-done : SolvedL2 k y lam s₀ s₃ ok
+  pub l2-solved : {s₀ s₂ : List Float} {ok : Bool} → Laid k (length y) (systemL2 k y lam) s₀ s₁
+      → Solved 0 k (length y) (putBack (length y * (k + 1)) (length y) s₁ x) s₂ ok → SolvedL2 k y lam s₀ s₂ ok
   unfolding soundL2 trendL2
-  l2-done =
+  l2-solved w q =
       let n = length y in
       let b = n * (k + 1) in
-      let a = ridge k (stencil k) lam n in
-      let r = done a (first-put b n s₁ x room l ∙ held) in
+      let a = systemL2 k y lam in
       let f = kept-put b n s₁ x room l nan in
-      let two : (s : List Float) → drop (b + n) s ≡ drop n (drop b s) = λ s. sym (drop-drop n b s) in
-      let stays = after ∙ kept-after (b + n) (putBack b n s₁ x) s₁ (f .size) (f .above) ∙ two s₁ ∙ ap (drop n) kept ∙ sym (two s₀) in
+      let size = f .size in
+      let held = part-below nan 0 b f (omega arith) ∙ sym (first-part b s₁ (omega arith)) ∙ laid-done w (omega arith) .0 in
+      let lane = sym (mid-is b n (putBack b n s₁ x) (omega arith)) ∙ mid-put b n s₁ x room l ∙ series in
+      let z = zero-add b in
       record {
-        sound = r .0;
-        trend = λ t. sym (mid-is b n s₃ (omega arith)) ∙ r .1 t .1 ∙ ap (solve k (rows k a n)) (mid-put b n s₁ x room l ∙ series);
-        kept = kept-drop nan (b + n) s₀ s₃ size₃ stays;
+        sound = q .answer a held;
+        trend = λ e. (rw z at (q .solution a held e)) ∙ ap (solve k (rows k a n)) lane;
+        kept = kept-then 0 (b + n) (kept-then 0 (b + n) (w .kept) f (omega arith) (omega arith) (omega arith) (omega arith)) (q .kept) (omega arith) (omega arith) (omega arith) (omega arith);
       }

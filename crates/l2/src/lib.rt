@@ -2,34 +2,38 @@
 mod sums;
 
 ghost use mathlib.Core.Path.{_≡_};
-ghost use Prim.Native.Nat.{_≤_, _<_, _-_, _+_, _*_};
+ghost use Prim.Native.Nat.{_≤_, _+_, _*_};
 ghost use lib.ListN.{length};
-ghost use Rattle.vectors.specs.Vec.{part};
-ghost use Rattle.l2.specs.L2.{dualL2};
+ghost use Rattle.differences.specs.Series.{Series};
+ghost use Rattle.l2.specs.L2.{objectiveL2, dualL2};
 ghost use Rattle.l2.specs.Solved.{SolvedL2, Ended};
 
 // The rows of the system and then y in the first places of s, solved: the trend stands after the rows. Whether every pivot was good.
 pub fn solve_l2(s: &mut [f64], y: &[f64], lam: f64, k: usize) -> bool
-    requires { ⌜ (k ≤ 2) × ((1 ≤ length (now y)) × ((length (now y) ≤ 65536) × (length (now y) * (k + 1) + length (now y) ≤ length (now s)))) ⌝ }
+    requires { ⌜ Series k (length (now y)) × (length (now y) * (k + 1) + length (now y) ≤ length (now s)) ⌝ }
     ensures { λ r. ⌜ SolvedL2 k (now (y .entry)) lam (now (s .entry)) (now (s .exit)) r ⌝ }
 {
     let n = y.len();
-    let c = differences::stencil(k);
-    ridge::fill_ridge(s, c, lam, k, n);
+    ridge::fill_ridge(s, lam, k, n);
     let b = n * (k + 1);
     let e = b + n;
     vectors::copy(&mut s[b..e], y);
-    substitution::factor_solve(s, k, n)
+    substitution::factor_solve_at(s, 0, k, n)
 }
 
-pub struct Ends {
-    pub gap: f64,
-    pub objective: f64,
+// The objective of the trend x.
+fn objective(x: &[f64], y: &[f64], lam: f64, k: usize) -> f64
+    requires { ⌜ Series k (length (now y)) × (length (now x) ≡ length (now y)) ⌝ }
+    ensures { λ r. ⌜ r ≡ objectiveL2 k (now (y .entry)) lam (now (x .entry)) ⌝ }
+{
+    let a = sums::residual_squares(x, y);
+    let b = sums::diff_squares(x, k);
+    0.5 * a + 0.5 * lam * b
 }
 
 // G at v = lam D x.
 fn dual_l2(v: &[f64], y: &[f64], lam: f64, k: usize) -> f64
-    requires { ⌜ (1 ≤ k) × ((k ≤ 2) × ((length (now v) + k ≡ length (now y)) × (length (now v) ≤ 65536))) ⌝ }
+    requires { ⌜ Series k (length (now y)) × (length (now v) + k ≡ length (now y)) ⌝ }
     ensures { λ r. ⌜ r ≡ dualL2 k (now (y .entry)) lam (now (v .entry)) ⌝ }
 {
     let a = sums::fall_squares(v, k);
@@ -38,26 +42,29 @@ fn dual_l2(v: &[f64], y: &[f64], lam: f64, k: usize) -> f64
     -0.5 * a + b - c / (2.0 * lam)
 }
 
+pub struct Ends {
+    pub gap: f64,
+    pub objective: f64,
+}
+
 // The objective and the gap of the trend in the first n places of s. The places after it are for lam D x.
 pub fn objectives(s: &mut [f64], y: &[f64], lam: f64, k: usize) -> Ends
-    requires { ⌜ (1 ≤ k) × ((k ≤ 2) × ((k < length (now y)) × ((length (now y) ≤ 65536) × (length (now y) + length (now y) ≤ length (now s))))) ⌝ }
+    requires { ⌜ Series k (length (now y)) × (length (now y) + length (now y) ≤ length (now s)) ⌝ }
     ensures { λ r. ⌜ Ended k (now (y .entry)) lam (now (s .entry)) (now (s .exit)) r ⌝ }
 {
     let n = y.len();
-    let a = sums::residual_squares(&s[0..n], y);
-    let b = sums::diff_squares(&s[0..n], k);
-    let objective = 0.5 * a + 0.5 * lam * b;
+    let p = objective(&s[0..n], y, lam, k);
     if !(0.0 < lam) {
         return Ends {
             gap: 0.0,
-            objective,
+            objective: p,
         };
     }
     sums::scale_diff(s, lam, k, n);
     let e = n + (n - k);
     let d = dual_l2(&s[n..e], y, lam, k);
     Ends {
-        gap: objective - d,
-        objective,
+        gap: p - d,
+        objective: p,
     }
 }

@@ -2,11 +2,11 @@
 ghost use mathlib.Core.Path.{_≡_};
 ghost use Prim.Native.Nat.{_≤_, _<_, _-_, _+_};
 ghost use lib.ListN.{length};
-ghost use Rattle.float64.specs.Ops.{_⊗_};
-ghost use Rattle.vectors.specs.Vec.{at, part, Written};
 ghost use Rattle.vectors.specs.Sums.{norm2Sq, dot};
 ghost use Rattle.differences.specs.Diff.{diffK, diffKT};
+ghost use Rattle.differences.specs.Series.{Order, Series};
 ghost use Rattle.certificate.specs.Certificate.{minus};
+ghost use Rattle.l2.specs.Solved.{Scaled};
 
 // Σ(y - x)²
 pub fn residual_squares(x: &[f64], y: &[f64]) -> f64
@@ -25,7 +25,7 @@ pub fn residual_squares(x: &[f64], y: &[f64]) -> f64
 
 // Σ(D x)²
 pub fn diff_squares(x: &[f64], k: usize) -> f64
-    requires { ⌜ (1 ≤ k) × ((k ≤ 2) × (k < length (now x))) ⌝ }
+    requires { ⌜ Series k (length (now x)) ⌝ }
     ensures { λ r. ⌜ r ≡ norm2Sq (diffK k (now (x .entry))) ⌝ }
 {
     let m = x.len() - k;
@@ -41,7 +41,7 @@ pub fn diff_squares(x: &[f64], k: usize) -> f64
 
 // Σ(D'v)²
 pub fn fall_squares(v: &[f64], k: usize) -> f64
-    requires { ⌜ (1 ≤ k) × ((k ≤ 2) × (length (now v) ≤ 65536)) ⌝ }
+    requires { ⌜ Order k ⌝ }
     ensures { λ r. ⌜ r ≡ norm2Sq (diffKT k (now (v .entry))) ⌝ }
 {
     let n = v.len() + k;
@@ -57,7 +57,7 @@ pub fn fall_squares(v: &[f64], k: usize) -> f64
 
 // Σ v·D y
 pub fn dot_diff(v: &[f64], y: &[f64], k: usize) -> f64
-    requires { ⌜ (1 ≤ k) × ((k ≤ 2) × (length (now v) + k ≤ length (now y))) ⌝ }
+    requires { ⌜ Order k × (length (now v) + k ≤ length (now y)) ⌝ }
     ensures { λ r. ⌜ r ≡ dot (now (v .entry)) (diffK k (now (y .entry))) ⌝ }
 {
     let mut sum = 0.0;
@@ -72,8 +72,8 @@ pub fn dot_diff(v: &[f64], y: &[f64], k: usize) -> f64
 
 // lam D x, x the first n places of s, in the places after them.
 pub fn scale_diff(s: &mut [f64], lam: f64, k: usize, n: usize)
-    requires { ⌜ (1 ≤ k) × ((k ≤ 2) × ((k < n) × (n + (n - k) ≤ length (now s)))) ⌝ }
-    ensures { λ _. ⌜ Written n (n + (n - k)) (λ j. lam ⊗ at (diffK k (part 0 n (now (s .entry)))) (j - n)) (now (s .entry)) (now (s .exit)) ⌝ }
+    requires { ⌜ Series k n × (n + (n - k) ≤ length (now s)) ⌝ }
+    ensures { λ _. ⌜ Scaled k n lam (now (s .entry)) (now (s .exit)) ⌝ }
 {
     let m = n - k;
     let mut i = 0;

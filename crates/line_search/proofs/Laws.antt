@@ -1,4 +1,4 @@
--- A run read in parts: what the loops of newton have done.
+-- What the loops of the line search have done: the step cap, and the trial point. Assumes nothing.
 use mathlib.Core.Path.{_≡_, refl, sym, ap, _∙_}
 use mathlib.Core.List.{List}
 use mathlib.Core.Bool.{true, false}
@@ -10,8 +10,6 @@ use lib.Ieee.{Float, nan, inf, fin, binary64, add, mul, lt, isNan, ofBits}
 use Rattle.vectors.specs.Vec.{at, list, Written, partOf, part, Kept}
 use Rattle.vectors.proofs.Laws.{list-ext, up}
 use Rattle.vectors.proofs.Parts.{length-part, at-part}
-use Rattle.gram.specs.Gram.{product}
-use Rattle.newton_system.specs.Newton.{squareAt, squareOf}
 use Rattle.line_search.specs.LineSearch.{capped, capTo, stepped, along}
 use Rattle.dual_point.specs.Places.{point}
 
@@ -40,7 +38,7 @@ pub one-number : isNan (ofBits binary64 0x3ff0_0000_0000_0000) ≡ false
 unfolding isNan ofBits
 one-number = refl
 
-pub stepped-part : (a b e m : ℕ) (step : Float) (s₀ s : List Float)
+stepped-part : (a b e m : ℕ) (step : Float) (s₀ s : List Float)
     → ((j : ℕ) → j < m → at s (e + j) ≡ add binary64 (at s₀ (a + j)) (mul binary64 step (at s₀ (b + j)))) → part e m s ≡ stepped step (part a m s₀) (part b m s₀)
 unfolding partOf stepped
 stepped-part a b e m step s₀ s h =

@@ -1,42 +1,49 @@
--- What stays where a run is written elsewhere, and the ways through the line search.
+-- The direction written after dz, and the ways through the line search. Assumes nothing.
 use mathlib.Core.Path.{_≡_, refl, sym, ap, _∙_}
 use mathlib.Core.List.{List}
 use mathlib.Core.Bool.{Bool, true, false, _&&_}
 use Prim.Native.Nat.{ℕ, zero, suc, _+_, _-_, _*_, _≤_, _<_}
 use native.Mathlib.Omega.{arith}
 use native.Mathlib.Numerals.{add-one}
-use borrow.Author.Tests.{lt-ltb, le-ltb}
-use Rattle.gram.specs.Gram.{gram}
-use lib.ListN.{length, take, drop}
-use lib.Ieee.{Float, nan, binary64, add, mul, ofBits}
+use lib.ListN.{length}
+use lib.Ieee.{Float, nan, binary64, mul, ofBits}
 use Rattle.vectors.specs.Vec.{at, list, part, Kept}
 use Rattle.vectors.proofs.Laws.{list-ext, kept-then}
 use Rattle.dual_point.specs.Dual.{Dual}
-use Rattle.newton_system.specs.Newton.{norm, barrier, system}
-use Rattle.line_search.specs.LineSearch.{dmu1At, dmu2At, direction, along, lower, accepted, trials}
+use Rattle.newton_system.specs.Newton.{norm}
+use Rattle.line_search.specs.LineSearch.{direction, capTo, along, lower, accepted, trials}
 use Rattle.dual_point.specs.Places.{point}
-use Rattle.line_search.specs.Places.{searchedFrom, Searched}
+use Rattle.line_search.specs.Places.{dmuAt, Directed, searchedFrom, Attempted, Searched}
 use Rattle.vectors.specs.Sums.{inside}
 use Rattle.dual_point.proofs.Points.{point-below, point-above}
-use Rattle.vectors.proofs.Parts.{length-part, at-part, part-below, part-above, partOf-range}
+use Rattle.vectors.proofs.Parts.{length-part, at-part, part-below}
 
 -- ---- directions
 
-pub dmu1-done : (b m : ℕ) (lam u : Float) (s : List Float)
-    → list m (λ i. dmu1At lam u (at s i) (at s (m + i)) (at s (b + i))) ≡ direction lam u (point 0 m s) (part b m s) .mu1
-unfolding direction
-dmu1-done b m lam u s =
-    list-ext m (λ i. dmu1At lam u (at s i) (at s (m + i)) (at s (b + i))) (λ i. dmu1At lam u (at (part 0 m s) i) (at (part (0 + m) m s) i) (at (part b m s) i))
-    (λ j l. rw (at-part 0 m s j j l (omega arith), at-part (0 + m) m s j (m + j) l (omega arith), at-part b m s j (b + j) l refl))
-    ∙ ap (λ (n : ℕ). list n (λ i. dmu1At lam u (at (part 0 m s) i) (at (part (0 + m) m s) i) (at (part b m s) i))) (sym (length-part 0 m s))
+-- a multiplier's lane, as a part
+dmu-done : (lower : Bool) (b c x m : ℕ) (lam u : Float) (s : List Float) → x ≡ c
+    → list m (λ i. dmuAt lower lam u (at s i) (at s (c + i)) (at s (b + i))) ≡ list (length (part 0 m s)) (λ i. dmuAt lower lam u (at (part 0 m s) i) (at (part x m s) i) (at (part b m s) i))
+dmu-done lower b c x m lam u s e =
+    list-ext m (λ i. dmuAt lower lam u (at s i) (at s (c + i)) (at s (b + i))) (λ i. dmuAt lower lam u (at (part 0 m s) i) (at (part x m s) i) (at (part b m s) i))
+    (λ j l. rw (at-part 0 m s j j l (omega arith), at-part x m s j (c + j) l (omega arith), at-part b m s j (b + j) l refl))
+    ∙ ap (λ (n : ℕ). list n (λ i. dmuAt lower lam u (at (part 0 m s) i) (at (part x m s) i) (at (part b m s) i))) (sym (length-part 0 m s))
 
-pub dmu2-done : (b m : ℕ) (lam u : Float) (s : List Float)
-    → list m (λ i. dmu2At lam u (at s i) (at s (m + m + i)) (at s (b + i))) ≡ direction lam u (point 0 m s) (part b m s) .mu2
+-- dmu1 and then dmu2 written after dz
+pub directed : (b m : ℕ) (lam u : Float) (s₀ s s′ : List Float) (cap : Float) → m + m + m ≤ b
+    → part (b + m) m s ≡ list m (λ i. dmuAt false lam u (at s₀ i) (at s₀ (m + i)) (at s₀ (b + i))) → Kept (b + m) m s₀ s
+    → part (b + (m + m)) m s′ ≡ list m (λ i. dmuAt true lam u (at s i) (at s (m + m + i)) (at s (b + i))) → Kept (b + (m + m)) m s s′
+    → cap ≡ capTo (point 0 m s′) (point b m s′) m → Directed lam u b m s₀ s′ cap
 unfolding direction
-dmu2-done b m lam u s =
-    list-ext m (λ i. dmu2At lam u (at s i) (at s (m + m + i)) (at s (b + i))) (λ i. dmu2At lam u (at (part 0 m s) i) (at (part (0 + m + m) m s) i) (at (part b m s) i))
-    (λ j l. rw (at-part 0 m s j j l (omega arith), at-part (0 + m + m) m s j (m + m + j) l (omega arith), at-part b m s j (b + j) l refl))
-    ∙ ap (λ (n : ℕ). list n (λ i. dmu2At lam u (at (part 0 m s) i) (at (part (0 + m + m) m s) i) (at (part b m s) i))) (sym (length-part 0 m s))
+directed b m lam u s₀ s s′ cap o e v f w t =
+    let x : b + (m + m) ≡ b + m + m = omega arith in
+    let ways : point b m s′ ≡ direction lam u (point 0 m s₀) (part b m s₀) = λ i. record {
+      z = (part-below nan b m w (omega arith) ∙ part-below nan b m v (omega arith)) i;
+      mu1 = (part-below nan (b + m) m w (omega arith) ∙ e ∙ dmu-done false b m (0 + m) m lam u s₀ (omega arith)) i;
+      mu2 = (ap (λ (q : ℕ). part q m s′) (sym x) ∙ f ∙ dmu-done true b (m + m) (0 + m + m) m lam u s (omega arith)
+          ∙ λ j. direction lam u (point-below 0 m v (omega arith) j) (part-below nan b m v (omega arith) j) .mu2) i;
+    } in
+    let both = kept-then (b + m) (m + m) v w (omega arith) (omega arith) (omega arith) (omega arith) in
+    record { ways = ways; cap-is = t ∙ (λ i. capTo (point-below 0 m both (omega arith) i) (ways i) m); kept = both }
 
 -- ---- the line search
 
@@ -48,6 +55,15 @@ module _ (k : ℕ) (g dy : List Float) (lam u : Float) where
   pub accept-no : (old step : Float) (q : Dual) → false ≡ inside lam (q .z) → false ≡ accepted k g dy lam u old q step
   unfolding accepted
   accept-no old step q e = rw (← e)
+
+  -- what is accepted is inside
+  accepted-inside : (old step : Float) (q : Dual) → accepted k g dy lam u old q step ≡ true → true ≡ inside lam (q .z)
+  unfolding accepted
+  accepted-inside old step q h = both (inside lam (q .z)) (lower (norm k g dy lam u q) step old) h
+    where
+      both : (x y : Bool) → x && y ≡ true → true ≡ x
+      both true y t = refl
+      both false y t = sym t
 
   trial-stop : (p d : Dual) (old : Float) (n : ℕ) (step : Float) (last q : Dual) → q ≡ along p d step → accepted k g dy lam u old q step ≡ true
       → trials k g dy lam u p d old (suc n) step last ≡ record { point = q; step = step }
@@ -74,34 +90,33 @@ module _ (k : ℕ) (g dy : List Float) (lam u : Float) where
   begins m b cap old s = record { some = omega arith; kept = record { size = refl; below = λ j h. refl; above = λ j h. refl }; left = refl; flag = λ h. absurd (omega arith) }
 
   module _ (m b : ℕ) (cap old : Float) (s₀ s s′ : List Float) (step : Float) (last : Bool) (i : ℕ) (w : Searching m b cap old s₀ s step last i)
-      (room : 6 * m ≤ b) (h : i < 20) (e : point (3 * m) m s′ ≡ along (point 0 m s) (point b m s) step) (f : Kept (3 * m) (3 * m) s s′) where
+      (within good : Bool) (room : 6 * m ≤ b) (h : i < 20) (t : Attempted k g dy lam u m b step old s s′ within good) where
     moved-from : point (3 * m) m s′ ≡ along (point 0 m s₀) (point b m s₀) step
-    moved-from = e ∙ λ j. along (point-below 0 m (w .kept) (omega arith) j) (point-above b m (w .kept) (omega arith) j) step
+    moved-from = t .moves ∙ λ j. along (point-below 0 m (w .kept) (omega arith) j) (point-above b m (w .kept) (omega arith) j) step
 
     more-kept : Kept (3 * m) (3 * m) s₀ s′
-    more-kept = kept-then (3 * m) (3 * m) (w .kept) f (omega arith) (omega arith) (omega arith) (omega arith)
+    more-kept = kept-then (3 * m) (3 * m) (w .kept) (t .kept) (omega arith) (omega arith) (omega arith) (omega arith)
 
     one-left : 20 - i ≡ suc (20 - (i + 1))
     one-left = omega arith
 
-    pub goes : (within : Bool) → within ≡ inside lam (part (3 * m) m s′) → accepted k g dy lam u old (point (3 * m) m s′) step ≡ false
-        → Searching m b cap old s₀ s′ (mul binary64 step (ofBits binary64 0x3fe0_0000_0000_0000)) within (i + 1)
-    goes within x y = record {
+    pub goes : good ≡ false → Searching m b cap old s₀ s′ (mul binary64 step (ofBits binary64 0x3fe0_0000_0000_0000)) within (i + 1)
+    goes f = record {
       some = omega arith;
       kept = more-kept;
       left = w .left
           ∙ ap (λ (n : ℕ). searchedFrom k g dy lam u m b old s₀ n step (lastOf i (point 0 m s₀) (point (3 * m) m s))) one-left
-          ∙ trial-go (point 0 m s₀) (point b m s₀) old (20 - (i + 1)) step (lastOf i (point 0 m s₀) (point (3 * m) m s)) (point (3 * m) m s′) moved-from y
+          ∙ trial-go (point 0 m s₀) (point b m s₀) old (20 - (i + 1)) step (lastOf i (point 0 m s₀) (point (3 * m) m s)) (point (3 * m) m s′) moved-from (sym (t .accepts) ∙ f)
           ∙ ap (λ (n : ℕ). searchedFrom k g dy lam u m b old s₀ (20 - (i + 1)) (mul binary64 step (ofBits binary64 0x3fe0_0000_0000_0000)) (lastOf n (point 0 m s₀) (point (3 * m) m s′))) (sym (add-one i));
-      flag = λ _. x;
+      flag = λ _. t .in-bounds;
     }
 
-    pub stops : true ≡ inside lam (part (3 * m) m s′) → accepted k g dy lam u old (point (3 * m) m s′) step ≡ true → Searched k g dy lam u m b cap old s₀ s′ step true
-    stops x y = record {
+    pub stops : good ≡ true → Searched k g dy lam u m b cap old s₀ s′ step true
+    stops f = record {
       ends = w .left
           ∙ ap (λ (n : ℕ). searchedFrom k g dy lam u m b old s₀ n step (lastOf i (point 0 m s₀) (point (3 * m) m s))) one-left
-          ∙ trial-stop (point 0 m s₀) (point b m s₀) old (20 - (i + 1)) step (lastOf i (point 0 m s₀) (point (3 * m) m s)) (point (3 * m) m s′) moved-from y;
-      in-bounds = x;
+          ∙ trial-stop (point 0 m s₀) (point b m s₀) old (20 - (i + 1)) step (lastOf i (point 0 m s₀) (point (3 * m) m s)) (point (3 * m) m s′) moved-from (sym (t .accepts) ∙ f);
+      in-bounds = accepted-inside old step (point (3 * m) m s′) (sym (t .accepts) ∙ f);
       kept = more-kept;
     }
 
@@ -109,24 +124,3 @@ module _ (k : ℕ) (g dy : List Float) (lam u : Float) where
       → Searched k g dy lam u m b cap old s₀ s step last
   unfolding trials
   exhausted m b cap old s₀ s step last w = record { ends = w .left; in-bounds = w .flag (omega arith); kept = w .kept }
-
-  -- what is accepted is inside
-  pub accepted-inside : (old step : Float) (q : Dual) → accepted k g dy lam u old q step ≡ true → true ≡ inside lam (q .z)
-  unfolding accepted
-  accepted-inside old step q h = both (inside lam (q .z)) (lower (norm k g dy lam u q) step old) h
-    where
-      both : (x y : Bool) → x && y ≡ true → true ≡ x
-      both true y t = refl
-      both false y t = sym t
-
--- dmu1 and then dmu2 written after dz
-pub directed : (b m : ℕ) (lam u : Float) (s₀ s s′ : List Float) → m + m + m ≤ b
-    → part (b + m) m s ≡ direction lam u (point 0 m s₀) (part b m s₀) .mu1 → Kept (b + m) m s₀ s
-    → part (b + m + m) m s′ ≡ direction lam u (point 0 m s) (part b m s) .mu2 → Kept (b + m + m) m s s′
-    → point b m s′ ≡ direction lam u (point 0 m s₀) (part b m s₀)
-unfolding direction
-directed b m lam u s₀ s s′ o e v f w = λ i. record {
-  z = (part-below nan b m w (omega arith) ∙ part-below nan b m v (omega arith)) i;
-  mu1 = (part-below nan (b + m) m w (omega arith) ∙ e) i;
-  mu2 = (f ∙ λ j. direction lam u (point-below 0 m v (omega arith) j) (part-below nan b m v (omega arith) j) .mu2) i;
-}

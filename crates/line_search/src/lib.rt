@@ -1,15 +1,14 @@
 // The direction of a Newton step from a dual point, and the line search along it. A point stands in a run as z, mu1, mu2, m places each.
 ghost use mathlib.Core.Path.{_≡_};
+ghost use mathlib.Core.Bool.{false};
 ghost use Prim.Native.Nat.{_≤_, _+_, _*_};
 ghost use lib.ListN.{length};
 ghost use lib.Ieee.{isNan};
-ghost use mathlib.Core.Bool.{false};
-ghost use Rattle.vectors.specs.Sums.{inside};
+ghost use Rattle.vectors.specs.Vec.{at, list, part, Kept};
 ghost use Rattle.newton_system.specs.Newton.{squareAt, squares, norm};
-ghost use Rattle.line_search.specs.LineSearch.{dmu1At, dmu2At, capped, capTo, along, direction, lower, accepted};
-ghost use Rattle.vectors.specs.Vec.{part, Kept};
 ghost use Rattle.dual_point.specs.Places.{point};
-ghost use Rattle.line_search.specs.Places.{Searched};
+ghost use Rattle.line_search.specs.LineSearch.{capped, capTo, along, lower};
+ghost use Rattle.line_search.specs.Places.{dmuAt, Lane, Directed, PointRoom, LineRoom, Attempted, Searched};
 
 // What one place adds to the square of the residual: q is (D D') z there, u is 1 / t.
 fn residual_of(q: f64, dy: f64, z: f64, mu1: f64, mu2: f64, lam: f64, u: f64) -> f64
@@ -25,7 +24,7 @@ fn residual_of(q: f64, dy: f64, z: f64, mu1: f64, mu2: f64, lam: f64, u: f64) ->
 
 // The square of the residual at the point in the first places of s.
 fn residual(s: &[f64], dy: &[f64], lam: f64, u: f64, g: [f64; 3], k: usize, m: usize) -> f64
-    requires { ⌜ (k ≤ 2) × ((m + m + m ≤ length (now s)) × (m ≤ length (now dy))) ⌝ }
+    requires { ⌜ PointRoom k m (length (now s)) (length (now dy)) ⌝ }
     ensures { λ r. ⌜ r ≡ squares k g (now (dy .entry)) lam u (point 0 m (now (s .entry))) ⌝ }
 {
     let mut a = 0.0;
@@ -39,22 +38,19 @@ fn residual(s: &[f64], dy: &[f64], lam: f64, u: f64, g: [f64; 3], k: usize, m: u
     a
 }
 
-// How mu1 moves at a place, and mu2, where z moves by dz.
-fn dmu1_at(z: f64, mu1: f64, dz: f64, lam: f64, u: f64) -> f64
-    ensures { λ r. ⌜ r ≡ dmu1At lam u z mu1 dz ⌝ }
+// How the multiplier of the upper bound, or of the lower one, moves at a place where z moves by dz.
+fn dmu_at(z: f64, mu: f64, dz: f64, lam: f64, u: f64, lower: bool) -> f64
+    ensures { λ r. ⌜ r ≡ dmuAt lower lam u z mu dz ⌝ }
 {
+    if lower {
+        let f2 = -z - lam;
+        return -(mu + (u - dz * mu) / f2);
+    }
     let f1 = z - lam;
-    -(mu1 + (u + dz * mu1) / f1)
+    -(mu + (u + dz * mu) / f1)
 }
 
-fn dmu2_at(z: f64, mu2: f64, dz: f64, lam: f64, u: f64) -> f64
-    ensures { λ r. ⌜ r ≡ dmu2At lam u z mu2 dz ⌝ }
-{
-    let f2 = -z - lam;
-    -(mu2 + (u - dz * mu2) / f2)
-}
-
-// The lesser of step and the step at which mu is left at a hundredth, if it falls.
+// The lesser of step and the step at which mu is left at a hundredth, if it falls: document 01's min, of which a number on the left leaves one comparison.
 fn cap_of(step: f64, mu: f64, dmu: f64) -> f64
     requires { ⌜ isNan step ≡ false ⌝ }
     ensures { λ r. ⌜ (r ≡ capped step mu dmu) × (isNan r ≡ false) ⌝ }
@@ -98,29 +94,16 @@ fn move_to(s: &mut [f64], b: usize, step: f64, m: usize)
     }
 }
 
-// dmu1, and then dmu2, after the direction's dz, which stands from b on.
-fn fill_dmu1(s: &mut [f64], b: usize, lam: f64, u: f64, m: usize)
-    requires { ⌜ (m + m + m ≤ b) × (b + m + m + m ≤ length (now s)) ⌝ }
-    ensures { λ _. ⌜ (part (b + m) m (now (s .exit)) ≡ direction lam u (point 0 m (now (s .entry))) (part b m (now (s .entry))) .mu1)
-        × Kept (b + m) m (now (s .entry)) (now (s .exit)) ⌝ }
+// How the multipliers that stand from c on move, m places from b + c on. From b on stands dz.
+fn fill_dmu(s: &mut [f64], b: usize, c: usize, lam: f64, u: f64, m: usize, lower: bool)
+    requires { ⌜ Lane m c b (length (now s)) ⌝ }
+    ensures { λ _. ⌜ (part (b + c) m (now (s .exit)) ≡ list m (λ i. dmuAt lower lam u (at (now (s .entry)) i) (at (now (s .entry)) (c + i)) (at (now (s .entry)) (b + i))))
+        × Kept (b + c) m (now (s .entry)) (now (s .exit)) ⌝ }
 {
     let mut i = 0;
     while i < m {
-        let x = dmu1_at(s[i], s[m + i], s[b + i], lam, u);
-        s[b + m + i] = x;
-        i += 1;
-    }
-}
-
-fn fill_dmu2(s: &mut [f64], b: usize, lam: f64, u: f64, m: usize)
-    requires { ⌜ (m + m + m ≤ b) × (b + m + m + m ≤ length (now s)) ⌝ }
-    ensures { λ _. ⌜ (part (b + m + m) m (now (s .exit)) ≡ direction lam u (point 0 m (now (s .entry))) (part b m (now (s .entry))) .mu2)
-        × Kept (b + m + m) m (now (s .entry)) (now (s .exit)) ⌝ }
-{
-    let mut i = 0;
-    while i < m {
-        let x = dmu2_at(s[i], s[m + m + i], s[b + i], lam, u);
-        s[b + m + m + i] = x;
+        let x = dmu_at(s[i], s[c + i], s[b + i], lam, u, lower);
+        s[b + c + i] = x;
         i += 1;
     }
 }
@@ -128,12 +111,10 @@ fn fill_dmu2(s: &mut [f64], b: usize, lam: f64, u: f64, m: usize)
 // The whole direction, whose dz stands from b on, and the greatest step.
 pub fn directions(s: &mut [f64], b: usize, lam: f64, u: f64, m: usize) -> f64
     requires { ⌜ (m + m + m ≤ b) × (b + m + m + m ≤ length (now s)) ⌝ }
-    ensures { λ r. ⌜ (point b m (now (s .exit)) ≡ direction lam u (point 0 m (now (s .entry))) (part b m (now (s .entry))))
-        × ((r ≡ capTo (point 0 m (now (s .entry))) (direction lam u (point 0 m (now (s .entry))) (part b m (now (s .entry)))) m)
-        × Kept (b + m) (m + m) (now (s .entry)) (now (s .exit))) ⌝ }
+    ensures { λ r. ⌜ Directed lam u b m (now (s .entry)) (now (s .exit)) r ⌝ }
 {
-    fill_dmu1(s, b, lam, u, m);
-    fill_dmu2(s, b, lam, u, m);
+    fill_dmu(s, b, m, lam, u, m, false);
+    fill_dmu(s, b, m + m, lam, u, m, true);
     cap(s, b, m)
 }
 
@@ -149,7 +130,7 @@ fn low_enough(
     step: f64,
     old: f64,
 ) -> bool
-    requires { ⌜ (k ≤ 2) × ((m + m + m ≤ length (now s)) × (m ≤ length (now dy))) ⌝ }
+    requires { ⌜ PointRoom k m (length (now s)) (length (now dy)) ⌝ }
     ensures { λ r. ⌜ r ≡ lower (norm k g (now (dy .entry)) lam u (point 0 m (now (s .entry)))) step old ⌝ }
 {
     let a = residual(s, dy, lam, u, g, k, m);
@@ -174,11 +155,8 @@ fn attempt(
     step: f64,
     old: f64,
 ) -> Tried
-    requires { ⌜ (k ≤ 2) × ((6 * m ≤ b) × ((b + 3 * m ≤ length (now s)) × (m ≤ length (now dy)))) ⌝ }
-    ensures { λ r. ⌜ (point (3 * m) m (now (s .exit)) ≡ along (point 0 m (now (s .entry))) (point b m (now (s .entry))) step)
-        × (Kept (3 * m) (3 * m) (now (s .entry)) (now (s .exit))
-        × ((r .inside ≡ inside lam (part (3 * m) m (now (s .exit))))
-        × (r .good ≡ accepted k g (now (dy .entry)) lam u old (point (3 * m) m (now (s .exit))) step))) ⌝ }
+    requires { ⌜ LineRoom k m b (length (now s)) (length (now dy)) ⌝ }
+    ensures { λ r. ⌜ Attempted k g (now (dy .entry)) lam u m b step old (now (s .entry)) (now (s .exit)) (r .inside) (r .good) ⌝ }
 {
     let c = 3 * m;
     let d = c + m;
@@ -217,7 +195,7 @@ pub fn line_search(
     cap: f64,
     old: f64,
 ) -> Trial
-    requires { ⌜ (k ≤ 2) × ((6 * m ≤ b) × ((b + 3 * m ≤ length (now s)) × (m ≤ length (now dy)))) ⌝ }
+    requires { ⌜ LineRoom k m b (length (now s)) (length (now dy)) ⌝ }
     ensures { λ r. ⌜ Searched k g (now (dy .entry)) lam u m b cap old (now (s .entry)) (now (s .exit)) (r .step) (r .inside) ⌝ }
 {
     let mut step = cap;

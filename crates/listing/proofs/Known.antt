@@ -5,6 +5,7 @@ use mathlib.Core.List.{List, [], _∷_}
 use Prim.Native.Nat.{ℕ}
 use lib.Ieee
 use lib.Ieee.{Float, binary64, ofBits}
+use Rattle.fields.specs.Fields
 use Rattle.listing.specs.Listing
 use Rattle.listing.specs.Listing.{listingOf, refusedLine}
 use Rattle.listing.specs.declared.Shown.{Shown}
@@ -49,5 +50,5 @@ expected [] = []
 expected (p ∷ ps) = p .1 ∷ expected ps
 
 known : printed table ≡ expected table
-unfolding table printed expected Ieee.ofBits Ieee.toBits Listing.decimalIn Listing.decimal Listing.hexOf Listing.field Listing.hexField Listing.hourLine Listing.knotLine Listing.hourLines Listing.knotLines Listing.three Listing.fitLine Listing.numbersLine listingOf refusedLine
+unfolding table printed expected Ieee.ofBits Ieee.toBits Fields.decimalIn Fields.decimal Fields.hexOf Fields.field Fields.hexField Listing.hourLine Listing.knotLine Listing.lines Listing.three Listing.fitLine Listing.numbersLine listingOf refusedLine
 known = refl

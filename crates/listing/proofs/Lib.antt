@@ -1,3 +1,3 @@
-mod Decimals
+-- Laws of lines, and known listings.
 mod Lines
 mod Known

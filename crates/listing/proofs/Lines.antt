@@ -1,25 +1,18 @@
--- One more line of the hours and of the knots. Assumes nothing.
-use Prim.Native.Nat.{ℕ, _+_, _≤_}
+-- One more line. Assumes nothing.
+use Prim.Native.Nat.{ℕ, _+_, _*_, _≤_}
 use native.Mathlib.Numerals.{add-one}
+use native.Mathlib.Omega.{arith}
 use mathlib.Core.List.{List}
-use lib.ListN.{length, getD}
-use lib.Ieee.{Float, nan}
-use Rattle.vectors.specs.Vec.{Wrote}
-use Rattle.listing.specs.Listing.{hourLine, hourLines, knotLine, knotLines}
+use lib.ListN.{length}
 use Rattle.vectors.proofs.Texts.{wrote-none, wrote-then}
+use Rattle.fields.specs.Puts.{Puts}
+use Rattle.listing.specs.Listing.{lines}
 
-pub knots-none : (d : List ℕ) (at : ℕ) (k : List ℕ) → at ≤ length d → Wrote d at (knotLines k 0) d at
-unfolding knotLines
-knots-none d at k h = wrote-none d at h
+module _ (line : ℕ → List ℕ) (w : ℕ) where
+  pub lines-none : (d : List ℕ) (at : ℕ) → at ≤ length d → Puts d at (lines line 0) d at (w * 0)
+  unfolding lines
+  lines-none d at h = record { wrote = wrote-none d at h; short = omega arith }
 
-pub knots-more : (k : List ℕ) (i : ℕ) {d e f : List ℕ} {at m r : ℕ} → Wrote d at (knotLines k i) e m → Wrote e m (knotLine (getD k i 0)) f r → Wrote d at (knotLines k (i + 1)) f r
-unfolding knotLines
-knots-more k i v w = rw add-one (wrote-then v w)
-
-pub hours-none : (d : List ℕ) (at : ℕ) (t c : List Float) → at ≤ length d → Wrote d at (hourLines t c 0) d at
-unfolding hourLines
-hours-none d at t c h = wrote-none d at h
-
-pub hours-more : (t c : List Float) (i : ℕ) {d e f : List ℕ} {at m r : ℕ} → Wrote d at (hourLines t c i) e m → Wrote e m (hourLine i (getD t i nan) (getD c i nan)) f r → Wrote d at (hourLines t c (i + 1)) f r
-unfolding hourLines
-hours-more t c i v w = rw add-one (wrote-then v w)
+  pub lines-more : (i : ℕ) {d e f : List ℕ} {at m r : ℕ} → Puts d at (lines line i) e m (w * i) → Puts e m (line i) f r w → Puts d at (lines line (i + 1)) f r (w * (i + 1))
+  unfolding lines
+  lines-more i v u = rw (add-one i) (record { wrote = wrote-then (v .wrote) (u .wrote); short = omega (arith, v .short, u .short) })

@@ -2,11 +2,11 @@
 // Inside, each function writes from a place on and answers the place past it.
 ghost use mathlib.Core.Path.{_≡_};
 ghost use mathlib.Core.Bool.{cond};
-ghost use mathlib.Core.List.{[], _∷_};
-ghost use Prim.Native.Nat.{_+_, _*_, _≤_, _<_};
+ghost use Prim.Native.Nat.{_+_, _*_, _≤_};
 ghost use lib.ListN.{length};
 ghost use Rattle.vectors.specs.Vec.{Wrote};
-ghost use Rattle.listing.specs.Listing.{decimal, hexOf, field, hexField, hourLine, knotLine, hourLines, knotLines, three, fitLine, numbersLine, listingOf, refusedLine};
+ghost use Rattle.fields.specs.Puts.{Puts};
+ghost use Rattle.listing.specs.Listing.{hourLine, knotLine, hourLines, knotLines, three, fitLine, numbersLine, listingOf, refusedLine};
 
 // What is shown of a fit besides its trend, its cycle and its knots: n hours, and so many knots.
 pub struct Shown {
@@ -22,92 +22,33 @@ pub struct Shown {
     pub knots: usize,
 }
 
-// One byte.
-fn put_byte(out: &mut [u8], at: usize, b: u8) -> usize
-    requires { ⌜ at < length (now out) ⌝ }
-    ensures { λ r. ⌜ Wrote (now (out .entry)) at (b ∷ []) (now (out .exit)) r ⌝ }
-{
-    out[at] = b;
-    at + 1
-}
-
-// A run of bytes.
-fn put_all(out: &mut [u8], at: usize, src: &[u8]) -> usize
-    requires { ⌜ at + length (now src) ≤ length (now out) ⌝ }
-    ensures { λ r. ⌜ Wrote (now (out .entry)) at (now (src .entry)) (now (out .exit)) r ⌝ }
-{
-    let mut i = 0;
-    while i < src.len() {
-        out[at + i] = src[i];
-        i += 1;
-    }
-    at + i
-}
-
-// A whole number in decimal.
-fn put_decimal(out: &mut [u8], at: usize, n: u64) -> usize
-    requires { ⌜ at + 20 ≤ length (now out) ⌝ }
-    ensures { λ r. ⌜ (Wrote (now (out .entry)) at (decimal n) (now (out .exit)) r) × (r ≤ at + 20) ⌝ }
-{
-    let mut text = [0u8; 20];
-    let k = io::decimal(n, &mut text);
-    put_all(out, at, &text[..k])
-}
-
-// A double as sixteen hexadecimal digits.
-fn put_hex(out: &mut [u8], at: usize, x: f64) -> usize
-    requires { ⌜ at + 16 ≤ length (now out) ⌝ }
-    ensures { λ r. ⌜ (Wrote (now (out .entry)) at (hexOf x) (now (out .exit)) r) × (r ≤ at + 16) ⌝ }
-{
-    let mut text = [0u8; 16];
-    let k = io::hex(float64::pattern(x), 16, &mut text);
-    put_all(out, at, &text[..k])
-}
-
-// A space and then the number; a space and then the double.
-fn put_field(out: &mut [u8], at: usize, n: u64) -> usize
-    requires { ⌜ at + 21 ≤ length (now out) ⌝ }
-    ensures { λ r. ⌜ (Wrote (now (out .entry)) at (field n) (now (out .exit)) r) × (r ≤ at + 21) ⌝ }
-{
-    let a = put_byte(out, at, 32);
-    put_decimal(out, a, n)
-}
-
-fn put_hex_field(out: &mut [u8], at: usize, x: f64) -> usize
-    requires { ⌜ at + 17 ≤ length (now out) ⌝ }
-    ensures { λ r. ⌜ (Wrote (now (out .entry)) at (hexField x) (now (out .exit)) r) × (r ≤ at + 17) ⌝ }
-{
-    let a = put_byte(out, at, 32);
-    put_hex(out, a, x)
-}
-
 // The line of an hour.
 fn put_hour_line(out: &mut [u8], at: usize, i: u64, t: f64, c: f64) -> usize
     requires { ⌜ at + 57 ≤ length (now out) ⌝ }
-    ensures { λ r. ⌜ (Wrote (now (out .entry)) at (hourLine i t c) (now (out .exit)) r) × (r ≤ at + 57) ⌝ }
+    ensures { λ r. ⌜ Puts (now (out .entry)) at (hourLine i t c) (now (out .exit)) r 57 ⌝ }
 {
-    let a1 = put_byte(out, at, 104);
-    let a2 = put_field(out, a1, i);
-    let a3 = put_hex_field(out, a2, t);
-    let a4 = put_hex_field(out, a3, c);
-    put_byte(out, a4, 10)
+    let a1 = fields::put_byte(out, at, 104);
+    let a2 = fields::put_field(out, a1, i);
+    let a3 = fields::put_hex_field(out, a2, t);
+    let a4 = fields::put_hex_field(out, a3, c);
+    fields::put_byte(out, a4, 10)
 }
 
 // The line of a knot.
 fn put_knot_line(out: &mut [u8], at: usize, i: u64) -> usize
     requires { ⌜ at + 26 ≤ length (now out) ⌝ }
-    ensures { λ r. ⌜ (Wrote (now (out .entry)) at (knotLine i) (now (out .exit)) r) × (r ≤ at + 26) ⌝ }
+    ensures { λ r. ⌜ Puts (now (out .entry)) at (knotLine i) (now (out .exit)) r 26 ⌝ }
 {
-    let a1 = put_all(out, at, b"knot");
-    let a2 = put_field(out, a1, i);
-    put_byte(out, a2, 10)
+    let a1 = fields::put_all(out, at, b"knot");
+    let a2 = fields::put_field(out, a1, i);
+    fields::put_byte(out, a2, 10)
 }
 
 // The lines of the first n hours.
 fn put_hours(out: &mut [u8], at: usize, trend: &[f64], cycle: &[f64], n: usize) -> usize
     requires { ⌜ (n ≤ length (now trend)) × (n ≤ length (now cycle)) ⌝ }
     requires { ⌜ at + 57 * n ≤ length (now out) ⌝ }
-    ensures { λ r. ⌜ (Wrote (now (out .entry)) at (hourLines (now (trend .entry)) (now (cycle .entry)) n) (now (out .exit)) r) × (r ≤ at + 57 * n) ⌝ }
+    ensures { λ r. ⌜ Puts (now (out .entry)) at (hourLines (now (trend .entry)) (now (cycle .entry)) n) (now (out .exit)) r (57 * n) ⌝ }
 {
     let mut i: usize = 0;
     let mut pos = at;
@@ -128,7 +69,7 @@ fn wide(x: u32) -> u64
 fn put_knots(out: &mut [u8], at: usize, knots: &[u32], n: usize) -> usize
     requires { ⌜ n ≤ length (now knots) ⌝ }
     requires { ⌜ at + 26 * n ≤ length (now out) ⌝ }
-    ensures { λ r. ⌜ (Wrote (now (out .entry)) at (knotLines (now (knots .entry)) n) (now (out .exit)) r) × (r ≤ at + 26 * n) ⌝ }
+    ensures { λ r. ⌜ Puts (now (out .entry)) at (knotLines (now (knots .entry)) n) (now (out .exit)) r (26 * n) ⌝ }
 {
     let mut i: usize = 0;
     let mut pos = at;
@@ -142,11 +83,11 @@ fn put_knots(out: &mut [u8], at: usize, knots: &[u32], n: usize) -> usize
 // Three fields.
 fn put_three(out: &mut [u8], at: usize, a: u64, b: u64, c: u64) -> usize
     requires { ⌜ at + 63 ≤ length (now out) ⌝ }
-    ensures { λ r. ⌜ (Wrote (now (out .entry)) at (three a b c) (now (out .exit)) r) × (r ≤ at + 63) ⌝ }
+    ensures { λ r. ⌜ Puts (now (out .entry)) at (three a b c) (now (out .exit)) r 63 ⌝ }
 {
-    let a1 = put_field(out, at, a);
-    let a2 = put_field(out, a1, b);
-    put_field(out, a2, c)
+    let a1 = fields::put_field(out, at, a);
+    let a2 = fields::put_field(out, a1, b);
+    fields::put_field(out, a2, c)
 }
 
 fn bit(b: bool) -> u64
@@ -158,23 +99,23 @@ fn bit(b: bool) -> u64
 // The first line of a fit.
 fn put_fit_line(out: &mut [u8], at: usize, f: Shown) -> usize
     requires { ⌜ at + 130 ≤ length (now out) ⌝ }
-    ensures { λ r. ⌜ (Wrote (now (out .entry)) at (fitLine f) (now (out .exit)) r) × (r ≤ at + 130) ⌝ }
+    ensures { λ r. ⌜ Puts (now (out .entry)) at (fitLine f) (now (out .exit)) r 130 ⌝ }
 {
-    let a1 = put_all(out, at, b"fit");
+    let a1 = fields::put_all(out, at, b"fit");
     let a2 = put_three(out, a1, f.n as u64, f.order as u64, f.penalty as u64);
     let a3 = put_three(out, a2, f.n_iter, f.improvements, bit(f.converged));
-    put_byte(out, a3, 10)
+    fields::put_byte(out, a3, 10)
 }
 
 // The line of a fit's doubles.
 fn put_numbers_line(out: &mut [u8], at: usize, a: f64, b: f64, c: f64) -> usize
     requires { ⌜ at + 51 ≤ length (now out) ⌝ }
-    ensures { λ r. ⌜ (Wrote (now (out .entry)) at (numbersLine a b c) (now (out .exit)) r) × (r ≤ at + 51) ⌝ }
+    ensures { λ r. ⌜ Puts (now (out .entry)) at (numbersLine a b c) (now (out .exit)) r 51 ⌝ }
 {
-    let a1 = put_hex(out, at, a);
-    let a2 = put_hex_field(out, a1, b);
-    let a3 = put_hex_field(out, a2, c);
-    put_byte(out, a3, 10)
+    let a1 = fields::put_hex(out, at, a);
+    let a2 = fields::put_hex_field(out, a1, b);
+    let a3 = fields::put_hex_field(out, a2, c);
+    fields::put_byte(out, a3, 10)
 }
 
 // The whole listing of a fit, at the start of out: answers how many bytes it has.
@@ -200,7 +141,7 @@ pub fn put_listing(
 pub fn put_refused(out: &mut [u8; 16384], number: u32) -> usize
     ensures { λ r. ⌜ Wrote (now (out .entry)) 0 (refusedLine number) (now (out .exit)) r ⌝ }
 {
-    let word = put_all(out, 0, b"refused");
-    let end = put_field(out, word, number as u64);
-    put_byte(out, end, 10)
+    let word = fields::put_all(out, 0, b"refused");
+    let end = fields::put_field(out, word, number as u64);
+    fields::put_byte(out, end, 10)
 }

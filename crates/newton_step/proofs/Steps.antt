@@ -2,12 +2,12 @@
 use mathlib.Core.Path.{_≡_, sym, ap, _∙_}
 use mathlib.Core.Bool.{Bool, true, false, cond}
 use mathlib.Core.List.{List}
-use Prim.Native.Nat.{ℕ, _+_, _-_, _*_, _<_}
+use Prim.Native.Nat.{ℕ, _+_, _*_}
 use native.Mathlib.Omega.{arith}
-use lib.Ieee.{Float, nan}
-use Rattle.vectors.specs.Vec.{at, part, Kept, Written}
+use lib.Ieee.{Float}
+use Rattle.vectors.specs.Vec.{part, Kept}
 use Rattle.vectors.proofs.Laws.{kept-then, kept-none}
-use Rattle.vectors.proofs.Parts.{length-part, partOf-ext}
+use Rattle.vectors.proofs.Parts.{length-part}
 use Rattle.banded.specs.Rows.{sound}
 use Rattle.square_root.specs.Sqrt.{sqrtOf}
 use Rattle.dual_point.specs.Dual.{Dual}
@@ -15,24 +15,13 @@ use Rattle.newton_system.specs.Newton.{system, newtonZ, squares, norm}
 use Rattle.line_search.specs.LineSearch.{Trial, direction, capTo, trials, searchLine, taken}
 use Rattle.vectors.specs.Sums.{inside}
 use Rattle.dual_point.specs.Places.{point}
-use Rattle.line_search.specs.Places.{Searched}
+use Rattle.line_search.specs.Places.{Directed, Searched}
 use Rattle.dual_point.proofs.Points.{point-below}
-use Rattle.newton_step.specs.Stepped.{Stepped}
+use Rattle.newton_step.specs.Stepped.{stepArea, Stepped}
 use Rattle.newton_step.specs.declared.Step.the-variants.{Lost, Moved}
 
--- the trial copied over the point
-pub copied : (m : ℕ) (s₀ s : List Float) → Written 0 (3 * m) (λ j. at s₀ (3 * m + j)) s₀ s → point 0 m s ≡ point (3 * m) m s₀
-copied m s₀ s w = λ i. record {
-  z = partOf-ext nan 0 (3 * m) m s s₀ (λ j l. place (0 + j) (3 * m + j) (omega arith) (omega arith)) i;
-  mu1 = partOf-ext nan (0 + m) (3 * m + m) m s s₀ (λ j l. place (0 + m + j) (3 * m + m + j) (omega arith) (omega arith)) i;
-  mu2 = partOf-ext nan (0 + m + m) (3 * m + m + m) m s s₀ (λ j l. place (0 + m + m + j) (3 * m + m + m + j) (omega arith) (omega arith)) i;
-}
-  where
-    place : (q r : ℕ) → q < 3 * m → 3 * m + q ≡ r → at s q ≡ at s₀ r
-    place q r h e = w .inside q (omega arith) h ∙ ap (at s₀) e
-
 -- the line search from a point s₀, whose direction and greatest step stand in s₁
-pub line-done : (k : ℕ) (g dy : List Float) (lam u : Float) (m b : ℕ) (cap old : Float) (s₀ s₁ s₂ : List Float) (step : Float) (within : Bool)
+line-done : (k : ℕ) (g dy : List Float) (lam u : Float) (m b : ℕ) (cap old : Float) (s₀ s₁ s₂ : List Float) (step : Float) (within : Bool)
     → point 0 m s₁ ≡ point 0 m s₀
     → point b m s₁ ≡ direction lam u (point 0 m s₀) (newtonZ k g dy lam u (point 0 m s₀))
     → cap ≡ capTo (point 0 m s₀) (direction lam u (point 0 m s₀) (newtonZ k g dy lam u (point 0 m s₀))) m
@@ -48,7 +37,7 @@ line-done k g dy lam u m b cap old s₀ s₁ s₂ step within e f c o w =
     ∙ w .ends
 
 -- what is taken of it, in s₃
-pub take-done : (lam : Float) (m : ℕ) (p : Dual) (e : Trial) (s₁ s₂ s₃ : List Float) (step : Float) (within : Bool)
+take-done : (lam : Float) (m : ℕ) (p : Dual) (e : Trial) (s₁ s₂ s₃ : List Float) (step : Float) (within : Bool)
     → e ≡ record { point = point (3 * m) m s₂; step = step } → within ≡ inside lam (part (3 * m) m s₂) → point 0 m s₁ ≡ p → Kept (3 * m) (3 * m) s₁ s₂
     → point 0 m s₃ ≡ cond within (point (3 * m) m s₂) (point 0 m s₂)
     → point 0 m s₃ ≡ taken lam p e
@@ -65,24 +54,23 @@ module _ (k : ℕ) (g dy : List Float) (lam u : Float) (m n : ℕ) (s₀ s₁ : 
       record {
         answer = rw z;
         moves = point-below 0 m kept (omega arith) ∙ rw z;
-        kept = kept-then 0 (6 * m + (m * (k + 1) + 3 * m)) kept (kept-none 0 0 s₁) (omega arith) (omega arith) (omega arith) (omega arith);
+        kept = kept-then 0 (stepArea k m) kept (kept-none 0 0 s₁) (omega arith) (omega arith) (omega arith) (omega arith);
       }
 
   pub moved-step : (acc cap old step : Float) (within : Bool) (s₂ s₃ s₄ : List Float) (b : ℕ) → good ≡ true → b ≡ 6 * m + n
-      → acc ≡ squares k g dy lam u (point 0 m s₀) → part b m s₁ ≡ newtonZ k g dy lam u (point 0 m s₀)
-      → point b m s₂ ≡ direction lam u (point 0 m s₁) (part b m s₁) → cap ≡ capTo (point 0 m s₁) (direction lam u (point 0 m s₁) (part b m s₁)) m → Kept (b + m) (m + m) s₁ s₂
+      → acc ≡ squares k g dy lam u (point 0 m s₀) → part b m s₁ ≡ newtonZ k g dy lam u (point 0 m s₀) → Directed lam u b m s₁ s₂ cap
       → old ≡ sqrtOf acc → Searched k g dy lam u m b cap old s₂ s₃ step within
       → point 0 m s₄ ≡ cond within (point (3 * m) m s₃) (point 0 m s₃) → Kept 0 (3 * m) s₃ s₄
       → Stepped k g dy lam u 0 m s₀ s₄ (Moved step)
   unfolding norm
-  moved-step acc cap old step within s₂ s₃ s₄ b f at-b e d v c w o line h x =
+  moved-step acc cap old step within s₂ s₃ s₄ b f at-b e d v o line h x =
       let z : sound k (system k g lam (point 0 m s₀)) m ≡ true = sym is-sound ∙ f in
       let p : point 0 m s₁ ≡ point 0 m s₀ = point-below 0 m kept (omega arith) in
-      let p₂ : point 0 m s₂ ≡ point 0 m s₀ = point-below 0 m w (omega arith) ∙ p in
-      let all = 6 * m + (m * (k + 1) + 3 * m) in
-      let found = line-done k g dy lam u m b cap old s₀ s₂ s₃ step within p₂ (v ∙ λ i. direction lam u (p i) (d i)) (c ∙ λ i. capTo (p i) (direction lam u (p i) (d i)) m) (o ∙ ap sqrtOf e) line in
+      let p₂ : point 0 m s₂ ≡ point 0 m s₀ = point-below 0 m (v .kept) (omega arith) ∙ p in
+      let all = stepArea k m in
+      let found = line-done k g dy lam u m b cap old s₀ s₂ s₃ step within p₂ (v .ways ∙ λ i. direction lam u (p i) (d i)) (v .cap-is ∙ λ i. capTo (p i) (direction lam u (p i) (d i)) m) (o ∙ ap sqrtOf e) line in
       record {
         answer = rw (z, found);
         moves = take-done lam m (point 0 m s₀) (searchLine k g dy lam u (point 0 m s₀)) s₂ s₃ s₄ step within found (line .in-bounds) p₂ (line .kept) h ∙ rw z;
-        kept = kept-then 0 all (kept-then 0 all (kept-then 0 all kept w (omega arith) (omega arith) (omega arith) (omega arith)) (line .kept) (omega arith) (omega arith) (omega arith) (omega arith)) x (omega arith) (omega arith) (omega arith) (omega arith);
+        kept = kept-then 0 all (kept-then 0 all (kept-then 0 all kept (v .kept) (omega arith) (omega arith) (omega arith) (omega arith)) (line .kept) (omega arith) (omega arith) (omega arith) (omega arith)) x (omega arith) (omega arith) (omega arith) (omega arith);
       }

@@ -1,16 +1,28 @@
--- Document 01, "Interior point": what one Newton step answers, and the point that it leaves.
+-- Document 01, "Interior point": what one Newton step asks, what it answers, and the point that it leaves.
 use mathlib.Core.Path.{_≡_}
 use mathlib.Core.Bool.{Bool, true, false, cond}
 use mathlib.Core.List.{List}
-use Prim.Native.Nat.{ℕ, _+_, _*_}
+use Prim.Native.Nat.{ℕ, _+_, _*_, _≤_}
 use lib.Ieee.{Float}
 use Rattle.vectors.specs.Vec.{Kept}
+use Rattle.differences.specs.Series.{Order}
 use Rattle.banded.specs.Rows.{sound}
 use Rattle.newton_system.specs.Newton.{system}
 use Rattle.line_search.specs.LineSearch.{searchLine, taken}
 use Rattle.dual_point.specs.Places.{point}
 use Rattle.newton_step.specs.declared.Step.{Step}
 use Rattle.newton_step.specs.declared.Step.the-variants.{Lost, Moved}
+
+-- the places of a step: the point, the trial, the rows of the system, the direction
+abbrev pub stepArea : ℕ → ℕ → ℕ
+stepArea k m = 6 * m + (m * (k + 1) + 3 * m)
+
+-- the places lent for a step from a point of m numbers, and how many of D y are known
+pub record Steppable (k m places known : ℕ) : Type 0 where
+  pub order : Order k
+  pub some : 1 ≤ m
+  pub room : stepArea k m ≤ places
+  pub dy : m ≤ known
 
 -- a bad pivot loses the step; else it is the line search's
 abbrev pub stepOf : Bool → Float → Step
@@ -21,4 +33,4 @@ stepOf false x = Lost
 pub record Stepped (k : ℕ) (g dy : List Float) (lam u : Float) (a m : ℕ) (s₀ s : List Float) (r : Step) : Type 0 where
   pub answer : r ≡ stepOf (sound k (system k g lam (point a m s₀)) m) (searchLine k g dy lam u (point a m s₀) .step)
   pub moves : point a m s ≡ cond (sound k (system k g lam (point a m s₀)) m) (taken lam (point a m s₀) (searchLine k g dy lam u (point a m s₀))) (point a m s₀)
-  pub kept : Kept a (6 * m + (m * (k + 1) + 3 * m)) s₀ s
+  pub kept : Kept a (stepArea k m) s₀ s

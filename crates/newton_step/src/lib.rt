@@ -1,11 +1,11 @@
 // One Newton step of the interior point search.
 ghost use mathlib.Core.Path.{_≡_};
 ghost use mathlib.Core.Bool.{cond};
-ghost use Prim.Native.Nat.{_≤_, _+_, _*_};
+ghost use Prim.Native.Nat.{_≤_, _*_};
 ghost use lib.ListN.{length};
 ghost use Rattle.vectors.specs.Vec.{Kept};
 ghost use Rattle.dual_point.specs.Places.{point};
-ghost use Rattle.newton_step.specs.Stepped.{Stepped};
+ghost use Rattle.newton_step.specs.Stepped.{Steppable, Stepped};
 
 // One Newton step: a pivot was bad, or the point was moved with this step.
 pub enum Step {
@@ -23,11 +23,7 @@ fn take_trial(s: &mut [f64], m: usize, inside: bool)
         return;
     }
     let c = 3 * m;
-    let mut i = 0;
-    while i < c {
-        s[i] = s[c + i];
-        i += 1;
-    }
+    vectors::copy_within(s, c, 0, c);
 }
 
 // One Newton step. s: z, mu1, mu2; the trial's; the rows of the system; dz, dmu1, dmu2.
@@ -40,7 +36,7 @@ pub fn newton_step(
     k: usize,
     m: usize,
 ) -> Step
-    requires { ⌜ (1 ≤ k) × ((k ≤ 2) × ((1 ≤ m) × ((6 * m + (m * (k + 1) + 3 * m) ≤ length (now s)) × (m ≤ length (now dy))))) ⌝ }
+    requires { ⌜ Steppable k m (length (now s)) (length (now dy)) ⌝ }
     ensures { λ r. ⌜ Stepped k g (now (dy .entry)) lam u 0 m (now (s .entry)) (now (s .exit)) r ⌝ }
 {
     let a = 6 * m;

@@ -1,31 +1,56 @@
--- Document 01, "Interior point": the Newton system of a point. What is left when one of its rows is stored, and when all rows are made, factored and carried forward.
+-- Document 01, "Interior point": the Newton system of a point, as our own contracts speak of it: what they ask, a row of it, and what is left when all rows are made, factored and carried forward, and when it is solved.
 use mathlib.Core.Path.{_≡_}
-use mathlib.Core.Bool.{Bool, true}
+use mathlib.Core.Bool.{true, cond}
 use mathlib.Core.List.{List}
 use Prim.Native.Nat.{ℕ, _+_, _-_, _*_, _<_, _≤_}
-use lib.ListN.{length}
+use lib.Dec.{ltb}
 use lib.Ieee.{Float}
 use Rattle.vectors.specs.Vec.{at, part, Kept}
+use Rattle.differences.specs.Series.{Order}
 use Rattle.banded.specs.Rows.{rows, sound, concat}
 use Rattle.banded.specs.Solve.{forward}
-use Rattle.banded.specs.Run.{flat}
-use Rattle.newton_system.specs.Newton.{system, right, squares}
+use Rattle.dual_point.specs.Dual.{Dual}
 use Rattle.dual_point.specs.Places.{point}
+use Rattle.newton_system.specs.Newton.{system, right, squareOf, squares, newtonZ}
+use Rattle.newton_system.specs.declared.Row.{Row}
+use Rattle.newton_system.specs.declared.Solved.{Solved}
 
--- s is s₀ but for row r, which has g beside the diagonal d, and place r of the right side, which is x
-pub record Put (k m r : ℕ) (g : List Float) (d x : Float) (s₀ s : List Float) : Type 0 where
-  pub size : length s ≡ length s₀
-  pub below : (q : ℕ) → q < r * (k + 1) → at s q ≡ at s₀ q
-  pub between : (q : ℕ) → (r + 1) * (k + 1) ≤ q → q < m * (k + 1) + r → at s q ≡ at s₀ q
-  pub above : (q : ℕ) → m * (k + 1) + r < q → at s q ≡ at s₀ q
-  pub beside : (c : ℕ) → c < k → flat k s r c ≡ at g (k - c)
-  pub diagonal : flat k s r k ≡ d
-  pub side : at s (m * (k + 1) + r) ≡ x
+-- place r of a point of m places, in a run of n places, with D y in l places
+pub record AtRow (k m r n l : ℕ) : Type 0 where
+  pub order : k ≤ 2
+  pub three : m + m + m ≤ n
+  pub diffs : m ≤ l
+  pub row : r < m
+
+-- a point of m places in the first 3·m of a run of n, and the room for its system from place a on, with D y in l places
+pub record AtSystem (k a m n l : ℕ) : Type 0 where
+  pub order : Order k
+  pub some : 1 ≤ m
+  pub three : m + m + m ≤ a
+  pub room : a + (m * (k + 1) + m) ≤ n
+  pub diffs : m ≤ l
+
+-- place c of a row of the system: the Gram row beside the diagonal d
+abbrev pub besides : ℕ → List Float → Float → ℕ → Float
+besides k g d c = cond (ltb c k) (at g (k - c)) d
+
+-- v is row r of the system of p
+pub record RowMade (k : ℕ) (g dy : List Float) (lam u : Float) (p : Dual) (r : ℕ) (v : Row) : Type 0 where
+  pub diagonal : v .diagonal ≡ system k g lam p r k
+  pub side : v .right ≡ at (right k g dy lam u p) r
+  pub square : v .square ≡ squareOf k g dy lam u p r
 
 -- from place a on, s holds the factor of the system of the point in s₀, and its right side carried forward, if all pivots are good
-pub record Swept (k : ℕ) (g dy : List Float) (lam u : Float) (a m : ℕ) (s₀ s : List Float) (acc : Float) (good : Bool) : Type 0 where
-  pub answer : good ≡ sound k (system k g lam (point 0 m s₀)) m
-  pub norm : good ≡ true → acc ≡ squares k g dy lam u (point 0 m s₀)
-  pub factor : good ≡ true → part a (m * (k + 1)) s ≡ concat (rows k (system k g lam (point 0 m s₀)) m)
-  pub side : good ≡ true → part (a + m * (k + 1)) m s ≡ forward k (rows k (system k g lam (point 0 m s₀)) m) (right k g dy lam u (point 0 m s₀)) m
+pub record Swept (k : ℕ) (g dy : List Float) (lam u : Float) (a m : ℕ) (s₀ s : List Float) (w : Solved) : Type 0 where
+  pub answer : w .good ≡ sound k (system k g lam (point 0 m s₀)) m
+  pub norm : w .good ≡ true → w .acc ≡ squares k g dy lam u (point 0 m s₀)
+  pub factor : w .good ≡ true → part a (m * (k + 1)) s ≡ concat (rows k (system k g lam (point 0 m s₀)) m)
+  pub side : w .good ≡ true → part (a + m * (k + 1)) m s ≡ forward k (rows k (system k g lam (point 0 m s₀)) m) (right k g dy lam u (point 0 m s₀)) m
+  pub kept : Kept a (m * (k + 1) + m) s₀ s
+
+-- and once it is solved: dz stands after the rows
+pub record NewtonSolved (k : ℕ) (g dy : List Float) (lam u : Float) (a m : ℕ) (s₀ s : List Float) (w : Solved) : Type 0 where
+  pub answer : w .good ≡ sound k (system k g lam (point 0 m s₀)) m
+  pub norm : w .good ≡ true → w .acc ≡ squares k g dy lam u (point 0 m s₀)
+  pub dz : w .good ≡ true → part (a + m * (k + 1)) m s ≡ newtonZ k g dy lam u (point 0 m s₀)
   pub kept : Kept a (m * (k + 1) + m) s₀ s

@@ -1,20 +1,18 @@
-// The Newton system of a dual point: made, factored and carried forward a row at a time, and then solved.
+// The Newton system of a dual point: made, factored and carried forward a row at a time, and then solved. And what a place adds to the residual.
 ghost use mathlib.Core.Path.{_≡_};
-ghost use mathlib.Core.Bool.{true};
-ghost use Prim.Native.Nat.{_≤_, _<_, _+_, _*_};
 ghost use lib.ListN.{length};
 ghost use Rattle.float64.specs.Ops.{_⊕_};
-ghost use Rattle.vectors.specs.Vec.{at, part, Kept};
-ghost use Rattle.banded.specs.Rows.{sound};
-ghost use Rattle.newton_system.specs.Newton.{barrier, rightAt, squareAt, squareOf, system, right, squares, newtonZ};
+ghost use Rattle.differences.specs.Series.{Order};
+ghost use Rattle.banded.specs.Run.{HasRow, Stored};
 ghost use Rattle.dual_point.specs.Places.{point};
-ghost use Rattle.newton_system.specs.Rows.{Put, Swept};
+ghost use Rattle.newton_system.specs.Newton.{barrier, rightAt, squareAt};
+ghost use Rattle.newton_system.specs.Rows.{besides, AtRow, RowMade, AtSystem, Swept, NewtonSolved};
 
-// A row of the Newton system: its diagonal, its right side, and what its place adds to the square of the residual.
+// A row of the system: its diagonal, its right side, and what its place adds to the square of the residual.
 struct Row {
-    d: f64,
-    x: f64,
-    e: f64,
+    diagonal: f64,
+    right: f64,
+    square: f64,
 }
 
 // The square of the residual, and whether every pivot was good.
@@ -23,54 +21,66 @@ pub struct Solved {
     pub good: bool,
 }
 
-// The row at a place: q is (D D') z there, u is 1 / t, g0 the diagonal of D D'.
-fn row_of(q: f64, dy: f64, z: f64, mu1: f64, mu2: f64, lam: f64, u: f64, g0: f64) -> Row
-    ensures { λ r. ⌜ (r .d ≡ g0 ⊕ barrier lam z mu1 mu2) × ((r .x ≡ rightAt lam u q dy z) × (r .e ≡ squareAt lam u q dy z mu1 mu2)) ⌝ }
+// What a place adds to the square of the residual: q is (D D') z there, u is 1 / t.
+pub fn residual_of(q: f64, dy: f64, z: f64, mu1: f64, mu2: f64, lam: f64, u: f64) -> f64
+    ensures { λ r. ⌜ r ≡ squareAt lam u q dy z mu1 mu2 ⌝ }
 {
     let f1 = z - lam;
     let f2 = -z - lam;
-    let d = g0 + (-mu1 / f1 - mu2 / f2);
-    let x = -q + dy + u / f1 - u / f2;
     let rd = q - dy + mu1 - mu2;
     let rc1 = -mu1 * f1 - u;
     let rc2 = -mu2 * f2 - u;
-    Row {
-        d,
-        x,
-        e: rd * rd + rc1 * rc1 + rc2 * rc2,
-    }
+    rd * rd + rc1 * rc1 + rc2 * rc2
+}
+
+// The diagonal at a place, where g0 is that of D D'.
+fn diagonal_of(z: f64, mu1: f64, mu2: f64, lam: f64, g0: f64) -> f64
+    ensures { λ r. ⌜ r ≡ g0 ⊕ barrier lam z mu1 mu2 ⌝ }
+{
+    let f1 = z - lam;
+    let f2 = -z - lam;
+    g0 + (-mu1 / f1 - mu2 / f2)
+}
+
+// The right side at a place.
+fn right_of(q: f64, dy: f64, z: f64, lam: f64, u: f64) -> f64
+    ensures { λ r. ⌜ r ≡ rightAt lam u q dy z ⌝ }
+{
+    let f1 = z - lam;
+    let f2 = -z - lam;
+    -q + dy + u / f1 - u / f2
 }
 
 // Row r for the point in the first 3 m places of s.
 fn row_at(s: &[f64], dy: &[f64], lam: f64, u: f64, g: [f64; 3], k: usize, m: usize, r: usize) -> Row
-    requires { ⌜ (k ≤ 2) × ((m + m + m ≤ length (now s)) × ((m ≤ length (now dy)) × (r < m))) ⌝ }
-    ensures { λ v. ⌜ (v .d ≡ system k g lam (point 0 m (now (s .entry))) r k)
-        × ((v .x ≡ at (right k g (now (dy .entry)) lam u (point 0 m (now (s .entry)))) r)
-        × (v .e ≡ squareOf k g (now (dy .entry)) lam u (point 0 m (now (s .entry))) r)) ⌝ }
+    requires { ⌜ AtRow k m r (length (now s)) (length (now dy)) ⌝ }
+    ensures { λ v. ⌜ RowMade k g (now (dy .entry)) lam u (point 0 m (now (s .entry))) r v ⌝ }
 {
     let q = gram::product(&s[0..m], g, k, r);
-    row_of(q, dy[r], s[r], s[m + r], s[m + m + r], lam, u, g[0])
+    let y = dy[r];
+    let z = s[r];
+    let mu1 = s[m + r];
+    let mu2 = s[m + m + r];
+    let diagonal = diagonal_of(z, mu1, mu2, lam, g[0]);
+    let right = right_of(q, y, z, lam, u);
+    let square = residual_of(q, y, z, mu1, mu2, lam, u);
+    Row {
+        diagonal,
+        right,
+        square,
+    }
 }
 
 // Row r of m rows of the system, with d on the diagonal, and x in place r of the right side after them.
 fn put_row(s: &mut [f64], g: [f64; 3], k: usize, m: usize, r: usize, d: f64, x: f64)
-    requires { ⌜ (1 ≤ k) × ((k ≤ 2) × ((r < m) × (m * (k + 1) + m ≤ length (now s)))) ⌝ }
-    ensures { λ _. ⌜ Put k m r g d x (now (s .entry)) (now (s .exit)) ⌝ }
+    requires { ⌜ Order k × HasRow k m r (length (now s)) ⌝ }
+    ensures { λ _. ⌜ Stored k m r (besides k g d) x (now (s .entry)) (now (s .exit)) ⌝ }
 {
     if k == 1 {
-        let p = r * 2;
-        let b = m * 2 + r;
-        s[p] = g[1];
-        s[p + 1] = d;
-        s[b] = x;
+        banded::store1(s, m, r, g[1], d, x);
         return;
     }
-    let p = r * 3;
-    let b = m * 3 + r;
-    s[p] = g[2];
-    s[p + 1] = g[1];
-    s[p + 2] = d;
-    s[b] = x;
+    banded::store2(s, m, r, g[2], g[1], d, x);
 }
 
 // The system's rows from place a on, factored as they are made, with the right side carried forward after them. A bad pivot ends it.
@@ -84,19 +94,19 @@ fn sweep(
     k: usize,
     m: usize,
 ) -> Solved
-    requires { ⌜ (1 ≤ k) × ((k ≤ 2) × ((1 ≤ m) × ((m + m + m ≤ a) × ((a + (m * (k + 1) + m) ≤ length (now s)) × (m ≤ length (now dy)))))) ⌝ }
-    ensures { λ w. ⌜ Swept k g (now (dy .entry)) lam u a m (now (s .entry)) (now (s .exit)) (w .acc) (w .good) ⌝ }
+    requires { ⌜ AtSystem k a m (length (now s)) (length (now dy)) ⌝ }
+    ensures { λ w. ⌜ Swept k g (now (dy .entry)) lam u a m (now (s .entry)) (now (s .exit)) w ⌝ }
 {
     let e = a + (m * (k + 1) + m);
     let mut acc = 0.0;
     let mut r = 0;
     while r < m {
         let v = row_at(s, dy, lam, u, g, k, m, r);
-        put_row(&mut s[a..e], g, k, m, r, v.d, v.x);
-        if !banded::eliminate(&mut s[a..e], k, m, r) {
+        put_row(&mut s[a..e], g, k, m, r, v.diagonal, v.right);
+        if !elimination::eliminate(&mut s[a..e], k, m, r) {
             return Solved { acc, good: false };
         }
-        acc = acc + v.e;
+        acc = acc + v.square;
         r += 1;
     }
     Solved { acc, good: true }
@@ -113,11 +123,8 @@ pub fn newton_z(
     k: usize,
     m: usize,
 ) -> Solved
-    requires { ⌜ (1 ≤ k) × ((k ≤ 2) × ((1 ≤ m) × ((m + m + m ≤ a) × ((a + (m * (k + 1) + m) ≤ length (now s)) × (m ≤ length (now dy)))))) ⌝ }
-    ensures { λ r. ⌜ (r .good ≡ sound k (system k g lam (point 0 m (now (s .entry)))) m)
-        × ((r .good ≡ true → (r .acc ≡ squares k g (now (dy .entry)) lam u (point 0 m (now (s .entry))))
-        × (part (a + m * (k + 1)) m (now (s .exit)) ≡ newtonZ k g (now (dy .entry)) lam u (point 0 m (now (s .entry)))))
-        × Kept a (m * (k + 1) + m) (now (s .entry)) (now (s .exit))) ⌝ }
+    requires { ⌜ AtSystem k a m (length (now s)) (length (now dy)) ⌝ }
+    ensures { λ r. ⌜ NewtonSolved k g (now (dy .entry)) lam u a m (now (s .entry)) (now (s .exit)) r ⌝ }
 {
     let w = sweep(s, a, dy, lam, u, g, k, m);
     if !w.good {

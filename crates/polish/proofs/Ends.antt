@@ -1,5 +1,5 @@
 -- How a polish ends, from the marks, the candidate and its certificate. Assumes nothing.
-use mathlib.Core.Bool.{true, false, _&&_}
+use mathlib.Core.Bool.{true, false}
 use mathlib.Core.List.{List}
 use mathlib.Core.Option.{Option, none, some}
 use mathlib.Core.Path.{_≡_, sym, ap, _∙_}
@@ -8,31 +8,25 @@ use native.Mathlib.Nat.{add-zero}
 use native.Mathlib.Omega.{arith}
 use lib.ListN.{length, getD, take, drop}
 use lib.Seq.{getD-take}
-use lib.Ieee.{Float, nan, lt}
-use Rattle.float64.specs.Helpers.{isFinite}
+use lib.Ieee.{Float, nan}
 use Rattle.float64.specs.Ops.{_⊖_}
 use Rattle.vectors.specs.Vec.{at, part, Kept, KeptOf}
 use Rattle.vectors.proofs.Laws.{list-ext, kept-then}
 use Rattle.vectors.proofs.Parts.{length-part, partOf-range, putBack, part-put}
 use Rattle.differences.specs.Diff.{diffK, gramRow}
-use Rattle.differences.proofs.Laws.{length-diffK}
 use Rattle.dual_point.specs.Places.{point}
+use Rattle.dual_point.specs.Lanes.{settleLane, candidateTrend, candidateLane, polishArea, searchArea}
 use Rattle.active_set.specs.ActiveSet.{Hold, holdAt, freeTo, rightOf, solved}
 use Rattle.polish.specs.Polish.{candidate, polish}
-use Rattle.active_set.specs.Marks.{Marks}
-use Rattle.polish.specs.Places.{polishFrom, Polished, wins}
-use Rattle.certificate.specs.Certificate.{certify, gapOf}
+use Rattle.active_set.specs.Marks.{Marks, Freed}
+use Rattle.polish.specs.Places.{polishFrom, Polished}
 use Rattle.certificate.specs.Run.{Certified}
-use Rattle.certificate.proofs.Laws.{room}
 use Rattle.polish.specs.declared.Candidate.{Candidate}
 use Rattle.active_set.proofs.Laws.{count-le, free-lt}
 use Rattle.vectors.proofs.Parts.{kept-part}
 
 -- dy holds D y in its first places
 module _ (k : ℕ) (y dy : List Float) (is : take (length y - k) dy ≡ diffK k y) where
-  pub dy-long : length y - k ≤ length dy
-  dy-long = room dy (diffK k y) (length y - k) is (length-diffK k y)
-
   dy-at : (i : ℕ) → i < length y - k → at dy i ≡ at (diffK k y) i
   dy-at i l = sym (getD-take (length y - k) dy i nan l) ∙ ap (λ (v : List Float). at v i) is
 
@@ -58,9 +52,14 @@ module _ (k : ℕ) (y dy : List Float) (is : take (length y - k) dy ≡ diffK k 
       rw (length-part (length y) (length y - k) w₀) (sym (candidate-dy (gramRow k) lam (holdAt lam (point (length y) (length y - k) w₀))) ∙ e)
 
 -- the free places are places
-pub marks-in : {h : ℕ → Hold} {n m q : ℕ} {v : List ℕ} → Marks h n m v q → (k : ℕ) → k ≤ n → m ≡ n - k → (q + k ≤ n) × ((j : ℕ) → j < q → getD v j 0 + k < n)
-marks-in {h} {n} {m} {q} {v} w k l d =
-    (omega (arith, w .count, count-le h m), λ j u. omega (arith, w .free j u, free-lt h m j (omega (arith, w .count))))
+pub freed : {h : ℕ → Hold} {n q : ℕ} {v : List ℕ} (k known : ℕ) → Marks h n (n - k) v q → k ≤ 2 → k ≤ n → 2 * n ≤ length v → n - k ≤ known → Freed k n v known q
+freed {h} {n} {q} {v} k known w o l room dy = record {
+  order = o;
+  marked = room;
+  dy = omega arith;
+  few = omega (arith, w .count, count-le h (n - k));
+  places = λ j u. omega (arith, w .free j u, free-lt h (n - k) j (omega (arith, w .count)));
+}
 
 marks-all : (n k : ℕ) {v₀ v : List ℕ} → KeptOf 0 0 (n + (n - k)) v₀ v → KeptOf 0 0 (2 * n) v₀ v
 marks-all n k w = record { size = w .size; below = λ j h. absurd (omega arith); above = λ j h. w .above j (omega arith) }
@@ -69,7 +68,7 @@ only : {a b : List Float} → some a ≡ some b → a ≡ b
 only u = cc
 
 -- w₁ is the run with the candidate, v the marks
-module _ (k : ℕ) (y : List Float) (lam : Float) {w₀ w₁ : List Float} {v₀ v : List ℕ} (marks : KeptOf 0 0 (length y + (length y - k)) v₀ v) (kept : Kept (7 * length y) (6 * length y) w₀ w₁) where
+module _ (k : ℕ) (y : List Float) (lam : Float) {w₀ w₁ : List Float} {v₀ v : List ℕ} (marks : KeptOf 0 0 (length y + (length y - k)) v₀ v) (kept : Kept (settleLane (length y)) (polishArea (length y)) w₀ w₁) where
   pub ended-none : (r : Candidate) → r .there ≡ false → polishFrom k y lam w₀ ≡ none → Polished k y lam w₀ w₁ v₀ v r
   ended-none r e p = record {
     there = e ∙ rw p;
@@ -78,40 +77,31 @@ module _ (k : ℕ) (y : List Float) (lam : Float) {w₀ w₁ : List Float} {v₀
     marks = marks-all (length y) k marks;
   }
 
-  -- x is what the certificate leaves in the places from 11 n on
-  module _ (big : 13 * length y ≤ length w₀) (l : ℕ) (d : l ≡ length y + (length y - k)) (x : List Float) (size : length x ≡ l) (primal dual : Float)
-      (p : polishFrom k y lam w₀ ≡ some (part (12 * length y) (length y - k) w₁)) (c : Certified k y lam (take l (drop (11 * length y) w₁)) x primal dual) where
+  -- x is what the certificate leaves in the candidate's two lanes
+  module _ (big : searchArea (length y) ≤ length w₀) (l : ℕ) (d : l ≡ length y + (length y - k)) (x : List Float) (size : length x ≡ l) (primal dual : Float)
+      (p : polishFrom k y lam w₀ ≡ some (part (candidateLane (length y)) (length y - k) w₁)) (c : Certified k y lam (take l (drop (candidateTrend (length y)) w₁)) x primal dual) where
     abbrev n : ℕ
     n = length y
 
-    dual-point : part n (n - k) (take l (drop (11 * n) w₁)) ≡ part (12 * n) (n - k) w₁
+    dual-point : part n (n - k) (take l (drop (candidateTrend n) w₁)) ≡ part (candidateLane n) (n - k) w₁
     dual-point =
         let z = kept .size in
-        let e : 11 * n + l - 11 * n ≡ l = omega arith in
-        let t : 11 * n + n ≡ 12 * n = omega arith in
-        rw (e, t) at (partOf-range nan n (n - k) (11 * n) (11 * n + l) w₁ (omega arith) (omega arith) (omega arith))
+        let e : candidateTrend n + l - candidateTrend n ≡ l = omega arith in
+        let t : candidateTrend n + n ≡ candidateLane n = omega arith in
+        rw (e, t) at (partOf-range nan n (n - k) (candidateTrend n) (candidateTrend n + l) w₁ (omega arith) (omega arith) (omega arith))
 
-    pub ended-some : (r : Candidate) → r .there ≡ true → r .gap ≡ primal ⊖ dual → r .primal ≡ primal → Polished k y lam w₀ (putBack (11 * n) l w₁ x) v₀ v r
+    pub ended-some : (r : Candidate) → r .there ≡ true → r .gap ≡ primal ⊖ dual → r .primal ≡ primal → Polished k y lam w₀ (putBack (candidateTrend n) l w₁ x) v₀ v r
     ended-some r e g h =
         let s = kept .size in
         record {
           there = e ∙ rw p;
           rated = λ z t.
-              let is : part n (n - k) (take l (drop (11 * n) w₁)) ≡ z = dual-point ∙ only (sym p ∙ t) in
+              let is : part n (n - k) (take l (drop (candidateTrend n) w₁)) ≡ z = dual-point ∙ only (sym p ∙ t) in
               record {
                 gap = g ∙ rw (c .primal-is, c .dual-is, is);
                 primal = h ∙ c .primal-is ∙ rw is;
-                trend = rw add-zero at (part-put (11 * n) l w₁ x (omega arith) size nan 0 n (omega arith)) ∙ c .trend ∙ rw is;
+                trend = rw add-zero at (part-put (candidateTrend n) l w₁ x (omega arith) size nan 0 n (omega arith)) ∙ c .trend ∙ rw is;
               };
-          kept = kept-then (7 * n) (6 * n) kept (kept-part (11 * n) l l w₁ x (omega arith) size (omega arith)) (omega arith) (omega arith) (omega arith) (omega arith);
+          kept = kept-then (settleLane n) (polishArea n) kept (kept-part (candidateTrend n) l l w₁ x (omega arith) size (omega arith)) (omega arith) (omega arith) (omega arith) (omega arith);
           marks = marks-all (length y) k marks;
         }
-
--- ---- for the caller: whether the candidate wins over an iterate with this gap
-
-module _ {k : ℕ} {y : List Float} {lam : Float} {w₀ w : List Float} {v₀ v : List ℕ} {r : Candidate} (p : Polished k y lam w₀ w v₀ v r) (gap : Float) where
-  pub wins-none : polishFrom k y lam w₀ ≡ none → wins r gap ≡ false
-  wins-none e = rw (p .there, e)
-
-  pub wins-some : (z : List Float) → polishFrom k y lam w₀ ≡ some z → wins r gap ≡ (isFinite (gapOf (certify k y lam z)) && lt (gapOf (certify k y lam z)) gap)
-  wins-some z e = rw (p .there, e, p .rated z e .gap)

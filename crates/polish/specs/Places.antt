@@ -1,24 +1,43 @@
--- What a polish leaves in the runs lent to it. For the contracts between our own crates.
+-- What a polish asks, and what it leaves in the runs lent to it. For the contracts between our own crates.
 use mathlib.Core.Path.{_≡_}
 use mathlib.Core.Bool.{Bool, true, false, cond, _&&_}
 use mathlib.Core.List.{List}
 use mathlib.Core.Option.{Option, none, some}
-use Prim.Native.Nat.{ℕ, _-_, _*_}
+use Prim.Native.Nat.{ℕ, _+_, _-_, _*_, _≤_}
 use lib.ListN.{length}
 use lib.Ieee.{Float, lt}
 use Rattle.float64.specs.Helpers.{isFinite}
 use Rattle.vectors.specs.Vec.{part, Kept, KeptOf}
 use Rattle.differences.specs.Diff.{diffK, gramRow}
 use Rattle.certificate.specs.Certificate.{certify, gapOf}
+use Rattle.certificate.specs.Ready.{Ready}
 use Rattle.dual_point.specs.Places.{point}
-use Rattle.polish.specs.Polish.{polish}
+use Rattle.dual_point.specs.Lanes.{settleLane, candidateTrend, candidateLane, polishArea, searchArea}
+use Rattle.active_set.specs.ActiveSet.{Hold}
+use Rattle.active_set.specs.Marks.{Marks}
+use Rattle.polish.specs.Polish.{candidate, polish}
 use Rattle.polish.specs.declared.Candidate.{Candidate}
 
 -- the candidate that stands in x, if it is there
 abbrev pub found : Bool → List Float → Option (List Float)
 found there x = cond there (some x) none
 
+-- m places of a candidate from a on, after those of the solution from b on; the marks of m places from n on
+pub record Fillable (n m b a places marks : ℕ) : Type 0 where
+  pub marked : n + m ≤ marks
+  pub apart : b + m ≤ a
+  pub room : a + m ≤ places
+
+-- Whatever h the marks v of a series of n tell: the candidate in its lane, if it is there.
+pub record Made (k n : ℕ) (dy : List Float) (lam : Float) (v : List ℕ) (q : ℕ) (s₀ s : List Float) (there : Bool) : Type 0 where
+  pub found-is : (h : ℕ → Hold) → Marks h n (n - k) v q → candidate k (gramRow k) dy lam h (n - k) ≡ found there (part (candidateLane n) (n - k) s)
+  pub kept : Kept (settleLane n) (polishArea n) s₀ s
+
 -- ---- a polish for the series y, from a run w₀ = trend, z, mu1, mu2
+
+pub record Polishable (k : ℕ) (y dy : List Float) (places marks : ℕ) : Type 0 where
+  pub ready : Ready k y dy (searchArea (length y)) places
+  pub marked : 2 * length y ≤ marks
 
 abbrev pub polishFrom : ℕ → List Float → Float → List Float → Option (List Float)
 polishFrom k y lam w₀ = polish k (gramRow k) (diffK k y) lam (point (length y) (length y - k) w₀)
@@ -27,17 +46,17 @@ abbrev pub isSome : Option (List Float) → Bool
 isSome none = false
 isSome (some z) = true
 
--- r has the gap and P of the certificate at z, and the run w its trend from 11 n on
+-- r has the gap and P of the certificate at z, and the run w its trend in the lane for it
 pub record Rated (k : ℕ) (y : List Float) (lam : Float) (w z : List Float) (r : Candidate) : Type 0 where
   pub gap : r .gap ≡ gapOf (certify k y lam z)
   pub primal : r .primal ≡ certify k y lam z .primal
-  pub trend : part (11 * length y) (length y) w ≡ certify k y lam z .trend
+  pub trend : part (candidateTrend (length y)) (length y) w ≡ certify k y lam z .trend
 
--- r says whether there is a candidate; if so its certificate is there. Only the 6 n places from 7 n on and the first 2 n marks may have changed.
+-- r says whether there is a candidate; if so its certificate is there. Only the polish's lanes and the first 2 n marks may have changed.
 pub record Polished (k : ℕ) (y : List Float) (lam : Float) (w₀ w : List Float) (v₀ v : List ℕ) (r : Candidate) : Type 0 where
   pub there : r .there ≡ isSome (polishFrom k y lam w₀)
   pub rated : (z : List Float) → polishFrom k y lam w₀ ≡ some z → Rated k y lam w z r
-  pub kept : Kept (7 * length y) (6 * length y) w₀ w
+  pub kept : Kept (settleLane (length y)) (polishArea (length y)) w₀ w
   pub marks : KeptOf 0 0 (2 * length y) v₀ v
 
 -- there is a candidate, its gap is finite and strictly smaller

@@ -1,5 +1,5 @@
 -- Document 01, "Polish, knots, closed paths": the candidate. k is the order, g the Gram row, dy is D y, p the point at which the search ended, h tells how each of its m places is held.
-use mathlib.Core.Bool.{Bool, cond}
+use mathlib.Core.Bool.{cond}
 use mathlib.Core.List.{List}
 use mathlib.Core.Option.{Option, none, some}
 use Prim.Native.Nat.{ℕ}

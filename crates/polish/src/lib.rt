@@ -1,15 +1,14 @@
 // The polish: the places that the multipliers hold at a bound stay there, the others come from one more banded solve, and the candidate is certified.
 ghost use mathlib.Core.Path.{_≡_};
 ghost use mathlib.Core.Bool.{false, cond};
-ghost use Prim.Native.Nat.{ℕ, _≤_, _<_, _-_, _+_, _*_};
-ghost use lib.ListN.{length, take, getD};
-ghost use lib.Ieee.{Float};
-ghost use Rattle.vectors.specs.Vec.{at, part, Kept, Written};
-ghost use Rattle.differences.specs.Diff.{diffK, gramRow};
-ghost use Rattle.active_set.specs.ActiveSet.{Hold, isFree, heldAt, freeTo};
-ghost use Rattle.polish.specs.Polish.{candidateAt, candidate};
-ghost use Rattle.active_set.specs.Marks.{holdOf, heldBy, Marks};
-ghost use Rattle.polish.specs.Places.{found, Polished, wins};
+ghost use Prim.Native.Nat.{_≤_, _<_, _-_, _+_};
+ghost use lib.ListN.{length};
+ghost use Rattle.vectors.specs.Vec.{at, part, Written};
+ghost use Rattle.dual_point.specs.Lanes.{candidateTrend, candidateLane, searchArea};
+ghost use Rattle.active_set.specs.ActiveSet.{isFree, heldAt};
+ghost use Rattle.active_set.specs.Marks.{holdOf, heldBy, Freed};
+ghost use Rattle.polish.specs.Polish.{candidateAt};
+ghost use Rattle.polish.specs.Places.{Fillable, Made, Polishable, Polished, wins};
 
 // Whether there is a candidate, and the gap and P of its certificate.
 pub struct Candidate {
@@ -31,7 +30,7 @@ fn candidate_at(s: &[f64], p: usize, h: u32, lam: f64) -> f64
 
 // The candidate, from place a on: where it is held, or the next place of the solution, which stands from b on.
 fn fill_candidate(s: &mut [f64], marks: &[u32], lam: f64, b: usize, a: usize, n: usize, m: usize)
-    requires { ⌜ (n + m ≤ length (now marks)) × ((b + m ≤ a) × (a + m ≤ length (now s))) ⌝ }
+    requires { ⌜ Fillable n m b a (length (now s)) (length (now marks)) ⌝ }
     ensures { λ _. ⌜ Written a (a + m) (λ j. candidateAt lam (heldBy n (now (marks .entry))) (part b m (now (s .entry))) (j - a)) (now (s .entry)) (now (s .exit)) ⌝ }
 {
     let mut q = 0;
@@ -45,7 +44,7 @@ fn fill_candidate(s: &mut [f64], marks: &[u32], lam: f64, b: usize, a: usize, n:
     }
 }
 
-// The candidate, from place 12 n on, for the q free places that the marks give; whether there is one.
+// The candidate in its lane, for the q free places that the marks give; whether there is one.
 fn make_candidate(
     s: &mut [f64],
     marks: &[u32],
@@ -55,9 +54,8 @@ fn make_candidate(
     n: usize,
     q: usize,
 ) -> bool
-    requires { ⌜ (k ≤ 2) × ((k < n) × ((13 * n ≤ length (now s)) × ((2 * n ≤ length (now marks)) × ((n ≤ length (now dy) + k) × ((q + k ≤ n) × ((j : ℕ) → j < q → getD (now marks) j 0 + k < n)))))) ⌝ }
-    ensures { λ r. ⌜ ((h : ℕ → Hold) → Marks h n (n - k) (now (marks .entry)) q → candidate k (gramRow k) (now (dy .entry)) lam h (n - k) ≡ found r (part (12 * n) (n - k) (now (s .exit))))
-        × Kept (7 * n) (6 * n) (now (s .entry)) (now (s .exit)) ⌝ }
+    requires { ⌜ Freed k n (now marks) (length (now dy)) q × (searchArea n ≤ length (now s)) ⌝ }
+    ensures { λ r. ⌜ Made k n (now (dy .entry)) lam (now (marks .entry)) q (now (s .entry)) (now (s .exit)) r ⌝ }
 {
     let m = n - k;
     let c = 7 * n;
@@ -81,7 +79,7 @@ fn none() -> Candidate
     }
 }
 
-// The polish of where the search ended: work holds the iterate's trend, z, mu1 and mu2, dy D y. The candidate and its trend are left from place 11 n on.
+// The polish of where the search ended: work holds the iterate's trend, z, mu1 and mu2, dy D y. The candidate and its trend are left in their lanes.
 pub fn polish_l1(
     work: &mut [f64],
     marks: &mut [u32],
@@ -90,8 +88,7 @@ pub fn polish_l1(
     lam: f64,
     k: usize,
 ) -> Candidate
-    requires { ⌜ (1 ≤ k) × ((k ≤ 2) × ((k < length (now y)) × ((length (now y) ≤ 65536) × ((13 * length (now y) ≤ length (now work)) × ((2 * length (now y) ≤ length (now marks))
-        × (take (length (now y) - k) (now dy) ≡ diffK k (now y))))))) ⌝ }
+    requires { ⌜ Polishable k (now y) (now dy) (length (now work)) (length (now marks)) ⌝ }
     ensures { λ r. ⌜ Polished k (now (y .entry)) lam (now (work .entry)) (now (work .exit)) (now (marks .entry)) (now (marks .exit)) r ⌝ }
 {
     let n = y.len();
@@ -134,8 +131,8 @@ fn either<'a>(a: &'a [f64], b: &'a [f64], second: bool) -> &'a [f64]
 
 // The iterate's trend or the candidate's, where it stands.
 pub fn winner(work: &[f64], n: usize, second: bool) -> &[f64]
-    requires { ⌜ 12 * n ≤ length (now work) ⌝ }
-    ensures { λ r. ⌜ now r ≡ cond second (part (11 * n) n (now (work .entry))) (part 0 n (now (work .entry))) ⌝ }
+    requires { ⌜ candidateLane n ≤ length (now work) ⌝ }
+    ensures { λ r. ⌜ now r ≡ cond second (part (candidateTrend n) n (now (work .entry))) (part 0 n (now (work .entry))) ⌝ }
 {
     let a = 11 * n;
     let e = 12 * n;

@@ -6,20 +6,26 @@ use native.Mathlib.Omega.{arith}
 use lib.Ieee
 use lib.Ieee.{Float, binary64, toBits}
 use lib.ListN.{length, take, length-append}
-use Rattle.records.specs.Bytes.{four·at, eight·at, signed32}
-use Rattle.records.specs.Records.{headAt, recordsAt, records, countKind, hoursOf}
-use Rattle.records.specs.Week.{Answer, refused, taken, readWeek, askRecords, settingsAt}
+use Rattle.framing.specs.Bytes.{littleEndian, signed32}
+use Rattle.framing.specs.Frames.{recordsPast}
+use Rattle.records.specs.Entries.{Slot, silent, sounding, settingsIn, entryOf, entries, slotsOf, countSettings, hoursOf}
+use Rattle.records.specs.Week.{Answer, refused, taken, readWeek, askEntries}
 use Rattle.records.proofs.Asking.{week-long}
 
--- the bits of each double
-patterns : List Float → List ℕ
-patterns [] = []
-patterns (x ∷ xs) = toBits binary64 x ∷ patterns xs
+-- no double's pattern: a silent hour's
+abbrev pause : ℕ
+pause = 0x1_0000_0000_0000_0000
 
--- a refusal is its number; a week that is taken is 0, its settings (doubles by their bits) and the bits of its hours
+-- the bits of each hour
+patterns : List Slot → List ℕ
+patterns [] = []
+patterns (silent ∷ ws) = pause ∷ patterns ws
+patterns (sounding x ∷ ws) = toBits binary64 x ∷ patterns ws
+
+-- a refusal is its number; a week that is taken is 0, its settings (doubles by their bits), its slots and how many hours it has
 numbers : Answer → List ℕ
 numbers (refused k) = k ∷ []
-numbers (taken st hs) = 0 ∷ toBits binary64 (st .lam) ∷ toBits binary64 (st .tol) ∷ st .«max_iter» ∷ st .order ∷ st .penalty ∷ patterns hs
+numbers (taken st ws) = 0 ∷ toBits binary64 (st .lam) ∷ toBits binary64 (st .tol) ∷ st .«max_iter» ∷ st .order ∷ st .penalty ∷ patterns ws ++ (length (hoursOf ws) ∷ [])
 
 -- x, n times over
 times : ℕ → List ℕ → List ℕ
@@ -42,8 +48,8 @@ early = 6 ∷ 0 ∷ 1 ∷ 0 ∷ 255 ∷ 255 ∷ 255 ∷ 255 ∷ []
 abbrev earliest : List ℕ
 earliest = 6 ∷ 0 ∷ 1 ∷ 0 ∷ 0 ∷ 0 ∷ 0 ∷ 128 ∷ []
 
-abbrev silent : List ℕ
-silent = 2 ∷ 0 ∷ 2 ∷ 0 ∷ []
+abbrev quiet : List ℕ
+quiet = 2 ∷ 0 ∷ 2 ∷ 0 ∷ []
 
 -- settings whose lam and tol are patterns of a NaN, with the greatest max_iter, order 2 and penalty 255
 abbrev odd-settings : List ℕ
@@ -59,15 +65,15 @@ nan-pattern = 0x7ff8_0000_0000_0000
 table : List (List ℕ × List ℕ)
 table =
     ([], 12 ∷ [])
-    -- document 01's file; a silent hour is left out; milliseconds are signed
-    ∷ (settings ++ hour ++ punctual, said ++ (0x40bf_4000_0000_0000 ∷ 0 ∷ []))
-    ∷ (settings ++ hour ++ silent ++ early ++ earliest, said ++ (0x40bf_4000_0000_0000 ∷ 0xbff0_0000_0000_0000 ∷ 0xc1e0_0000_0000_0000 ∷ []))
-    ∷ (settings, said)
-    ∷ (odd-settings, 0 ∷ nan-pattern ∷ nan-pattern ∷ 18446744073709551615 ∷ 2 ∷ 255 ∷ [])
+    -- document 01's file; a silent hour has its slot and is left out of the series; milliseconds are signed
+    ∷ (settings ++ hour ++ punctual, said ++ (0x40bf_4000_0000_0000 ∷ 0 ∷ 2 ∷ []))
+    ∷ (settings ++ hour ++ quiet ++ early ++ earliest, said ++ (0x40bf_4000_0000_0000 ∷ pause ∷ 0xbff0_0000_0000_0000 ∷ 0xc1e0_0000_0000_0000 ∷ 3 ∷ []))
+    ∷ (settings, said ++ (0 ∷ []))
+    ∷ (odd-settings, 0 ∷ nan-pattern ∷ nan-pattern ∷ 18446744073709551615 ∷ 2 ∷ 255 ∷ 0 ∷ [])
     -- a record that the input cuts, a length of 0, an hour of another length, a kind that there is not
     ∷ (take 29 settings, 11 ∷ [])
     ∷ (settings ++ take 7 hour, 11 ∷ [])
-    ∷ (settings ++ take 3 silent, 11 ∷ [])
+    ∷ (settings ++ take 3 quiet, 11 ∷ [])
     ∷ (settings ++ (0 ∷ 0 ∷ 2 ∷ 0 ∷ []), 11 ∷ [])
     ∷ (settings ++ (5 ∷ 0 ∷ 1 ∷ 0 ∷ 0 ∷ 0 ∷ 0 ∷ []), 11 ∷ [])
     ∷ (settings ++ (2 ∷ 0 ∷ 4 ∷ 0 ∷ []), 11 ∷ [])
@@ -78,10 +84,10 @@ table =
     ∷ (hour ++ settings, 12 ∷ [])
     ∷ (settings ++ hour ++ settings, 12 ∷ [])
     -- 168 hours and a silent one; 169 hours
-    ∷ (settings ++ times 168 hour ++ silent, said ++ times 168 (0x40bf_4000_0000_0000 ∷ []))
+    ∷ (settings ++ times 168 hour ++ quiet, said ++ times 168 (0x40bf_4000_0000_0000 ∷ []) ++ (pause ∷ 168 ∷ []))
     ∷ (settings ++ times 169 hour, 13 ∷ [])
     -- 11 comes before 12, and 12 before 13
-    ∷ (hour ++ settings ++ take 3 silent, 11 ∷ [])
+    ∷ (hour ++ settings ++ take 3 quiet, 11 ∷ [])
     ∷ (settings ++ times 169 hour ++ settings, 12 ∷ [])
     ∷ []
 
@@ -94,7 +100,7 @@ expected [] = []
 expected (p ∷ ps) = p .1 ∷ expected ps
 
 known : says table ≡ expected table
-unfolding patterns numbers times says expected table readWeek askRecords settingsAt records recordsAt headAt countKind hoursOf four·at eight·at signed32 Ieee.ofBits Ieee.toBits Ieee.ofInt
+unfolding patterns numbers times says expected table readWeek askEntries entries entryOf settingsIn slotsOf countSettings hoursOf recordsPast littleEndian signed32 Ieee.ofBits Ieee.toBits Ieee.ofInt
 known = refl
 
 -- 4,098 bytes, all of them whole records, are too many; so are 4,097 of any kind
@@ -103,8 +109,8 @@ unfolding times
 length-times zero x = omega arith
 length-times (suc n) x = length-append x (times n x) ∙ omega (arith, length-times n x)
 
-known-long : readWeek (settings ++ times 1017 silent) ≡ refused 11
-known-long = week-long (settings ++ times 1017 silent) (omega (arith, length-append settings (times 1017 silent), length-times 1017 silent))
+known-long : readWeek (settings ++ times 1017 quiet) ≡ refused 11
+known-long = week-long (settings ++ times 1017 quiet) (omega (arith, length-append settings (times 1017 quiet), length-times 1017 quiet))
 
 known-longer : readWeek (times 4097 (0 ∷ [])) ≡ refused 11
 known-longer = week-long (times 4097 (0 ∷ [])) (omega (arith, length-times 4097 (0 ∷ [])))

@@ -1,5 +1,5 @@
-mod Floats
-mod Heads
+-- Laws of entries, of a walk over them, and of the questions.
+mod Entries
 mod Passing
 mod Asking
 mod Known

@@ -1,182 +1,136 @@
--- A walk over the records of an input: what has been passed, and what the next step makes of it. Assumes nothing.
+-- A walk over the entries of an input: what has been passed, and what the next step makes of it. Assumes nothing.
 use mathlib.Core.Path.{_≡_, refl, sym, ap, ap₂, _∙_, subst}
 use mathlib.Core.Bool.{Bool, true, false, cond}
-use Prim.Native.Nat.{ℕ, zero, suc, _+_, _-_, _≤_, _<_}
+use Prim.Native.Nat.{ℕ, _+_, _≤_}
 use native.Mathlib.Omega.{arith}
 use mathlib.Core.List.{List, [], _∷_, _++_, append-assoc, append-nil}
 use mathlib.Core.Option.{Option, none, some, Option·map}
-use lib.ListN.{length, length-append}
-use lib.Dec.{leb, ltb, eqb}
+use lib.ListN.{length, drop, length-append}
+use lib.Dec.{eqb}
 use lib.Ieee.{Float}
-use borrow.Author.Tests.{leb-false, ltb-false, eqb-true}
-use Rattle.records.specs.Bytes.{two·at}
-use Rattle.records.specs.Records.{headAt, lengthOf, Rec, rec, follow, recordsAt, records, countKind, hourOf, hoursOf}
 use Rattle.vectors.specs.Vec.{Wrote}
-use Rattle.records.specs.Week.{hoursIn}
 use Rattle.vectors.proofs.Texts.{wrote-none, wrote-then, wrote-length}
-use Rattle.records.specs.declared.Head.{Head}
-use Rattle.records.specs.declared.Head.the-variants.{End, Bad, Record}
-
--- what a whole record's place is
-pub record Placed (s : List ℕ) (at k b n : ℕ) : Type 0 where
-  pub body : b ≡ at + 4
-  pub next : n ≡ at + (2 + lengthOf k)
-  pub more : at + 2 ≤ n
-  pub inside : n ≤ length s
-
--- `headAt`'s tests, from a record that it found
-opened : (s : List ℕ) (at k b n : ℕ) (t₁ t₂ t₃ t₄ t₅ : Bool)
-    → leb (length s) at ≡ t₁ → ltb (length s - at) 4 ≡ t₂ → eqb (two·at s at) 0 ≡ t₃
-    → eqb (two·at s at) (lengthOf (two·at s (at + 2))) ≡ t₄ → ltb (length s - at) (2 + two·at s at) ≡ t₅
-    → Record k b n ≡ cond t₁ End (cond t₂ Bad (cond t₃ Bad (cond t₄ (cond t₅ Bad (Record (two·at s (at + 2)) (at + 4) (at + (2 + two·at s at)))) Bad)))
-    → Placed s at k b n
-opened s at k b n true t₂ t₃ t₄ t₅ e₁ e₂ e₃ e₄ e₅ e = let z : _≡_ {A = ℕ} 0 1 = cc in absurd (omega arith)
-opened s at k b n false true t₃ t₄ t₅ e₁ e₂ e₃ e₄ e₅ e = let z : _≡_ {A = ℕ} 0 1 = cc in absurd (omega arith)
-opened s at k b n false false true t₄ t₅ e₁ e₂ e₃ e₄ e₅ e = let z : _≡_ {A = ℕ} 0 1 = cc in absurd (omega arith)
-opened s at k b n false false false false t₅ e₁ e₂ e₃ e₄ e₅ e = let z : _≡_ {A = ℕ} 0 1 = cc in absurd (omega arith)
-opened s at k b n false false false true true e₁ e₂ e₃ e₄ e₅ e = let z : _≡_ {A = ℕ} 0 1 = cc in absurd (omega arith)
-opened s at k b n false false false true false e₁ e₂ e₃ e₄ e₅ e =
-    let ek : k ≡ two·at s (at + 2) = cc in
-    let eb : b ≡ at + 4 = cc in
-    let en : n ≡ at + (2 + two·at s at) = cc in
-    let l = two·at s at in
-    let el : l ≡ lengthOf k = eqb-true _ _ e₄ ∙ ap lengthOf (sym ek) in
-    let h₁ : at < length s = leb-false _ _ e₁ in
-    let h₅ : 2 + l ≤ length s - at = ltb-false _ _ e₅ in
-    record { body = eb; next = en ∙ ap (λ (m : ℕ). at + (2 + m)) el; more = omega arith; inside = omega arith }
-
-pub placed : {s : List ℕ} {at k b n : ℕ} → Record k b n ≡ headAt s at → Placed s at k b n
-unfolding headAt
-placed {s} {at} {k} {b} {n} e = opened s at k b n _ _ _ _ _ refl refl refl refl refl e
+use Rattle.records.specs.Entries.{Slot, silent, sounding, Entry, slot, settings, slotsOf, countSettings, hoursOf}
+use Rattle.records.specs.Week.{entriesIn}
+use Rattle.records.specs.Reading.{hoursIn, hourAt, Found, Room}
+use Rattle.records.proofs.Entries.{says-count, found-hours}
 
 -- P, and then what is still to come
-abbrev pub onto : List Rec → Option (List Rec) → Option (List Rec)
-onto P o = Option·map (λ (t : List Rec). P ++ t) o
+abbrev onto : List Entry → Option (List Entry) → Option (List Entry)
+onto P o = Option·map (λ (t : List Entry). P ++ t) o
 
-onto-nil : (o : Option (List Rec)) → o ≡ onto [] o
+onto-nil : (o : Option (List Entry)) → o ≡ onto [] o
 onto-nil none = refl
 onto-nil (some t) = refl
 
-onto-more : (P : List Rec) (r : Rec) (o : Option (List Rec)) → onto P (Option·map (λ (t : List Rec). r ∷ t) o) ≡ onto (P ++ (r ∷ [])) o
-onto-more P r none = refl
-onto-more P r (some t) = ap some (sym (append-assoc P (r ∷ []) t))
+onto-more : (P : List Entry) (e : Entry) (o : Option (List Entry)) → onto P (Option·map (λ (t : List Entry). e ∷ t) o) ≡ onto (P ++ (e ∷ [])) o
+onto-more P e none = refl
+onto-more P e (some t) = ap some (sym (append-assoc P (e ∷ []) t))
 
--- the records P have been passed, and the next starts at `at`
-pub record Passed (s : List ℕ) (at : ℕ) (P : List Rec) : Type 0 where
-  pub fuel : ℕ
-  pub rest : records s ≡ onto P (recordsAt fuel s at)
-  pub enough : length s - at < fuel
+-- the entries P have been passed, and the next record starts at `at`
+pub record Passed (s : List ℕ) (at : ℕ) (P : List Entry) : Type 0 where
+  rest : entriesIn s ≡ onto P (entriesIn (drop at s))
 
-pub passed-none : (s : List ℕ) → Passed s 0 []
-unfolding records
-passed-none s = record { fuel = suc (length s); rest = onto-nil (recordsAt (suc (length s)) s 0); enough = omega arith }
+passed-none : (s : List ℕ) → Passed s 0 []
+passed-none s = record { rest = onto-nil (entriesIn s) }
 
--- what the next step finds, at a fuel that is left
-step : (s : List ℕ) (at : ℕ) (P : List Rec) (f : ℕ) → records s ≡ onto P (recordsAt f s at) → length s - at < f
-    → (g : ℕ) × (f ≡ suc g) × (records s ≡ onto P (follow (headAt s at) (λ (n : ℕ). recordsAt g s n)))
-unfolding recordsAt
-step s at P zero e h = absurd (omega arith)
-step s at P (suc g) e h = (g, refl, e)
+module _ {s : List ℕ} {at : ℕ} {P : List Entry} (p : Passed s at P) where
+  pub passed-end : entriesIn (drop at s) ≡ some [] → entriesIn s ≡ some P
+  passed-end e = p .rest ∙ ap (onto P) e ∙ ap some (append-nil P)
 
-module _ {s : List ℕ} {at : ℕ} {P : List Rec} (p : Passed s at P) where
-  pub passed-end : End ≡ headAt s at → records s ≡ some P
-  passed-end e =
-      let w = step s at P (p .fuel) (p .rest) (p .enough) in
-      w .2 ∙ ap (λ (h : Head). onto P (follow h (λ (n : ℕ). recordsAt (w .0) s n))) (sym e) ∙ ap some (append-nil P)
+  pub passed-bad : entriesIn (drop at s) ≡ none → entriesIn s ≡ none
+  passed-bad e = p .rest ∙ ap (onto P) e
 
-  pub passed-bad : Bad ≡ headAt s at → records s ≡ none
-  passed-bad e =
-      let w = step s at P (p .fuel) (p .rest) (p .enough) in
-      w .2 ∙ ap (λ (h : Head). onto P (follow h (λ (n : ℕ). recordsAt (w .0) s n))) (sym e)
+  passed-more : {k b n : ℕ} (f : Found s at k b n) → Passed s n (P ++ (f .entry ∷ []))
+  passed-more {k} {b} {n} f = record { rest = p .rest ∙ ap (onto P) (f .rest) ∙ onto-more P (f .entry) (entriesIn (drop n s)) }
 
-  pub passed-more : {k b n : ℕ} → Record k b n ≡ headAt s at → Passed s n (P ++ (rec k b ∷ []))
-  passed-more {k} {b} {n} e =
-      let w = step s at P (p .fuel) (p .rest) (p .enough) in
-      let l = placed e in
-      record {
-        fuel = w .0;
-        rest = w .2 ∙ ap (λ (h : Head). onto P (follow h (λ (n : ℕ). recordsAt (w .0) s n))) (sym e) ∙ onto-more P (rec k b) (recordsAt (w .0) s n);
-        enough = omega (arith, p .enough, w .1, l .more, l .inside);
-      }
+-- what more entries add to the count of settings and to the series
+count-append : (P Q : List Entry) → countSettings (P ++ Q) ≡ countSettings P + countSettings Q
+unfolding countSettings
+count-append [] Q = omega arith
+count-append (slot w ∷ P) Q = count-append P Q
+count-append (settings st ∷ P) Q = omega (arith, count-append P Q)
 
--- what one more record adds to a count and to the series
-pub count-more : (k j b : ℕ) (P : List Rec) → countKind k (P ++ (rec j b ∷ [])) ≡ countKind k P + cond (eqb j k) 1 0
-unfolding countKind
-count-more k j b [] = omega arith
-count-more k j b (rec i a ∷ P) = omega (arith, count-more k j b P)
+hours-append : (P Q : List Entry) → hoursIn (P ++ Q) ≡ hoursIn P ++ hoursIn Q
+unfolding slotsOf hoursOf
+hours-append [] Q = refl
+hours-append (slot silent ∷ P) Q = hours-append P Q
+hours-append (slot (sounding x) ∷ P) Q = ap (λ (t : List Float). x ∷ t) (hours-append P Q)
+hours-append (settings st ∷ P) Q = hours-append P Q
 
-pub hours-more : (s : List ℕ) (j b : ℕ) (P : List Rec) → hoursOf s (P ++ (rec j b ∷ [])) ≡ hoursOf s P ++ hourOf s j b
-unfolding hoursOf
-hours-more s j b [] = append-nil (hourOf s j b)
-hours-more s j b (rec i a ∷ P) = ap (λ (t : List Float). hourOf s i a ++ t) (hours-more s j b P) ∙ sym (append-assoc (hourOf s i a) (hoursOf s P) (hourOf s j b))
+-- the counts of a walk, so far
+pub record Counted (s : List ℕ) (at m n : ℕ) : Type 0 where
+  pub done : List Entry
+  pub passed : Passed s at done
+  pub settings : m ≡ countSettings done
+  pub hours : n ≡ length (hoursIn done)
+  pub inside : at ≤ length s
+  pub few : m ≤ at
+  pub fewer : n ≤ at
+
+pub counted-none : (s : List ℕ) → Counted s 0 0 0
+unfolding countSettings slotsOf hoursOf
+counted-none s = record { done = []; passed = passed-none s; settings = refl; hours = refl; inside = omega arith; few = omega arith; fewer = omega arith }
+
+bit : (t : Bool) → cond t 1 0 ≤ 1
+bit true = omega arith
+bit false = omega arith
 
 one-cond : (t : Bool) (x : Float) → length (cond t (x ∷ []) []) ≡ cond t 1 0
 one-cond true x = refl
 one-cond false x = refl
 
-pub one-hour : (s : List ℕ) (k b : ℕ) → length (hourOf s k b) ≡ cond (eqb k 1) 1 0
-one-hour s k b = one-cond (eqb k 1) _
-
--- the counts of a walk, so far
-pub record Counted (s : List ℕ) (at m n : ℕ) : Type 0 where
-  pub done : List Rec
-  pub passed : Passed s at done
-  pub settings : m ≡ countKind 3 done
-  pub hours : n ≡ length (hoursOf s done)
-
-pub counted-none : (s : List ℕ) → Counted s 0 0 0
-unfolding countKind hoursOf
-counted-none s = record { done = []; passed = passed-none s; settings = refl; hours = refl }
-
-pub counted-more : {s : List ℕ} {at settings hours k b n x y : ℕ} → Counted s at settings hours → Record k b n ≡ headAt s at
-    → x ≡ cond (eqb k 3) 1 0 → y ≡ cond (eqb k 1) 1 0 → Counted s n (settings + x) (hours + y)
-counted-more {s} {at} {settings} {hours} {k} {b} {n} {x} {y} c e ex ey =
+pub counted-more : {s : List ℕ} {at m h k b n x y : ℕ} → Counted s at m h → Found s at k b n
+    → x ≡ cond (eqb k 3) 1 0 → y ≡ cond (eqb k 1) 1 0 → Counted s n (m + x) (h + y)
+counted-more {s} {at} {m} {h} {k} {b} {n} {x} {y} c f ex ey =
+    let e = f .entry ∷ [] in
     record {
-      done = c .done ++ (rec k b ∷ []);
-      passed = passed-more (c .passed) e;
-      settings = ap₂ (λ (m n : ℕ). m + n) (c .settings) ex ∙ sym (count-more 3 k b (c .done));
-      hours = ap₂ (λ (m n : ℕ). m + n) (c .hours) (ey ∙ sym (one-hour s k b)) ∙ sym (length-append (hoursOf s (c .done)) (hourOf s k b)) ∙ ap length (sym (hours-more s k b (c .done)));
+      done = c .done ++ e;
+      passed = passed-more (c .passed) f;
+      settings = ap₂ (λ (i j : ℕ). i + j) (c .settings) (ex ∙ sym (says-count (f .says))) ∙ sym (count-append (c .done) e);
+      hours = ap₂ (λ (i j : ℕ). i + j) (c .hours) (ey ∙ sym (one-cond (eqb k 1) _) ∙ ap length (sym (found-hours f))) ∙ sym (length-append (hoursIn (c .done)) (hoursIn e)) ∙ ap length (sym (hours-append (c .done) e));
+      inside = f .inside;
+      few = omega (arith, c .few, f .body, f .more, ex, bit (eqb k 3));
+      fewer = omega (arith, c .fewer, f .body, f .more, ey, bit (eqb k 1));
     }
-
-hours-append : (s : List ℕ) (P Q : List Rec) → hoursOf s (P ++ Q) ≡ hoursOf s P ++ hoursOf s Q
-unfolding hoursOf
-hours-append s [] Q = refl
-hours-append s (rec i a ∷ P) Q = ap (λ (t : List Float). hourOf s i a ++ t) (hours-append s P Q) ∙ sym (append-assoc (hourOf s i a) (hoursOf s P) (hoursOf s Q))
-
--- no more hours have been passed than there are
-pub hours-within : (s : List ℕ) (P : List Rec) (o : Option (List Rec)) → (onto P o ≡ none → ⊥) → length (hoursOf s P) ≤ length (hoursIn s (onto P o))
-hours-within s P none h = absurd (h refl)
-hours-within s P (some t) h = omega (arith, ap length (hours-append s P t), length-append (hoursOf s P) (hoursOf s t))
-
-pub passed-within : {s : List ℕ} {at : ℕ} {P : List Rec} → Passed s at P → (records s ≡ none → ⊥) → length (hoursOf s P) ≤ length (hoursIn s (records s))
-passed-within {s} {at} {P} p h = rw (p .rest) (hours-within s P (recordsAt (p .fuel) s at) (rw (p .rest) at h))
 
 -- the hours passed so far stand at the start of y
 pub record Filled (s : List ℕ) (at : ℕ) (y₀ y : List Float) (n : ℕ) : Type 0 where
-  pub done : List Rec
+  pub done : List Entry
   pub passed : Passed s at done
-  pub wrote : Wrote y₀ 0 (hoursOf s done) y n
+  pub wrote : Wrote y₀ 0 (hoursIn done) y n
+  pub inside : at ≤ length s
 
 pub filled-none : (s : List ℕ) (y : List Float) → Filled s 0 y y 0
-unfolding hoursOf
-filled-none s y = record { done = []; passed = passed-none s; wrote = wrote-none y 0 (omega arith) }
+unfolding slotsOf hoursOf
+filled-none s y = record { done = []; passed = passed-none s; wrote = wrote-none y 0 (omega arith); inside = omega arith }
 
-pub filled-more : {s : List ℕ} {at : ℕ} {y₀ y z : List Float} {m n k b next : ℕ} → Filled s at y₀ y m → Record k b next ≡ headAt s at
-    → Wrote y m (hourOf s k b) z n → Filled s next y₀ z n
-filled-more {s} {at} {y₀} {y} {z} {m} {n} {k} {b} {next} f e w =
-    record {
-      done = f .done ++ (rec k b ∷ []);
-      passed = passed-more (f .passed) e;
-      wrote = subst (λ (t : List Float). Wrote y₀ 0 t z n) (sym (hours-more s k b (f .done))) (wrote-then (f .wrote) w);
-    }
+module _ {s : List ℕ} {at : ℕ} {y₀ y : List Float} {m : ℕ} (w : Filled s at y₀ y m) where
+  pub filled-more : {z : List Float} {n k b next : ℕ} → Found s at k b next → Wrote y m (hourAt s k b) z n → Filled s next y₀ z n
+  filled-more {z} {n} {k} {b} {next} f v =
+      record {
+        done = w .done ++ (f .entry ∷ []);
+        passed = passed-more (w .passed) f;
+        wrote = subst (λ (t : List Float). Wrote y₀ 0 t z n) (sym (hours-append (w .done) (f .entry ∷ []))) (wrote-then (w .wrote) (subst (λ (t : List Float). Wrote y m t z n) (sym (found-hours f)) v));
+        inside = f .inside;
+      }
+
+  pub filled-all : entriesIn (drop at s) ≡ some [] → (es : List Entry) → entriesIn s ≡ some es → Wrote y₀ 0 (hoursIn es) y m
+  filled-all e es h = let d : w .done ≡ es = cc (passed-end (w .passed) e) in rw d at (w .wrote)
+
+  pub filled-bad : entriesIn (drop at s) ≡ none → (es : List Entry) → entriesIn s ≡ some es → Wrote y₀ 0 (hoursIn es) y m
+  filled-bad e es h = let z : _≡_ {A = ℕ} 0 1 = cc (passed-bad (w .passed) e) in absurd (omega arith)
+
+-- no more hours have been passed than there are
+within : (P : List Entry) (o : Option (List Entry)) (es : List Entry) → onto P o ≡ some es → length (hoursIn P) ≤ length (hoursIn es)
+within P none es h = let z : _≡_ {A = ℕ} 0 1 = cc in absurd (omega arith)
+within P (some t) es h =
+    let e : P ++ t ≡ es = cc in
+    omega (arith, ap length (sym (ap hoursIn e) ∙ hours-append P t), length-append (hoursIn P) (hoursIn t))
 
 -- a record's hour has its place
-pub filled-room : {s : List ℕ} {at : ℕ} {y₀ y : List Float} {m k b next : ℕ} → Filled s at y₀ y m → Record k b next ≡ headAt s at
-    → (records s ≡ none → ⊥) → length (hoursIn s (records s)) ≤ length y₀ → m + length (hourOf s k b) ≤ length y
-filled-room {s} {at} {y₀} {y} {m} {k} {b} {next} f e h l =
-    omega (arith, wrote-length (f .wrote), f .wrote .next, passed-within (passed-more (f .passed) e) h, ap length (hours-more s k b (f .done)), length-append (hoursOf s (f .done)) (hourOf s k b))
-
--- an hour's body is within the input
-pub hour-inside : {s : List ℕ} {at k b n : ℕ} → Placed s at k b n → k ≡ 1 → b + 4 ≤ length s
-hour-inside p h =
-    omega (arith, p .body, p .next, p .inside, ap lengthOf h)
+pub filled-room : {s : List ℕ} {at : ℕ} {y₀ y : List Float} {m k b next : ℕ} → Filled s at y₀ y m → Found s at k b next
+    → Room (entriesIn s) (length y₀) → m + length (hourAt s k b) ≤ length y
+filled-room {s} {at} {y₀} {y} {m} {k} {b} {next} w f r =
+    let e = f .entry ∷ [] in
+    omega (arith, wrote-length (w .wrote), w .wrote .next, r .room, within (w .done ++ e) (entriesIn (drop next s)) (r .entries) (sym (passed-more (w .passed) f .rest) ∙ r .splits), ap length (hours-append (w .done) e), length-append (hoursIn (w .done)) (hoursIn e), ap length (found-hours f))

@@ -1,26 +1,24 @@
 -- Rows that are alike: those of I + lam D'D from row k up to the last k, and a run in which a row is repeated.
 use mathlib.Core.Logic.{⊎-elim}
-use mathlib.Core.Bool.{Bool, cond}
-use mathlib.Core.Path.{_≡_, refl, sym, ap, _∙_}
+use mathlib.Core.Path.{_≡_, refl, sym, _∙_}
 use mathlib.Core.List.{List}
-use Prim.Native.Nat.{ℕ, zero, suc, _+_, _-_, _*_, _≤_, _<_, min}
+use Prim.Native.Nat.{ℕ, zero, suc, _+_, _-_, _*_, _≤_, _<_}
 use native.Mathlib.Nat.{eq-or-lt-of-le, eq-zero-or-pos, ne-of-lt, ne-of-gt, min-eq-left, suc-mul, add-mul, one-mul, mul-le-mul-right}
 use native.Mathlib.Omega.{arith}
-use lib.Dec.{ltb}
 use lib.ListN.{length, set, length-set}
 use lib.Seq.{getD-set-same, getD-set-other}
 use lib.Ieee.{Float, nan}
 use borrow.Author.Tests.{le-ltb}
-use Rattle.float64.specs.Ops.{_⊗_, c0}
-use Rattle.vectors.specs.Vec.{at, Kept}
+use Rattle.float64.specs.Ops.{_⊗_}
+use Rattle.vectors.specs.Vec.{at}
 use Rattle.vectors.proofs.Laws.{kept-none}
 use Rattle.banded.specs.Rows.{Matrix}
 use Rattle.banded.specs.Run.{flat}
-use Rattle.banded.proofs.Laws.{above, one-row}
+use Rattle.banded.proofs.Laws.{above}
 use Rattle.vectors.specs.Sums.{more}
 use Rattle.banded.specs.Layout.{Laid}
 use Rattle.ridge.specs.Layout.{Repeated}
-use Rattle.ridge.specs.Ridge.{start, share, ridge}
+use Rattle.ridge.specs.Ridge.{start, ridge}
 
 -- ---- one more place repeated
 

@@ -1,5 +1,5 @@
 -- Document 01, "Differences and bands" and "Polish, knots, closed paths": the L2 system I + lam·D'D of a series of n, built by the operations of `solve_l2` in its order. c is the stencil of D: row r of D has c 0, .. , c k at columns r, .. , r + k.
-use mathlib.Core.Bool.{Bool, cond}
+use mathlib.Core.Bool.{cond}
 use mathlib.Core.List.{List}
 use Prim.Native.Nat.{ℕ, _+_, _-_, min}
 use lib.Dec.{ltb}

@@ -1,13 +1,14 @@
 // The rows of I + lam D'D.
 ghost use mathlib.Core.Path.{_≡_};
-ghost use Prim.Native.Nat.{_≤_, _<_, _-_, _+_, _*_, _^_};
 ghost use mathlib.Core.List.{List};
-ghost use lib.ListN.{length, take, drop};
+ghost use Prim.Native.Nat.{_≤_, _-_, _+_, _*_};
+ghost use lib.ListN.{length};
 ghost use lib.Ieee.{Float};
 ghost use Rattle.vectors.specs.Vec.{Written};
-ghost use Rattle.banded.specs.Rows.{matrix, concat};
+ghost use Rattle.differences.specs.Diff.{stencil};
+ghost use Rattle.differences.specs.Series.{Series};
 ghost use Rattle.banded.specs.Layout.{Laid};
-ghost use Rattle.ridge.specs.Layout.{Repeated};
+ghost use Rattle.ridge.specs.Layout.{Row, Rows, Repeated};
 ghost use Rattle.ridge.specs.Ridge.{start, ridge};
 
 // Place p of a row of I.
@@ -19,7 +20,7 @@ fn start(k: usize, p: usize) -> f64
 
 // Place p of row i, for a series of n.
 fn ridge_at(c: [f64; 3], lam: f64, k: usize, n: usize, i: usize, p: usize) -> f64
-    requires { ⌜ (k ≤ 2) × ((p ≤ k) × ((i < n) × (i + p < 2 ^ 62))) ⌝ }
+    requires { ⌜ Row k n i × (p ≤ k) ⌝ }
     ensures { λ x. ⌜ x ≡ ridge k c lam n i p ⌝ }
 {
     if i + p < k {
@@ -27,7 +28,7 @@ fn ridge_at(c: [f64; 3], lam: f64, k: usize, n: usize, i: usize, p: usize) -> f6
     }
     let j = i + p - k;
     let lo = vectors::over(i, k);
-    let hi = vectors::smaller(j + 1, vectors::over(n, k));
+    let hi = vectors::smaller(j + 1, n - k);
     let mut v = start(k, p);
     let mut r = lo;
     while r < hi {
@@ -37,12 +38,11 @@ fn ridge_at(c: [f64; 3], lam: f64, k: usize, n: usize, i: usize, p: usize) -> f6
     v
 }
 
-// Row i, in its place.
-fn ridge_row(s: &mut [f64], c: [f64; 3], lam: f64, k: usize, n: usize, i: usize)
-    requires { ⌜ (k ≤ 2) × ((i < n) × (n * (k + 1) ≤ length (now s))) ⌝ }
-    ensures { λ _. ⌜ Written (i * (k + 1)) (i * (k + 1) + (k + 1)) (λ q. ridge k c lam n i (q - i * (k + 1))) (now (s .entry)) (now (s .exit)) ⌝ }
+// Row i, from place b on.
+fn ridge_row(s: &mut [f64], c: [f64; 3], lam: f64, k: usize, n: usize, i: usize, b: usize)
+    requires { ⌜ Row k n i × (b + (k + 1) ≤ length (now s)) ⌝ }
+    ensures { λ _. ⌜ Written b (b + (k + 1)) (λ q. ridge k c lam n i (q - b)) (now (s .entry)) (now (s .exit)) ⌝ }
 {
-    let b = i * (k + 1);
     let mut p = 0;
     while p <= k {
         let x = ridge_at(c, lam, k, n, i, p);
@@ -53,33 +53,34 @@ fn ridge_row(s: &mut [f64], c: [f64; 3], lam: f64, k: usize, n: usize, i: usize)
 
 // Rows from up to, not including, to, once those before them are in their place.
 fn ridge_rows(s: &mut [f64], c: [f64; 3], lam: f64, k: usize, n: usize, from: usize, to: usize)
-    requires { ⌜ (k ≤ 2) × ((from ≤ to) × ((to ≤ n) × (n * (k + 1) ≤ length (now s)))) ⌝ }
+    requires { ⌜ Rows k n from to (length (now s)) ⌝ }
     ensures { λ _. ⌜ ((v : List Float) → Laid k from (ridge k c lam n) v (now (s .entry)) → Laid k to (ridge k c lam n) v (now (s .exit))) ⌝ }
 {
     let mut i = from;
     while i < to {
-        ridge_row(s, c, lam, k, n, i);
+        ridge_row(s, c, lam, k, n, i, i * (k + 1));
         i += 1;
     }
 }
 
-// The n places from b on become what stands w places before.
-fn repeat(s: &mut [f64], w: usize, b: usize, n: usize)
-    requires { ⌜ (1 ≤ w) × ((w ≤ b) × (b + n ≤ length (now s))) ⌝ }
-    ensures { λ _. ⌜ Repeated w b n (now (s .entry)) (now (s .exit)) ⌝ }
+// The n places from b on become what stands a row before.
+fn repeat(s: &mut [f64], k: usize, b: usize, n: usize)
+    requires { ⌜ (k + 1 ≤ b) × (b + n ≤ length (now s)) ⌝ }
+    ensures { λ _. ⌜ Repeated (k + 1) b n (now (s .entry)) (now (s .exit)) ⌝ }
 {
     let mut i = 0;
     while i < n {
-        s[b + i] = s[b + i - w];
+        s[b + i] = s[b + i - (k + 1)];
         i += 1;
     }
 }
 
 // All n rows, in the first places of s. From row k up to the last k they are alike.
-pub fn fill_ridge(s: &mut [f64], c: [f64; 3], lam: f64, k: usize, n: usize)
-    requires { ⌜ (k ≤ 2) × (n * (k + 1) ≤ length (now s)) ⌝ }
-    ensures { λ _. ⌜ (take (n * (k + 1)) (now (s .exit)) ≡ concat (matrix k (ridge k c lam n) n)) × (drop (n * (k + 1)) (now (s .exit)) ≡ drop (n * (k + 1)) (now (s .entry))) ⌝ }
+pub fn fill_ridge(s: &mut [f64], lam: f64, k: usize, n: usize)
+    requires { ⌜ Series k n × (n * (k + 1) ≤ length (now s)) ⌝ }
+    ensures { λ _. ⌜ Laid k n (ridge k (stencil k) lam n) (now (s .entry)) (now (s .exit)) ⌝ }
 {
+    let c = differences::stencil(k);
     let w = k + 1;
     if n < w + k {
         ridge_rows(s, c, lam, k, n, 0, n);
@@ -87,6 +88,6 @@ pub fn fill_ridge(s: &mut [f64], c: [f64; 3], lam: f64, k: usize, n: usize)
     }
     let m = n - k;
     ridge_rows(s, c, lam, k, n, 0, w);
-    repeat(s, w, w * w, (m - w) * w);
+    repeat(s, k, w * w, (m - w) * w);
     ridge_rows(s, c, lam, k, n, m, n);
 }

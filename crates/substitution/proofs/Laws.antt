@@ -1,25 +1,27 @@
--- Division by the pivots and back, a place at a time.
-use mathlib.Core.Bool.{Bool, true}
+-- Division by the pivots and back, a place at a time; and a system solved in its place. Assumes nothing.
+use mathlib.Core.Bool.{Bool, true, false}
 use mathlib.Core.Logic.{⊎-elim}
 use mathlib.Core.List.{List, [], _∷_}
 use mathlib.Core.Path.{_≡_, refl, sym, ap, _∙_}
 use Prim.Native.Nat.{ℕ, zero, suc, _+_, _-_, _*_, _≤_, _<_, min}
-use native.Mathlib.Nat.{ne-of-lt, ne-of-gt, add-zero, min-le-left, min-le-right, min-eq-right, eq-zero-or-pos}
+use native.Mathlib.Nat.{ne-of-lt, ne-of-gt, add-zero, min-le-left, min-le-right, min-eq-left, min-eq-right, eq-zero-or-pos}
 use native.Mathlib.Numerals.{add-one}
 use native.Mathlib.Omega.{arith}
-use lib.ListN.{length, set, take, drop, length-set, length-take, length-drop}
-use lib.Seq.{getD-set-same, getD-set-other, getD-take, getD-drop, length-take-le, ext-getD}
+use lib.ListN.{length, set, take, drop, length-set}
+use lib.Seq.{getD-set-same, getD-set-other}
 use lib.Ieee.{Float, nan}
 use Rattle.float64.specs.Ops.{_⊘_}
-use Rattle.vectors.specs.Vec.{at, list, part, Kept}
-use Rattle.vectors.proofs.Laws.{length-list, at-list, kept-none}
-use Rattle.vectors.proofs.Parts.{putBack, first-part, range-part, partOf-range, kept-put, part-put, kept-take}
-use Rattle.banded.specs.Rows.{Matrix, look, less, rows, sound, matrix, concat}
+use Rattle.float64.proofs.Clash.{clash}
+use Rattle.vectors.specs.Vec.{at, part, Kept}
+use Rattle.vectors.proofs.Laws.{length-list, at-list, kept-none, kept-then}
+use Rattle.vectors.proofs.Parts.{length-part, first-part, mid-is, part-below, putBack, mid-put, length-put, kept-put, part-put, part-size}
+use Rattle.banded.specs.Rows.{Matrix, look, rows, sound, matrix, concat}
 use Rattle.banded.specs.Solve.{backAt, forward, divided, back, solve}
-use Rattle.banded.specs.Run.{flat, Shape, Holds, Stands}
-use Rattle.substitution.specs.Solved.{Backed, Solved}
-use Rattle.banded.proofs.Laws.{above, less-ext}
-use Rattle.banded.proofs.Elimination.{length-forward}
+use Rattle.banded.specs.Run.{flat, Holds, Stands}
+use Rattle.banded.proofs.Laws.{above, less-ext, holds-of, shape-rows, kept-after, sub-part, part-stands, stands-part}
+use Rattle.banded.proofs.Forward.{length-forward}
+use Rattle.elimination.specs.Decomposed.{Decomposed}
+use Rattle.substitution.specs.Solved.{Backed, Carried, Substituted, Solved}
 
 pub rows-kept : {k m b n : ℕ} {f : List (List Float)} {s₀ s : List Float} → Holds k m f s₀ → Kept b n s₀ s → m * (k + 1) ≤ b → Holds k m f s
 rows-kept {k} {m} {b} {n} {f} {s₀} {s} h w e =
@@ -90,40 +92,98 @@ module _ {k m t : ℕ} {s₀ s : List Float} {x : Float} (i q : ℕ) (w : Backed
       let p : m * (k + 1) + (m - (t + 1)) ≡ q = omega arith in
       rw z (record { kept = rw p kept-more; made = λ f u h l st. rw (p, add-one t) (made-more f u h l st) })
 
--- ---- all of it
+-- ---- one place more of a stretch, one stretch after another, and all of it
+
+pub carried-none : (k m t : ℕ) (s : List Float) → Carried k m t t s s
+carried-none k m t s = record { size = refl; done = λ v h. h }
+
+pub carried-more : {k m from t t′ : ℕ} {s₀ s : List Float} {x : Float} (i q : ℕ) → Carried k m from t s₀ s → t < m → i ≡ m - (t + 1) → q ≡ m * (k + 1) + i → m * (k + 1) + m ≤ length s
+    → x ≡ backAt k (flat k s) (λ n. at s (m * (k + 1) + (i + 1 + n))) (at s (m * (k + 1) + i) ⊘ flat k s i k) i (m - (i + 1)) → t′ ≡ t + 1 → Carried k m from t′ s₀ (set s q x)
+carried-more {s = s} {x = x} i q w c is at-q room x-is z = record { size = length-set s q x ∙ w .size; done = λ v h. backed-more i q (w .done v h) c is at-q room x-is z }
+
+pub carried-then : {k m a b c : ℕ} {s₀ s s′ : List Float} → Carried k m a b s₀ s → Carried k m b c s s′ → Carried k m a c s₀ s′
+carried-then v w = record { size = w .size ∙ v .size; done = λ u h. w .done u (v .done u h) }
+
+pub substituted : {k m : ℕ} {s₀ s : List Float} → Carried k m 0 m s₀ s → Substituted k m s₀ s
+substituted {k} {m} {s₀} {s} w =
+    let n = m * (k + 1) in
+    let z : n + (m - m) ≡ n = omega arith in
+    let u = part n m s₀ in
+    let b = w .done s₀ (backed-none k m s₀) in
+    record {
+      kept = rw z at (b .kept);
+      made = λ f sh e. stands-part n m (back k f (divided k f u) m) s (length-back k f (divided k f u) m)
+          (rw z at (b .made f u (holds-of k m f s₀ sh e) (length-part n m s₀) (part-stands n m s₀)));
+    }
+
 pub solve-is : (k m : ℕ) (f : List (List Float)) (b : List Float) → length b ≡ m → solve k f b ≡ back k f (divided k f (forward k f b m)) m
 unfolding solve
 solve-is k m f b l = rw (l, length-divided k f (forward k f b m), length-forward k f b m)
 
--- where the last min k m places are not all, there are more than k
-pub more-than : (k m n : ℕ) → n ≡ min k m → (n ≡ m → ⊥) → k < m
-more-than k m n e h =
+-- where the last min k m places are not all, there are more than k, and those are k
+pub more-than : {k m n : ℕ} → n ≡ min k m → (n ≡ m → ⊥) → k < m
+more-than {k} {m} {n} e h =
     ⊎-elim
     (λ (z : m - k ≡ 0). absurd (h (e ∙ min-eq-right {n = m} {m = k} (omega arith))))
     (λ (z : 0 < m - k). omega arith)
     (eq-zero-or-pos (m - k))
 
--- ---- a system that stands from place p of a longer run on
+pub last-k : {k m n : ℕ} → n ≡ min k m → (n ≡ m → ⊥) → n ≡ k
+last-k {k} {m} {n} e h = let l = more-than e h in e ∙ min-eq-left {n = k} {m = m} (omega arith)
 
-mid-part : (b m : ℕ) (s : List Float) → b + m ≤ length s → take m (drop b s) ≡ part b m s
-mid-part b m s h = let d : b + m - b ≡ m = omega arith in rw d at (range-part b (b + m) m s refl h)
+-- ---- a system that stands from place p of a longer run on: what the calls on its places leave
 
-pub solved-at : (p k m : ℕ) (s x : List Float) (ok : Bool) → p + (m * (k + 1) + m) ≤ length s → length x ≡ m * (k + 1) + m
-    → ((a : Matrix) → take (m * (k + 1)) (take (m * (k + 1) + m) (drop p s)) ≡ concat (matrix k a m)
-    → (ok ≡ sound k a m) × (ok ≡ true → (take (m * (k + 1)) x ≡ concat (rows k a m)) × (take m (drop (m * (k + 1)) x) ≡ solve k (rows k a m) (take m (drop (m * (k + 1)) (take (m * (k + 1) + m) (drop p s)))))))
-    → Solved p k m s (putBack p (m * (k + 1) + m) s x) ok
-solved-at p k m s x ok room e h =
+module _ (p : ℕ) (s : List Float) {k m : ℕ} {x : List Float} {ok : Bool} (room : p + (m * (k + 1) + m) ≤ length s) (d : Decomposed k m (take (m * (k + 1) + m) (drop p s)) x ok) where
+  places : length x ≡ m * (k + 1) + m
+  places = part-size p (m * (k + 1) + m) s x room (d .kept .size)
+
+  head : part 0 (m * (k + 1)) (take (m * (k + 1) + m) (drop p s)) ≡ part p (m * (k + 1)) s
+  head = let z : p + 0 ≡ p = omega arith in rw z at (sub-part p (m * (k + 1) + m) 0 (m * (k + 1)) s room (omega arith))
+
+  pub solved-bad : ok ≡ false → Solved p k m s (putBack p (m * (k + 1) + m) s x) false
+  solved-bad bad = record {
+    kept = kept-put p (m * (k + 1) + m) s x room places nan;
+    answer = λ a g. sym bad ∙ d .answer a (head ∙ g);
+    factor = λ a g y. absurd (clash y refl);
+    solution = λ a g y. absurd (clash y refl);
+  }
+
+  pub solved-good : {x′ : List Float} → ok ≡ true → Substituted k m (take (m * (k + 1) + m) (drop p (putBack p (m * (k + 1) + m) s x))) x′
+      → Solved p k m s (putBack p (m * (k + 1) + m) (putBack p (m * (k + 1) + m) s x) x′) true
+  solved-good {x′} good w =
+      let n = m * (k + 1) in
+      let s₁ = putBack p (n + m) s x in
+      let same = mid-put p (n + m) s x room places in
+      let v : Substituted k m x x′ = rw same at w in
+      let room₁ : p + (n + m) ≤ length s₁ = omega (arith, length-put p (n + m) s x room places) in
+      let places′ : length x′ ≡ n + m = v .kept .size ∙ places in
+      let z : p + 0 ≡ p = omega arith in
+      record {
+        kept = kept-then p (n + m) (kept-put p (n + m) s x room places nan) (kept-put p (n + m) s₁ x′ room₁ places′ nan) (omega arith) (omega arith) (omega arith) (omega arith);
+        answer = λ a g. sym good ∙ d .answer a (head ∙ g);
+        factor = λ a g y. rw z at (part-put p (n + m) s₁ x′ room₁ places′ nan 0 n (omega arith)) ∙ part-below nan 0 n (v .kept) (omega arith) ∙ d .factor a (head ∙ g) good;
+        solution = λ a g y.
+            let f = rows k a m in
+            let b = part (p + n) m s in
+            part-put p (n + m) s₁ x′ room₁ places′ nan n m (omega arith)
+            ∙ v .made f (shape-rows k a m) (d .factor a (head ∙ g) good)
+            ∙ ap (λ (u : List Float). back k f (divided k f u) m) (d .side a (head ∙ g) good ∙ ap (λ (u : List Float). forward k f u m) (sub-part p (n + m) n m s room (omega arith)))
+            ∙ sym (solve-is k m f b (length-part (p + n) m s));
+      }
+
+-- a system that a run begins with, and all of the run
+pub solved-run : {k m : ℕ} {s₀ s : List Float} {ok : Bool} → m * (k + 1) + m ≤ length s₀ → Solved 0 k m s₀ s ok
+    → (drop (m * (k + 1) + m) s ≡ drop (m * (k + 1) + m) s₀)
+    × ((a : Matrix) → take (m * (k + 1)) s₀ ≡ concat (matrix k a m)
+    → (ok ≡ sound k a m) × (ok ≡ true → (take (m * (k + 1)) s ≡ concat (rows k a m)) × (take m (drop (m * (k + 1)) s) ≡ solve k (rows k a m) (take m (drop (m * (k + 1)) s₀)))))
+solved-run {k} {m} {s₀} {s} room w =
     let n = m * (k + 1) in
-    let t = take (n + m) (drop p s) in
-    let lt : length t ≡ n + m = length-take-le (n + m) (drop p s) (omega (arith, length-drop p s)) in
-    let d : p + (n + m) - p ≡ n + m = omega arith in
-    let z : p + 0 ≡ p = omega arith in
-    let head : take n t ≡ part p n s = first-part n t (omega arith) ∙ rw (d, z) at (partOf-range nan 0 n p (p + (n + m)) s (omega arith) room (omega arith)) in
-    let side : take m (drop n t) ≡ part (p + n) m s = mid-part n m t (omega arith) ∙ rw d at (partOf-range nan n m p (p + (n + m)) s (omega arith) room (omega arith)) in
-    record {
-      kept = kept-put p (n + m) s x room e nan;
-      answer = λ a g. h a (head ∙ g) .0;
-      factor = λ a g o. (rw z at (part-put p (n + m) s x room e nan 0 n (omega arith))) ∙ sym (first-part n x (omega arith)) ∙ h a (head ∙ g) .1 o .0;
-      solution = λ a g o.
-          part-put p (n + m) s x room e nan n m (omega arith) ∙ sym (mid-part n m x (omega arith)) ∙ h a (head ∙ g) .1 o .1 ∙ ap (solve k (rows k a m)) side;
-    }
+    let size = w .kept .size in
+    let z : 0 + n ≡ n = omega arith in
+    let head : (a : Matrix) → take n s₀ ≡ concat (matrix k a m) → part 0 n s₀ ≡ concat (matrix k a m) = λ a h. sym (first-part n s₀ (omega arith)) ∙ h in (
+      kept-after (n + m) s s₀ size (λ q h. w .kept .above q (omega arith)),
+      λ a h. (
+        w .answer a (head a h),
+        λ y. (first-part n s (omega arith) ∙ w .factor a (head a h) y, mid-is n m s (omega arith) ∙ (rw z at (w .solution a (head a h) y)) ∙ ap (solve k (rows k a m)) (sym (mid-is n m s₀ room))),
+      ),
+    )

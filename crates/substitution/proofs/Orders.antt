@@ -1,10 +1,12 @@
--- Orders 1 and 2, away from the last rows: what the general definition comes to there.
+-- Orders 1 and 2, away from the last rows: what the general definition comes to there. Assumes nothing.
 use mathlib.Core.List.{List}
 use mathlib.Core.Path.{_≡_, refl, sym, ap, _∙_}
 use Prim.Native.Nat.{ℕ, _+_, _-_, _*_, _<_}
 use native.Mathlib.Nat.{min-eq-left}
 use native.Mathlib.Omega.{arith}
-use lib.Ieee.{Float}
+use lib.ListN.{length, set}
+use lib.Seq.{getD-set-same}
+use lib.Ieee.{Float, nan}
 use Rattle.float64.specs.Ops.{_⊖_, _⊗_, _⊘_}
 use Rattle.vectors.specs.Vec.{at}
 use Rattle.banded.specs.Rows.{Matrix, less}
@@ -25,6 +27,9 @@ unfolding less
 back-2 l v i m x h = let z : i + 1 + 0 ≡ i + 1 = omega arith in let o : i + 1 + 1 ≡ i + 2 = omega arith in back-far 2 l v i x m h ∙ rw (z, o)
 
 -- ---- a place of the solution of either order, from the one or two after it
+
+pub at-same : (s : List Float) (q i : ℕ) (x : Float) → i ≡ q → q < length s → at (set s q x) i ≡ x
+at-same s q i x e h = rw e (getD-set-same s q x nan h)
 
 pub step-1 : (s : List Float) (m i : ℕ) (x : Float) → 0 < i → i < m → x ≡ at s (m * 2 + i)
     → at s (m * 2 + i - 1) ⊘ at s (i * 2 - 1) ⊖ at s (i * 2) ⊗ x

@@ -8,12 +8,33 @@ use lib.Ieee.{Float}
 use Rattle.vectors.specs.Vec.{part, Kept}
 use Rattle.banded.specs.Rows.{Matrix, rows, sound, matrix, concat}
 use Rattle.banded.specs.Solve.{divided, back, solve}
-use Rattle.banded.specs.Run.{Holds, Stands}
+use Rattle.banded.specs.Run.{Shape, Holds, Stands}
+
+-- a run of n places has the room for m rows and their right side, and there is a row
+pub record Fits (k m n : ℕ) : Type 0 where
+  pub some : 1 ≤ m
+  pub room : m * (k + 1) + m ≤ n
+
+-- once the last `from` places are done, the last `to` are to be
+pub record Stretch (k m from to n : ℕ) : Type 0 where
+  pub fits : Fits k m n
+  pub rising : from ≤ to
+  pub most : to ≤ m
 
 -- s is s₀ but for the last t of the m places after the rows, which are now divided by the pivots and carried back
 pub record Backed (k m t : ℕ) (s₀ s : List Float) : Type 0 where
   pub kept : Kept (m * (k + 1) + (m - t)) t s₀ s
   pub made : (f : List (List Float)) (u : List Float) → Holds k m f s₀ → length u ≡ m → Stands (m * (k + 1)) u s₀ → Stands (m * (k + 1) + (m - t)) (back k f (divided k f u) t) s
+
+-- of whatever run s₀ is the last `from` places carried back, s is the last `to`
+pub record Carried (k m from to : ℕ) (s₀ s : List Float) : Type 0 where
+  pub size : length s ≡ length s₀
+  pub done : (v : List Float) → Backed k m from v s₀ → Backed k m to v s
+
+-- whatever m rows f of a factor s₀ begins with, s is s₀ but for the m places after them, which are now divided by the pivots and carried back
+pub record Substituted (k m : ℕ) (s₀ s : List Float) : Type 0 where
+  pub kept : Kept (m * (k + 1)) m s₀ s
+  pub made : (f : List (List Float)) → Shape k m f → part 0 (m * (k + 1)) s₀ ≡ concat f → part (m * (k + 1)) m s ≡ back k f (divided k f (part (m * (k + 1)) m s₀)) m
 
 -- s₀ holds, from place p on, the m rows of a matrix and then a right side. ok says whether the pivots of its factor are all good. If so s holds the factor's rows in the place of the matrix's, and the solution in the place of the right side. All places but those of the system stay.
 pub record Solved (p k m : ℕ) (s₀ s : List Float) (ok : Bool) : Type 0 where
@@ -22,11 +43,3 @@ pub record Solved (p k m : ℕ) (s₀ s : List Float) (ok : Bool) : Type 0 where
   pub factor : (a : Matrix) → part p (m * (k + 1)) s₀ ≡ concat (matrix k a m) → ok ≡ true → part p (m * (k + 1)) s ≡ concat (rows k a m)
   pub solution : (a : Matrix) → part p (m * (k + 1)) s₀ ≡ concat (matrix k a m) → ok ≡ true
       → part (p + m * (k + 1)) m s ≡ solve k (rows k a m) (part (p + m * (k + 1)) m s₀)
-
--- what a caller in another language may ask for: order 1 or 2, and a system that has its places in a run of n
-pub record Room (k m n : ℕ) : Type 0 where
-  pub least : 1 ≤ k
-  pub most : k ≤ 2
-  pub some : 1 ≤ m
-  pub few : m ≤ 65536
-  pub places : m * (k + 1) + m ≤ n

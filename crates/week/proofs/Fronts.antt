@@ -6,18 +6,19 @@ use mathlib.Core.List.{List, _++_}
 use lib.ListN.{length, drop, getD, List·getD-append}
 use lib.Ieee.{Float, nan}
 use Rattle.vectors.specs.Vec.{put}
-use Rattle.listing.specs.Listing.{hourLine, hourLines, knotLine, knotLines}
+use Rattle.listing.specs.Listing.{lines, hourLine, hourLines, knotLine, knotLines}
 
 at-front : {A : Type 0} (t s : List A) (x : A) (i : ℕ) → i < length t → getD (put s 0 t) i x ≡ getD t i x
 at-front t s x i h = List·getD-append t (drop (0 + length t) s) x i h
 
+-- lines that are equal are listed alike
+same-lines : (f g : ℕ → List ℕ) (n : ℕ) → ((i : ℕ) → i < n → f i ≡ g i) → lines f n ≡ lines g n
+unfolding lines
+same-lines f g zero h = refl
+same-lines f g (suc n) h = ap₂ (λ (x y : List ℕ). x ++ y) (same-lines f g n (λ i k. h i (omega arith))) (h n (omega arith))
+
 pub hours-front : (t c s u : List Float) (n : ℕ) → n ≤ length t → n ≤ length c → hourLines (put s 0 t) (put u 0 c) n ≡ hourLines t c n
-unfolding hourLines
-hours-front t c s u zero h k = refl
-hours-front t c s u (suc n) h k =
-    ap₂ (λ (x y : List ℕ). x ++ y) (hours-front t c s u n (omega arith) (omega arith)) (ap₂ (hourLine n) (at-front t s nan n h) (at-front c u nan n k))
+hours-front t c s u n h k = same-lines _ _ n (λ i l. ap₂ (hourLine i) (at-front t s nan i (omega arith)) (at-front c u nan i (omega arith)))
 
 pub knots-front : (t s : List ℕ) (n : ℕ) → n ≤ length t → knotLines (put s 0 t) n ≡ knotLines t n
-unfolding knotLines
-knots-front t s zero h = refl
-knots-front t s (suc n) h = ap₂ (λ (x y : List ℕ). x ++ y) (knots-front t s n (omega arith)) (ap knotLine (at-front t s 0 n h))
+knots-front t s n h = same-lines _ _ n (λ i l. ap knotLine (at-front t s 0 i (omega arith)))

@@ -23,12 +23,14 @@ use Rattle.active_set.specs.ActiveSet.{holdAt, freeTo, compressed, lessTo, righ
 use Rattle.polish.specs.Polish.{candidateAt, candidate, polish}
 use Rattle.l2.specs.L2.{soundL2, trendL2, scaled, objectiveL2, dualL2, gapL2}
 use Rattle.questions.specs.Questions.{finiteTo, sizes, values, room, question}
-use Rattle.fit.specs.Fit.{closed, fitL2, fitZero, fitFlat, polished, searchOf, keptOf, firstGap, fitEnd, fitL1, fitBy, fit}
+use Rattle.fit.specs.Fit.{pathL2, pathZero, pathFlat, polished, searchOf, keptOf, firstGap, pathEnd, pathL1, path, written, outcome, fit}
 use lib.Ieee.{toBits}
-use Rattle.records.specs.Bytes.{four·at, eight·at, signed32}
-use Rattle.records.specs.Records.{headAt, recordsAt, records, countKind, hoursOf}
-use Rattle.records.specs.Week.{readWeek, askRecords, settingsAt}
-use Rattle.listing.specs.Listing.{decimalIn, decimal, hexOf, field, hexField, hourLine, knotLine, hourLines, knotLines, three, fitLine, numbersLine, listingOf, refusedLine}
+use Rattle.framing.specs.Bytes.{littleEndian, signed32}
+use Rattle.framing.specs.Frames.{recordsPast}
+use Rattle.records.specs.Entries.{settingsIn, entryOf, entries, slotsOf, countSettings, hoursOf}
+use Rattle.records.specs.Week.{readWeek, askEntries}
+use Rattle.fields.specs.Fields.{decimalIn, decimal, hexOf, field, hexField}
+use Rattle.listing.specs.Listing.{hourLine, knotLine, lines, three, fitLine, numbersLine, listingOf, refusedLine}
 use Rattle.trend_filter.specs.Answers.{summaryOf}
 use Rattle.week.specs.Printed.{outcomeText, fitText}
 use Rattle.week.specs.Week.{answerText, weekText}
@@ -71,5 +73,5 @@ expected [] = []
 expected (p ∷ ps) = p .1 ∷ expected ps
 
 known : printed table ≡ expected table
-unfolding table printed expected weekText answerText outcomeText fitText summaryOf readWeek askRecords settingsAt records recordsAt headAt countKind hoursOf four·at eight·at signed32 toBits decimalIn decimal hexOf field hexField hourLine knotLine hourLines knotLines three fitLine numbersLine listingOf refusedLine absOf isFinite maxOf minOf clampOf isqrtOf isqrt nearestRoot sqrtOf list sumTo maxTo norm2Sq dot sumAbs maxAbs diff diffK diffT diffKT less taken rest entry rowTo row rows sound forwardAt forward divided backAt back solve gram more product zstar lamMax ridge minus clamped certify threshold aboveTo knots iterate run barrier rightAt dmu1At dmu2At squareAt capped system right direction squares norm capTo stepped along insideTo accepted trials newtonZ searchLine nextT move problem origin interiorPoint holdAt freeTo compressed lessTo rightOf solved candidateAt candidate polish soundL2 trendL2 scaled objectiveL2 dualL2 gapL2 finiteTo sizes values room question closed fitL2 fitZero fitFlat polished searchOf keptOf firstGap fitEnd fitL1 fitBy fit ofBits ofInt add sub mul div neg lt le eq isNan
+unfolding table printed expected weekText answerText outcomeText fitText summaryOf readWeek askEntries entries entryOf settingsIn slotsOf countSettings hoursOf recordsPast littleEndian signed32 toBits decimalIn decimal hexOf field hexField hourLine knotLine lines three fitLine numbersLine listingOf refusedLine absOf isFinite maxOf minOf clampOf isqrtOf isqrt nearestRoot sqrtOf list sumTo maxTo norm2Sq dot sumAbs maxAbs diff diffK diffT diffKT less taken rest entry rowTo row rows sound forwardAt forward divided backAt back solve gram more product zstar lamMax ridge minus clamped certify threshold aboveTo knots iterate run barrier rightAt dmu1At dmu2At squareAt capped system right direction squares norm capTo stepped along insideTo accepted trials newtonZ searchLine nextT move problem origin interiorPoint holdAt freeTo compressed lessTo rightOf solved candidateAt candidate polish soundL2 trendL2 scaled objectiveL2 dualL2 gapL2 finiteTo sizes values room question pathL2 pathZero pathFlat polished searchOf keptOf firstGap pathEnd pathL1 path written outcome fit ofBits ofInt add sub mul div neg lt le eq isNan
 known = refl

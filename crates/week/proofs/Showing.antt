@@ -1,6 +1,6 @@
 -- From the answers of `read_week` and of the fit to the text. Assumes nothing.
 use mathlib.Core.Path.{_≡_, refl, sym, ap, ap₂, _∙_, subst}
-use mathlib.Core.Bool.{Bool, true, false, cond, _&&_}
+use mathlib.Core.Bool.{Bool, true, false, cond}
 use Prim.Native.Nat.{ℕ, _+_, _≤_}
 use native.Mathlib.Omega.{arith}
 use mathlib.Core.List.{List, [], _∷_}
@@ -13,8 +13,9 @@ use borrow.Author.Tests.{leb-true}
 use Rattle.io.specs.Counts.{Counts}
 use Rattle.vectors.specs.Vec.{Wrote}
 use Rattle.vectors.proofs.Texts.{wrote-length}
-use Rattle.records.specs.Records.{Rec, rec, records, countKind, hoursOf}
-use Rattle.records.specs.Week.{readWeek, askRecords, settingsAt, answer, series}
+use Rattle.records.specs.Entries.{Slot, Entry, slot, settings, slotsOf, countSettings, hoursOf}
+use Rattle.records.specs.Week.{readWeek, askEntries, entriesIn}
+use Rattle.records.specs.Reading.{answer, Reads}
 use Rattle.records.specs.Week as read
 use Rattle.records.specs.declared.Settings.{Settings}
 use Rattle.records.specs.declared.Week.the-variants as week
@@ -39,53 +40,57 @@ wrote-counts {d} {t} {e} {at} {r} w =
 -- a week that is taken has at most 168 hours
 abbrev Short : read.Answer → Type 0
 Short (read.refused k) = Unit
-Short (read.taken st hs) = length hs ≤ 168
+Short (read.taken st ws) = length (hoursOf ws) ≤ 168
 
 cond-case : (P : read.Answer → Type 0) (b : Bool) (x y : read.Answer) → (b ≡ true → P x) → P y → P (cond b x y)
 cond-case P true x y f g = f refl
 cond-case P false x y f g = g
 
-ask-short : (s : List ℕ) (o : Option (List Rec)) → Short (askRecords s o)
-unfolding askRecords
-ask-short s none = tt
-ask-short s (some []) = tt
-ask-short s (some (rec k b ∷ rs)) =
-    cond-case Short (eqb k 3 && eqb (countKind 3 rs) 0) _ _
-    (λ _. cond-case Short (leb (length (hoursOf s rs)) 168) (read.taken (settingsAt s b) (hoursOf s rs)) (read.refused 13) (λ e. leb-true _ _ e) tt) tt
+ask-short : (o : Option (List Entry)) → Short (askEntries o)
+unfolding askEntries
+ask-short none = tt
+ask-short (some []) = tt
+ask-short (some (slot w ∷ es)) = tt
+ask-short (some (settings st ∷ es)) =
+    cond-case Short (eqb (countSettings es) 0) _ _
+    (λ _. cond-case Short (leb (length (hoursOf (slotsOf es))) 168) (read.taken st (slotsOf es)) (read.refused 13) (λ e. leb-true _ _ e) tt) tt
 
 short : (s : List ℕ) → Short (readWeek s)
 unfolding readWeek
-short s = cond-case Short (ltb 4096 (length s)) (read.refused 11) (askRecords s (records s)) (λ _. tt) (ask-short s (records s))
+short s = cond-case Short (ltb 4096 (length s)) (read.refused 11) (askEntries (entriesIn s)) (λ _. tt) (ask-short (entriesIn s))
 
 -- what an answer of `read_week` says
 was-refused : (a : read.Answer) {k : ℕ} → week.Refused k ≡ answer a → a ≡ read.refused k
 was-refused (read.refused j) e = ap read.refused (sym (let f : _ ≡ j = cc in f))
-was-refused (read.taken st hs) e = let z : _≡_ {A = ℕ} 0 1 = cc in absurd (omega arith)
+was-refused (read.taken st ws) e = let z : _≡_ {A = ℕ} 0 1 = cc in absurd (omega arith)
 
 pub record Taken (a : read.Answer) (st : Settings) (n : ℕ) (z : List Float) : Type 0 where
-  pub hours : List Float
-  pub week : a ≡ read.taken st hours
-  pub count : n ≡ length hours
-  pub front : take n z ≡ hours
+  pub slots : List Slot
+  pub week : a ≡ read.taken st slots
+  pub count : n ≡ length (hoursOf slots)
+  pub front : take n z ≡ hoursOf slots
   pub room : n ≤ length z
   pub few : n ≤ 168
 
-was-taken : (a : read.Answer) (y : List Float) {st : Settings} {n : ℕ} {z : List Float} → week.Read st n ≡ answer a → z ≡ series a y → Short a → Taken a st n z
-was-taken (read.refused j) y e p h = let z : _≡_ {A = ℕ} 0 1 = cc in absurd (omega arith)
-was-taken (read.taken sd hs) y {st} {n} {z} e p h =
+was-taken : (a : read.Answer) (y : List Float) {st : Settings} {n : ℕ} {z : List Float} → Reads a (week.Read st n) y z → Short a → Taken a st n z
+was-taken (read.refused j) y r h = let e = r .said in let z : _≡_ {A = ℕ} 0 1 = cc in absurd (omega arith)
+was-taken (read.taken sd ws) y {st} {n} {z} r h =
+    let e = r .said in
+    let p = r .wrote in
+    let hs = hoursOf ws in
     let es : sd ≡ st = cc in
     let en : n ≡ length hs = cc in
     record {
-      hours = hs;
-      week = ap (λ (x : Settings). read.taken x hs) es;
+      slots = ws;
+      week = ap (λ (x : Settings). read.taken x ws) es;
       count = en;
       front = ap₂ (λ (i : ℕ) (l : List Float). take i l) en p ∙ take-append-seam hs (drop (0 + length hs) y);
       room = omega (arith, en, ap length p, length-append hs (drop (0 + length hs) y));
       few = omega arith;
     }
 
-pub taken-week : (s : List ℕ) (y : List Float) {st : Settings} {n : ℕ} {z : List Float} → week.Read st n ≡ answer (readWeek s) → z ≡ series (readWeek s) y → Taken (readWeek s) st n z
-taken-week s y e p = was-taken (readWeek s) y e p (short s)
+pub taken-week : (s : List ℕ) (y : List Float) {st : Settings} {n : ℕ} {z : List Float} → Reads (readWeek s) (week.Read st n) y z → Taken (readWeek s) st n z
+taken-week s y r = was-taken (readWeek s) y r (short s)
 
 -- the text of a week
 pub text-refused : (s : List ℕ) {k : ℕ} → week.Refused k ≡ answer (readWeek s) → weekText s ≡ refusedLine k
@@ -121,14 +126,23 @@ was-fit st y (fitted f) t₀ c₀ k₀ {r} {s} {t} {c} {k} g e h =
       few = omega (arith, l .knots);
     })
 
--- the fit with what the program lends
-module _ (st : Settings) (y : List Float) (l : Lent) where
-  pub fit-listed : {r : Answer} {s : Summary} {t₀ t c₀ c : List Float} {k₀ k : List ℕ} → r ≡ fits.Fit s → Gives (fit (asked st y) l) r t₀ t c₀ c k₀ k → lent ≡ l → Listed st y s t c k
-  fit-listed {r} {s} {t₀} {t} {c₀} {c} {k₀} {k} e h g = was-fit st y (fit (asked st y) l) t₀ c₀ k₀ (ap (fit (asked st y)) g) e h
+-- a call of the fit with what the program lends: its answer, and the places that it left
+pub record Fitted (st : Settings) (y : List Float) (r : Answer) (t c : List Float) (k : List ℕ) : Type 0 where
+  trend : List Float
+  cycle : List Float
+  knots : List ℕ
+  gives : Gives (fit (asked st y) lent) r trend t cycle c knots k
 
-  pub fit-refused : {r : Answer} {j : ℕ} {t₀ t c₀ c : List Float} {k₀ k : List ℕ} → r ≡ fits.Refused j → Gives (fit (asked st y) l) r t₀ t c₀ c k₀ k → lent ≡ l → fitText st y ≡ refusedLine j
+pub fits-lent : (st : Settings) (y : List Float) (l : Lent) {r : Answer} {t₀ t c₀ c : List Float} {k₀ k : List ℕ} → Gives (fit (asked st y) l) r t₀ t c₀ c k₀ k → lent ≡ l → Fitted st y r t c k
+fits-lent st y l {r} {t₀} {t} {c₀} {c} {k₀} {k} h g = record { trend = t₀; cycle = c₀; knots = k₀; gives = subst (λ (x : Lent). Gives (fit (asked st y) x) r t₀ t c₀ c k₀ k) (sym g) h }
+
+module _ {st : Settings} {y : List Float} {r : Answer} {t c : List Float} {k : List ℕ} (f : Fitted st y r t c k) where
+  pub fit-listed : {s : Summary} → r ≡ fits.Fit s → Listed st y s t c k
+  fit-listed {s} e = was-fit st y (fit (asked st y) lent) (f .trend) (f .cycle) (f .knots) refl e (f .gives)
+
+  pub fit-refused : {j : ℕ} → r ≡ fits.Refused j → fitText st y ≡ refusedLine j
   unfolding fitText
-  fit-refused e h g = ap (λ (x : Lent). outcomeText st (length y) (fit (asked st y) x)) g ∙ was-no-fit st (length y) (fit (asked st y) l) (sym e ∙ h .answer)
+  fit-refused e = was-no-fit st (length y) (fit (asked st y) lent) (sym e ∙ f .gives .answer)
 
 pub lent-is : {t c k w m : ℕ} → 168 ≡ t → 168 ≡ c → 168 ≡ k → 6720 ≡ w → 336 ≡ m → lent ≡ record { trend = t; cycle = c; knots = k; work = w; marks = m }
 lent-is et ec ek ew em = rw (sym et, sym ec, sym ek, sym ew, sym em)

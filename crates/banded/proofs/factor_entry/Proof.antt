@@ -30,7 +30,7 @@ get-requires c κs = let a = c .before .before .args in
 
 loop-holds : tie.Need-loop-holds Inv-loop μ-loop
 unfolding less
-loop-holds c = (search needs, search needs, rw (c .first .ensures, sub-self) (c .before .get .ensures))
+loop-holds c = (search needs, search needs, rw (c .over .ensures, sub-self) (c .before .get .ensures))
 
 get-requires-3 : tie.Need-get-requires-3 Inv-loop μ-loop
 get-requires-3 c κs = let a = c .before .before .before .before .before .before .before .args in

@@ -21,7 +21,7 @@ abbrev μ-loop : tie.MeasureT-loop
 
 loop-holds : tie.Need-loop-holds Inv-loop μ-loop
 unfolding less
-loop-holds c = (search needs, search needs, rw (c .first .ensures, sub-self))
+loop-holds c = (search needs, search needs, rw (c .over .ensures, sub-self))
 
 loop-again : tie.Need-loop-again Inv-loop μ-loop
 unfolding less

@@ -1,9 +1,9 @@
 use mathlib.Core.Path.{_≡_, refl, sym, ap, _∙_}
 use mathlib.Core.List.{List}
-use Prim.Native.Nat.{ℕ, _≤_, _-_, _+_}
+use Prim.Native.Nat.{_≤_, _-_, _+_}
 use native.Mathlib.Nat.{zero-add}
 use native.Mathlib.Omega.{arith}
-use lib.ListN.{length, take, drop}
+use lib.ListN.{length}
 use lib.Ieee.{Float}
 use Rattle.float64.specs.Ops.{_⊗_}
 use Rattle.float64.specs.Helpers.{absOf}
@@ -28,28 +28,29 @@ unfolding sumTo
 loop-holds c = (search needs, refl, refl)
 
 loop-again : tie.Need-loop-again Inv-loop μ-loop
-loop-again c = let l = c .before .before .before .before .before .before .loop in
-    let a = c .before .before .before .before .before .before .before .before .before .args in
+loop-again c = let ab = c .before .before in
+    let lp = ab .before .before .before .before in
+    let a = lp .before .before .before .args in
     let s = a .s .now in
     let n = a .n in
-    let p : take (n - 0) (drop 0 s) ≡ part 0 n s = range-part 0 n n s (sym (zero-add n)) (omega arith) in
-    let r : c .before .before .abs .result ≡ absOf (at (diffK (a .k) (part 0 n s)) (l .i)) =
-    c .before .before .abs .ensures ∙ ap absOf (c .before .before .before .diff-at .ensures ∙ ap (λ (q : List Float). at (diffK (a .k) q) (l .i)) p) in
-    let t : at (part n (n - a .k) s) (l .i) ≡ at s (n + l .i) = at-part n (n - a .k) s (l .i) (n + l .i) (omega arith) refl in (
+    let l = lp .loop in
+    let p = range-part 0 n n s (sym (zero-add n)) (omega arith) in
+    let d = ab .before .diff-at .ensures ∙ ap (λ (q : List Float). at (diffK (a .k) q) (l .i)) p in
+    let z = at-part n (n - a .k) s (l .i) (n + l .i) (omega arith) refl in (
       search needs,
-      sum-more (λ j. absOf (at (diffK (a .k) (part 0 n s)) j)) (l .i) (l .a) _ (l .inv .1) r,
-      sum-more (λ j. at (part n (n - a .k) s) j ⊗ at (a .dy .now) j) (l .i) (l .b) _ (l .inv .2) (ap (λ (x : Float). x ⊗ at (a .dy .now) (l .i)) (sym t)),
+      sum-more _ _ _ _ (l .inv .1) (ab .abs .ensures ∙ ap absOf d),
+      sum-more _ _ _ _ (l .inv .2) (ap (λ (x : Float). x ⊗ at (a .dy .now) (l .i)) (sym z)),
     )
 
 returns : tie.Need-returns Inv-loop μ-loop
 unfolding sumAbs dot
-returns c = let l = c .before .loop in
-    let a = c .before .before .before .before .args in
-    let s = a .s .now in
-    let n = a .n in
-    let e : l .i ≡ n - a .k = omega arith in
-    let f : length (diffK (a .k) (part 0 n s)) ≡ n - a .k = length-diffK (a .k) (part 0 n s) ∙ omega (arith, length-part 0 n s) in
-    (l .inv .1 ∙ rw (e, f), l .inv .2 ∙ rw (e, length-part n (n - a .k) s))
+returns c = let lp = c .before in
+    let a = lp .before .before .before .args in
+    let x = part 0 (a .n) (a .s .now) in
+    let z = part (a .n) (a .n - a .k) (a .s .now) in
+    let e : lp .loop .i ≡ length (diffK (a .k) x) = omega (arith, length-diffK (a .k) x, length-part 0 (a .n) (a .s .now)) in
+    let f : lp .loop .i ≡ length z = omega (arith, length-part (a .n) (a .n - a .k) (a .s .now)) in
+    (rw e at (lp .loop .inv .1), rw f at (lp .loop .inv .2))
 
 pub add-up-spec : {M : Type 1} → statement M
 add-up-spec =

@@ -1,5 +1,5 @@
 use mathlib.Core.Path.{_≡_, refl, sym, ap, _∙_}
-use Prim.Native.Nat.{ℕ, _≤_, _-_, _+_}
+use Prim.Native.Nat.{_≤_, _-_}
 use native.Mathlib.Omega.{arith}
 use lib.ListN.{length}
 use lib.Ieee.{Float}
@@ -24,17 +24,17 @@ unfolding sumTo
 loop-holds c = (search needs, refl)
 
 loop-again : tie.Need-loop-again Inv-loop μ-loop
-loop-again c = let l = c .before .before .before .before .loop in
-    let a = c .before .before .before .before .before .before .before .args in
-    let r = c .before .clamp .ensures ∙ sym (at-clamped (a .lam) (a .z .now) (l .i) (omega arith)) in
-    (search needs, sum-more (λ j. at (clamped (a .lam) (a .z .now)) j ⊗ at (a .dy .now) j) (l .i) (l .a) _ (l .inv .1) (ap (λ (x : Float). x ⊗ at (a .dy .now) (l .i)) r))
+loop-again c = let lp = c .before .before .before .before in
+    let a = lp .before .before .before .args in
+    let r = c .before .clamp .ensures ∙ sym (at-clamped (a .lam) (a .z .now) (lp .loop .i) (omega arith)) in
+    (search needs, sum-more _ _ _ _ (lp .loop .inv .1) (ap (λ (x : Float). x ⊗ at (a .dy .now) (lp .loop .i)) r))
 
 returns : tie.Need-returns Inv-loop μ-loop
 unfolding dot
-returns c = let l = c .before .loop in
-    let a = c .before .before .before .before .args in
-    let e : l .i ≡ length (a .z .now) = omega arith in
-    l .inv .1 ∙ rw (e, length-clamped (a .lam) (a .z .now))
+returns c = let lp = c .before in
+    let a = lp .before .before .before .args in
+    let e : lp .loop .i ≡ length (clamped (a .lam) (a .z .now)) = omega (arith, length-clamped (a .lam) (a .z .now)) in
+    rw e at (lp .loop .inv .1)
 
 pub dot-clamped-spec : {M : Type 1} → statement M
 dot-clamped-spec =

@@ -9,10 +9,11 @@ use Rattle.certificate.proofs.dual_of.Statement.{statement}
 use Rattle.certificate.proofs.dual_of.Tie as tie
 
 returns : tie.Need-returns
-returns c = let a = c .before .before .before .before .args in
-    let p = c .before .before .before .before .pre in
+returns c = let st = c .before .before .before .before in
+    let a = st .args in
+    let p = st .pre in
     let h : inside (a .lam) (a .z .now) ≡ true = sym (c .before .inside .ensures) ∙ c .if1 .taken in
-    rw (clamped-inside (a .lam) (a .z .now) h) (ap₂ (λ (u v : Float). neg half ⊗ u ⊕ v) (p .1 .1 .1 .0) (p .1 .1 .1 .1))
+    rw (clamped-inside (a .lam) (a .z .now) h) (ap₂ (λ (u v : Float). neg half ⊗ u ⊕ v) (p .squared) (p .multiplied))
 
 returns-2 : tie.Need-returns-2
 returns-2 c = rw (c .before .sum-clamped .ensures, c .dot-clamped .ensures)

@@ -1,5 +1,5 @@
-use mathlib.Core.Path.{_≡_, refl, sym, ap, _∙_}
-use Prim.Native.Nat.{ℕ, _≤_, _-_, _+_}
+use mathlib.Core.Path.{_≡_, refl, ap}
+use Prim.Native.Nat.{_≤_, _-_, _+_}
 use native.Mathlib.Omega.{arith}
 use lib.ListN.{length}
 use lib.Ieee.{Float}
@@ -26,19 +26,14 @@ unfolding sumTo
 loop-holds c = (search needs, refl)
 
 loop-again : tie.Need-loop-again Inv-loop μ-loop
-loop-again c = let l = c .before .before .loop in
-    let a = c .before .before .before .before .args in
-    let v = diffKT (a .k) (clamped (a .lam) (a .z .now)) in
-    (search needs, sum-more (λ i. at v i ⊗ at v i) (l .j) (l .a) _ (l .inv .1) (ap (λ (x : Float). x ⊗ x) (c .clamped-at .ensures)))
+loop-again c = (search needs, sum-more _ _ _ _ (c .before .before .loop .inv .1) (ap (λ (x : Float). x ⊗ x) (c .clamped-at .ensures)))
 
 returns : tie.Need-returns Inv-loop μ-loop
 unfolding norm2Sq
-returns c = let l = c .before .loop in
-    let a = c .before .before .before .args in
+returns c = let a = c .before .before .before .args in
     let v = clamped (a .lam) (a .z .now) in
-    let e : l .j ≡ length (a .z .now) + a .k = omega arith in
-    let f : length (diffKT (a .k) v) ≡ length (a .z .now) + a .k = length-diffKT (a .k) v ∙ omega (arith, length-clamped (a .lam) (a .z .now)) in
-    l .inv .1 ∙ rw (e, f)
+    let e : c .before .loop .j ≡ length (diffKT (a .k) v) = omega (arith, length-diffKT (a .k) v, length-clamped (a .lam) (a .z .now)) in
+    rw e at (c .before .loop .inv .1)
 
 pub sum-clamped-spec : {M : Type 1} → statement M
 sum-clamped-spec =

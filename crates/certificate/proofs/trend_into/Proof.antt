@@ -1,11 +1,11 @@
 use mathlib.Core.Path.{_≡_, refl, sym, ap, _∙_}
 use mathlib.Core.List.{List}
-use Prim.Native.Nat.{ℕ, _≤_, _-_, _+_}
+use Prim.Native.Nat.{_≤_, _-_}
 use native.Mathlib.Omega.{arith}
-use lib.ListN.{length, take, drop}
+use lib.ListN.{length}
 use lib.Ieee.{Float}
 use Rattle.float64.specs.Ops.{_⊖_, _⊗_}
-use Rattle.vectors.specs.Vec.{at, part, Written}
+use Rattle.vectors.specs.Vec.{at, Written}
 use Rattle.vectors.specs.Sums.{sumTo, norm2Sq}
 use Rattle.vectors.proofs.Laws.{none, up, front}
 use Rattle.vectors.proofs.Parts.{first-part, length-part}
@@ -31,36 +31,36 @@ unfolding sumTo
 loop-holds c = (search needs, none, refl)
 
 loop-again : tie.Need-loop-again Inv-loop μ-loop
-loop-again c = let l = c .before .before .before .before .before .loop in
-    let a = c .before .before .before .before .before .before .before .before .args in
+loop-again c = let lp = c .before .before .before .before .before in
+    let a = lp .before .before .before .args in
+    let l = lp .loop in
     let y = a .y .now in
     let n = length y in
     let m = n - a .k in
     let w = l .inv .1 in
     let size = w .size in
-    let v = diffKT (a .k) (dualOf (a .k) y (a .s .now)) in
-    let b : take (n + m - n) (drop n (l .s)) ≡ part n m (a .s .now) = behind n m (l .j) (λ i. at y i ⊖ at v i) (a .s .now) (l .s) w (omega arith) (omega arith) in
-    let r : c .before .diff-t-at .result ≡ at v (l .j) = c .before .diff-t-at .ensures ∙ ap (λ (q : List Float). at (diffKT (a .k) q) (l .j)) b in (
+    let b = behind n m (l .j) _ (a .s .now) (l .s) w (omega arith) (omega arith) in
+    let r = c .before .diff-t-at .ensures ∙ ap (λ (q : List Float). at (diffKT (a .k) q) (l .j)) b in (
       search needs,
       up w (omega arith) (omega arith) (ap (λ (x : Float). at y (l .j) ⊖ x) r),
-      sum-more (λ i. at v i ⊗ at v i) (l .j) (l .a) _ (l .inv .2) (ap (λ (x : Float). x ⊗ x) r),
+      sum-more _ _ _ _ (l .inv .2) (ap (λ (x : Float). x ⊗ x) r),
     )
 
 returns : tie.Need-returns Inv-loop μ-loop
 unfolding minus norm2Sq
-returns c = let l = c .before .loop in
-    let a = c .before .before .before .before .args in
+returns c = let lp = c .before in
+    let a = lp .before .before .before .args in
+    let l = lp .loop in
     let y = a .y .now in
     let n = length y in
     let z = dualOf (a .k) y (a .s .now) in
-    let v = diffKT (a .k) z in
     let e : l .j ≡ n = omega arith in
-    let w : Written 0 n (λ i. at y i ⊖ at v i) (a .s .now) (l .s) = rw e at (l .inv .1) in
+    let f : l .j ≡ length (diffKT (a .k) z) = omega (arith, length-diffKT (a .k) z, length-part n (n - a .k) (a .s .now)) in
+    let w = rw e at (l .inv .1) in
     let size = w .size in
-    let f : length v ≡ n = length-diffKT (a .k) z ∙ omega (arith, length-part n (n - a .k) (a .s .now)) in
     record {
       trend = sym (first-part n (l .s) (omega arith)) ∙ front w (omega arith);
-      squared = l .inv .2 ∙ rw (e, f);
+      squared = rw f at (l .inv .2);
       kept = record { size = w .size; below = λ j h. absurd (omega arith); above = λ j h. w .above j (omega arith) };
     }
 

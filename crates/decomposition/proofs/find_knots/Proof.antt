@@ -1,6 +1,5 @@
-use mathlib.Core.Path.{_≡_, refl, ap, _∙_}
-use Prim.Native.Nat.{ℕ, _+_, _-_, _≤_}
-use native.Mathlib.Nat.{zero-add}
+use mathlib.Core.Path.{_≡_}
+use Prim.Native.Nat.{_-_, _≤_}
 use native.Mathlib.Omega.{arith}
 use lib.ListN.{length}
 use Rattle.vectors.specs.Vec.{Wrote}
@@ -24,24 +23,29 @@ unfolding aboveTo
 loop-holds c = (search needs, search needs, wrote-none _ 0 (search needs))
 
 add-knot-requires : tie.Need-add-knot-requires Inv-loop μ-loop
-add-knot-requires c κs = let l = c .before .before .before .loop in
-    let a = c .before .before .before .before .before .before .before .before .args in
-    (omega (arith, l .inv .2 .next, above-few (c .before .before .before .before .threshold .result) (diffK (a .k) (a .x .now)) (l .i)), omega arith)
+add-knot-requires c κs = let lp = c .before .before .before in
+    let th = lp .before in
+    let a = th .before .before .before .before .args in
+    let l = lp .loop in
+    (omega (arith, l .inv .2 .next, above-few (th .threshold .result) (diffK (a .k) (a .x .now)) (l .i)), omega arith)
 
 loop-again : tie.Need-loop-again Inv-loop μ-loop
-loop-again c = let l = c .before .before .before .before .before .before .loop in
-    let start = c .before .before .before .before .before .before .before .before .before .before .before in
-    let w = above-more (c .before .before .before .before .before .before .before .threshold .result) (diffK (start .args .k) (start .args .x .now)) (l .i) _ (l .inv .2) (c .before .before .before .before .diff-at .ensures) (c .before .before .add-knot .ensures) in
+loop-again c = let kn = c .before .before in
+    let di = kn .before .before in
+    let lp = di .before .before in
+    let th = lp .before in
+    let a = th .before .before .before .before .args in
+    let l = lp .loop in
+    let w = above-more (th .threshold .result) (diffK (a .k) (a .x .now)) (l .i) _ (l .inv .2) (di .diff-at .ensures) (kn .add-knot .ensures) in
     (search needs, wrote-length w, w)
 
 returns : tie.Need-returns Inv-loop μ-loop
 unfolding knots
 returns c = let l = c .before .loop in
-    let start = c .before .before .before .before .before .before in
-    let d = diffK (start .args .k) (start .args .x .now) in
-    let e : l .i ≡ length d = omega (arith, length-diffK (start .args .k) (start .args .x .now)) in
-    let w : Wrote (start .args .knots .now) 0 (knots (start .args .k) (start .args .y .now) d) (l .knots) (l .n) = rw (e, c .before .before .threshold .ensures) at (l .inv .2) in
-    (w .next ∙ zero-add (length (knots (start .args .k) (start .args .y .now) d)), w .text)
+    let th = c .before .before in
+    let a = th .before .before .before .before .args in
+    let e : l .i ≡ length (diffK (a .k) (a .x .now)) = omega (arith, length-diffK (a .k) (a .x .now)) in
+    rw (e, th .threshold .ensures) at (l .inv .2)
 
 pub find-knots-spec : {M : Type 1} → statement M
 find-knots-spec =

@@ -1,8 +1,7 @@
-use mathlib.Core.Path.{_≡_, refl, sym, ap, _∙_}
-use Prim.Native.Nat.{ℕ, _≤_, _-_, _+_}
+use mathlib.Core.Path.{_≡_, refl, ap, _∙_}
+use Prim.Native.Nat.{_≤_, _-_}
 use native.Mathlib.Omega.{arith}
 use lib.ListN.{length}
-use lib.Ieee.{Float}
 use Rattle.float64.specs.Helpers.{absOf}
 use Rattle.vectors.specs.Vec.{at}
 use Rattle.vectors.specs.Sums.{maxTo, maxAbs}
@@ -24,17 +23,13 @@ unfolding maxTo
 loop-holds c = (search needs, refl)
 
 loop-again : tie.Need-loop-again Inv-loop μ-loop
-loop-again c = let l = c .before .before .before .before .loop in
-    let a = c .before .before .before .before .before .before .args in
-    let r = c .before .abs .ensures ∙ ap absOf (c .before .before .diff-at .ensures) in
-    (search needs, c .max .ensures ∙ max-more (λ j. absOf (at (diffK (a .k) (a .y .now)) j)) (l .i) (l .top) _ (l .inv .1) r)
+loop-again c = (search needs, c .max .ensures ∙ max-more _ _ _ _ (c .before .before .before .before .loop .inv .1) (c .before .abs .ensures ∙ ap absOf (c .before .before .diff-at .ensures)))
 
 returns : tie.Need-returns Inv-loop μ-loop
 unfolding maxAbs
-returns c = let l = c .before .loop in
-    let a = c .before .before .before .args in
-    let e : l .i ≡ length (a .y .now) - a .k = omega arith in
-    l .inv .1 ∙ rw (e, length-diffK (a .k) (a .y .now))
+returns c = let a = c .before .before .before .args in
+    let e : c .before .loop .i ≡ length (diffK (a .k) (a .y .now)) = omega (arith, length-diffK (a .k) (a .y .now)) in
+    rw e at (c .before .loop .inv .1)
 
 pub max-abs-diff-spec : {M : Type 1} → statement M
 max-abs-diff-spec =

@@ -1,11 +1,10 @@
-use mathlib.Core.Path.{_≡_, refl, sym, ap, _∙_}
-use Prim.Native.Nat.{ℕ, suc, _≤_, _<_, _-_, _+_, _*_}
+use mathlib.Core.Path.{_≡_}
+use Prim.Native.Nat.{_≤_, _-_, _+_, _*_}
 use native.Mathlib.Omega.{arith}
-use lib.ListN.{length}
-use Rattle.banded.proofs.Laws.{rows-fit}
-use Rattle.gram.specs.Gram.{gram}
-use Rattle.banded.proofs.Filling.{laid-none, laid-more, laid-done}
 use Rattle.banded.specs.Layout.{Laid}
+use Rattle.banded.proofs.Laws.{one-row, rows-fit}
+use Rattle.banded.proofs.Filling.{laid-none, laid-more}
+use Rattle.gram.specs.Gram.{gram}
 use borrow.Author.Needs.{needs}
 use Rattle.gram.proofs.fill_gram.Statement.{statement}
 use Rattle.gram.proofs.fill_gram.Tie as tie
@@ -20,27 +19,30 @@ loop-holds : tie.Need-loop-holds Inv-loop μ-loop
 loop-holds c = let a = c .before .args in
     (search needs, laid-none (a .k) (gram (a .k) (a .g)) (a .s .now))
 
+mul-gram-row : tie.Need-mul-gram-row Inv-loop μ-loop
+mul-gram-row c = let lp = c .before .before in
+    let a = lp .before .before .args in
+    omega (arith, one-row (a .k) (lp .loop .r), rows-fit (a .k) (lp .loop .r) (a .m) (a .m * (a .k + 1)) (omega arith) (omega arith))
+
 gram-row-requires : tie.Need-gram-row-requires Inv-loop μ-loop
-gram-row-requires c κs = let a = c .before .before .before .before .args in
-    let l = c .before .before .loop in
-    let size = l .inv .1 .kept .size in
-    (omega arith, rows-fit (a .k) (l .r) (a .m) _ (omega arith) (omega arith))
+gram-row-requires c κs = let lp = c .before .before in
+    let a = lp .before .before .args in
+    let size = lp .loop .inv .1 .kept .size in
+    (omega arith, omega (arith, one-row (a .k) (lp .loop .r), rows-fit (a .k) (lp .loop .r) (a .m) (a .m * (a .k + 1)) (omega arith) (omega arith)))
 
 loop-again : tie.Need-loop-again Inv-loop μ-loop
-loop-again c = (search needs, laid-more (c .before .before .before .before .before .loop .inv .1) (c .before .before .gram-row .ensures))
+loop-again c = let gr = c .before .before in
+    (search needs, laid-more (gr .before .before .before .loop .inv .1) (gr .gram-row .ensures))
 
 same-length : tie.Need-same-length Inv-loop μ-loop
 same-length c = c .before .loop .inv .1 .kept .size
 
 returns : tie.Need-returns Inv-loop μ-loop
-returns c = let a = c .before .before .before .args in
-    let e : c .before .loop .r ≡ a .m = omega arith in
-    let w = rw e at (c .before .loop .inv .1) in
-    let size = w .kept .size in
-    laid-done w (omega arith)
+returns c = let e : c .before .loop .r ≡ c .before .before .before .args .m = omega arith in
+    rw e at (c .before .loop .inv .1)
 
 pub fill-gram-spec : {M : Type 1} → statement M
 fill-gram-spec =
     tie.close
-    (tie.spec Inv-loop μ-loop loop-holds gram-row-requires (λ c. search needs) (λ c. search needs) loop-again
+    (tie.spec Inv-loop μ-loop loop-holds (λ c. search needs) mul-gram-row gram-row-requires (λ c. search needs) (λ c. search needs) loop-again
     same-length returns)

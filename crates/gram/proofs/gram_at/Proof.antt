@@ -1,3 +1,5 @@
+use Prim.Native.Nat.{_+_}
+use native.Mathlib.Omega.{arith}
 use borrow.Author.Tests.{lt-ltb, le-ltb}
 use Rattle.gram.specs.Gram.{gram}
 use borrow.Author.Needs.{needs}
@@ -6,11 +8,13 @@ use Rattle.gram.proofs.gram_at.Tie as tie
 
 returns : tie.Need-returns
 unfolding gram
-returns c = simp (lt-ltb _ _ (c .if1 .taken))
+returns c = let st = c .before in
+    rw (lt-ltb (st .args .r + st .args .c) (st .args .k) (omega arith))
 
 returns-2 : tie.Need-returns-2
 unfolding gram
-returns-2 c = simp (le-ltb _ _ (c .if1 .left))
+returns-2 c = let st = c .before in
+    rw (le-ltb (st .args .r + st .args .c) (st .args .k) (omega arith))
 
 pub gram-at-spec : {M : Type 1} → statement M
 gram-at-spec =

@@ -1,4 +1,3 @@
-use mathlib.Core.Path.{sym}
 use native.Mathlib.Omega.{arith}
 use Rattle.gram.proofs.Products.{product-1}
 use borrow.Author.Needs.{needs}
@@ -7,7 +6,7 @@ use Rattle.gram.proofs.product1.Tie as tie
 
 returns : tie.Need-returns
 returns c = let a = c .before .before .before .args in
-    sym (product-1 _ (a .z .now) (a .i) (omega arith) (omega arith))
+    product-1 _ (a .z .now) (a .i) (omega arith) (omega arith)
 
 pub product1-spec : {M : Type 1} → statement M
 product1-spec =

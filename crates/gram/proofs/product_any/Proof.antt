@@ -1,9 +1,8 @@
 use borrow.Author.Needs.{needs}
-use mathlib.Core.Path.{_≡_, refl, sym, ap, _∙_}
-use Prim.Native.Nat.{ℕ, suc, _≤_, _<_, _-_, _+_, _*_, min}
+use mathlib.Core.Path.{_≡_, _∙_}
+use Prim.Native.Nat.{suc, _≤_, _-_, _+_}
 use native.Mathlib.Omega.{arith}
-use native.Mathlib.Nat.{sub-self, min-le-left, min-le-right}
-use lib.ListN.{length}
+use native.Mathlib.Nat.{sub-self}
 use lib.Ieee.{binary64, mul, ofBits}
 use Rattle.vectors.specs.Vec.{at}
 use Rattle.gram.specs.Gram.{product}

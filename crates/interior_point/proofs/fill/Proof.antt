@@ -8,29 +8,29 @@ use Rattle.interior_point.proofs.fill.Statement.{statement}
 use Rattle.interior_point.proofs.fill.Tie as tie
 
 abbrev Inv-loop : tie.InvT-loop
-Inv-loop s₀ a e v i₀ s i = (a ≤ i) × ((i ≤ e) × Written a i (λ j. v) s₀ s)
+Inv-loop s₀ a e v i₀ s i = (a ≤ i) × (i ≤ e) × Written a i (λ j. v) s₀ s
 
 abbrev μ-loop : tie.MeasureT-loop
 μ-loop s₀ a e v i₀ s i = e - i
 
 loop-holds : tie.Need-loop-holds Inv-loop μ-loop
-loop-holds c = (search needs, (search needs, none))
+loop-holds c = (search needs, search needs, none)
 
 slice-write-s : tie.Need-slice-write-s Inv-loop μ-loop
-slice-write-s c = omega (arith, c .before .loop .inv .1 .1 .size)
+slice-write-s c = omega (arith, c .before .loop .inv .2 .size)
 
 loop-again : tie.Need-loop-again Inv-loop μ-loop
 loop-again c = let l = c .before .loop in
-    (search needs, (search needs, up (l .inv .1 .1) (omega arith) (omega (arith, l .inv .1 .1 .size)) refl))
+    (search needs, search needs, up (l .inv .2) (omega arith) (omega (arith, l .inv .2 .size)) refl)
 
 same-length : tie.Need-same-length Inv-loop μ-loop
-same-length c = c .before .loop .inv .1 .1 .size
+same-length c = c .before .loop .inv .2 .size
 
 returns : tie.Need-returns Inv-loop μ-loop
 returns c = let l = c .before .loop in
     let a = c .before .before .args in
     let q : l .i ≡ a .e = omega arith in
-    rw q at (l .inv .1 .1)
+    rw q at (l .inv .2)
 
 pub fill-spec : {M : Type 1} → statement M
 fill-spec =

@@ -1,6 +1,5 @@
 use borrow.Author.Needs.{needs}
 use mathlib.Core.Path.{refl}
-use Prim.Native.Nat.{_-_}
 use Rattle.interior_point.proofs.settled.Statement.{statement}
 use Rattle.interior_point.proofs.settled.Tie as tie
 

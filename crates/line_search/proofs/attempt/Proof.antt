@@ -1,7 +1,7 @@
 use borrow.Author.Needs.{needs}
 use mathlib.Core.Path.{_≡_, refl, sym, ap, _∙_}
 use mathlib.Core.Bool.{true, false}
-use Prim.Native.Nat.{_-_, _+_, _*_}
+use Prim.Native.Nat.{_+_, _*_}
 use native.Mathlib.Omega.{arith}
 use Rattle.dual_point.specs.Dual.{Dual}
 use Rattle.newton_system.specs.Newton.{norm}
@@ -16,30 +16,37 @@ use Rattle.line_search.proofs.attempt.Statement.{statement}
 use Rattle.line_search.proofs.attempt.Tie as tie
 
 returns : tie.Need-returns
-returns c = let a = c .before .before .before .before .before .before .before .before .before .before .before .before .before .args in
-    let v = c .before .before .before .before .before .before .before .before .before .move-to .ensures in
-    let s = c .before .before .before .before .before .before .before .before .before .move-to .last .0 in
-    let q : true ≡ inside (a .lam) (part (3 * a .m) (a .m) s) =
-    sym (c .before .before .before .if1 .taken) ∙ c .before .before .before .before .inside .ensures ∙ ap (inside (a .lam)) (range-part (3 * a .m) (3 * a .m + a .m) (a .m) s refl (omega (arith, v .1 .size))) in (
-      v .0,
-      (
-        v .1,
-        (
-          q,
-          accept-yes (a .k) (a .g) (a .dy .now) (a .lam) (a .u) (a .old) (a .step) (point (3 * a .m) (a .m) s) (c .low-enough .result) q
-              (c .low-enough .ensures
-              ∙ ap (λ (p : Dual). lower (norm (a .k) (a .g) (a .dy .now) (a .lam) (a .u) p) (a .step) (a .old)) (point-range (a .m) (3 * a .m) (3 * a .m + 3 * a .m) s refl refl (omega (arith, v .1 .size)))),
-        ),
-      ),
-    )
+returns c = let ic = c .before .before .before .before in
+    let mv = ic .before .before .before .before .before in
+    let a = mv .before .before .before .before .args in
+    let v = mv .move-to .ensures in
+    let s = mv .move-to .last .0 in
+    let c₃ = 3 * a .m in
+    let q : true ≡ inside (a .lam) (part c₃ (a .m) s) =
+    sym (c .before .before .before .if1 .taken) ∙ ic .inside .ensures ∙ ap (inside (a .lam)) (range-part c₃ (c₃ + a .m) (a .m) s refl (omega (arith, v .1 .size))) in
+    record {
+      moves = v .0;
+      kept = v .1;
+      in-bounds = q;
+      accepts = accept-yes (a .k) (a .g) (a .dy .now) (a .lam) (a .u) (a .old) (a .step) (point c₃ (a .m) s) (c .low-enough .result) q
+          (c .low-enough .ensures
+          ∙ ap (λ (p : Dual). lower (norm (a .k) (a .g) (a .dy .now) (a .lam) (a .u) p) (a .step) (a .old)) (point-range (a .m) c₃ (c₃ + c₃) s (omega arith)));
+    }
 
 returns-2 : tie.Need-returns-2
-returns-2 c = let a = c .before .before .before .before .before .before .before .before .before .before .args in
-    let v = c .before .before .before .before .before .before .move-to .ensures in
-    let s = c .before .before .before .before .before .before .move-to .last .0 in
-    let q : false ≡ inside (a .lam) (part (3 * a .m) (a .m) s) =
-    sym (c .if1 .left) ∙ c .before .inside .ensures ∙ ap (inside (a .lam)) (range-part (3 * a .m) (3 * a .m + a .m) (a .m) s refl (omega (arith, v .1 .size))) in
-    (v .0, (v .1, (q, accept-no (a .k) (a .g) (a .dy .now) (a .lam) (a .u) (a .old) (a .step) (point (3 * a .m) (a .m) s) q)))
+returns-2 c = let mv = c .before .before .before .before .before .before in
+    let a = mv .before .before .before .before .args in
+    let v = mv .move-to .ensures in
+    let s = mv .move-to .last .0 in
+    let c₃ = 3 * a .m in
+    let q : false ≡ inside (a .lam) (part c₃ (a .m) s) =
+    sym (c .if1 .left) ∙ c .before .inside .ensures ∙ ap (inside (a .lam)) (range-part c₃ (c₃ + a .m) (a .m) s refl (omega (arith, v .1 .size))) in
+    record {
+      moves = v .0;
+      kept = v .1;
+      in-bounds = q;
+      accepts = accept-no (a .k) (a .g) (a .dy .now) (a .lam) (a .u) (a .old) (a .step) (point c₃ (a .m) s) q;
+    }
 
 pub attempt-spec : {M : Type 1} → statement M
 attempt-spec =

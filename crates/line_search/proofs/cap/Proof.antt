@@ -1,9 +1,9 @@
 use borrow.Author.Needs.{needs}
 use mathlib.Core.Path.{_≡_, refl, _∙_}
-use Prim.Native.Nat.{_≤_, _-_}
-use native.Mathlib.Omega.{arith}
 use mathlib.Core.Bool.{false}
+use Prim.Native.Nat.{_≤_, _-_}
 use lib.Ieee.{isNan}
+use native.Mathlib.Omega.{arith}
 use Rattle.line_search.specs.LineSearch.{capTo}
 use Rattle.dual_point.specs.Places.{point}
 use Rattle.line_search.proofs.Laws.{cap-more, one-number}
@@ -11,26 +11,29 @@ use Rattle.line_search.proofs.cap.Statement.{statement}
 use Rattle.line_search.proofs.cap.Tie as tie
 
 abbrev Inv-loop : tie.InvT-loop
-Inv-loop s b m step₀ i₀ step i = (i ≤ m) × ((step ≡ capTo (point 0 m s) (point b m s) i) × (isNan step ≡ false))
+Inv-loop s b m step₀ i₀ step i = (i ≤ m) × (step ≡ capTo (point 0 m s) (point b m s) i) × (isNan step ≡ false)
 
 abbrev μ-loop : tie.MeasureT-loop
 μ-loop s b m step₀ i₀ step i = m - i
 
 loop-holds : tie.Need-loop-holds Inv-loop μ-loop
 unfolding capTo
-loop-holds c = (search needs, (refl, one-number))
+loop-holds c = (search needs, refl, one-number)
 
 loop-again : tie.Need-loop-again Inv-loop μ-loop
-loop-again c = let l = c .before .before .before .before .before .before .before .loop in
-    let a = c .before .before .before .before .before .before .before .before .before .args in (
+loop-again c = let one = c .before .before .before in
+    let lc = one .before .before .before .before in
+    let l = lc .loop in
+    let a = lc .before .before .args in (
       search needs,
-      (c .cap-of2 .ensures .0 ∙ cap-more (a .b) (a .m) (a .s .now) (l .i) (l .step) (c .before .before .before .cap-of .result) (omega arith) (l .inv .1 .0) (c .before .before .before .cap-of .ensures .0), c .cap-of2 .ensures .1),
+      c .cap-of2 .ensures .0 ∙ cap-more (a .b) (a .m) (a .s .now) (l .i) (l .step) (one .cap-of .result) (omega arith) (l .inv .1) (one .cap-of .ensures .0),
+      c .cap-of2 .ensures .1,
     )
 
 returns : tie.Need-returns Inv-loop μ-loop
 returns c = let l = c .before .loop in
     let e : l .i ≡ c .before .before .before .args .m = omega arith in
-    l .inv .1 .0 ∙ rw e
+    l .inv .1 ∙ rw e
 
 pub cap-spec : {M : Type 1} → statement M
 cap-spec =

@@ -6,17 +6,12 @@ use Rattle.line_search.proofs.cap_of.Tie as tie
 
 returns : tie.Need-returns
 unfolding capped minOf
-returns c = let p = c .before .before .pre in
-    let f = c .before .if1 .taken in
-    let g = c .if2 .taken in
-    (rw (f, p, g), less-number _ _ g)
+returns c = (rw (c .before .if1 .taken, c .before .before .pre, c .if2 .taken), less-number _ _ (c .if2 .taken))
 
 returns-2 : tie.Need-returns-2
 unfolding capped minOf
 returns-2 c = let p = c .before .before .pre in
-    let f = c .before .if1 .taken in
-    let g = c .if2 .left in
-    (rw (f, p, g), p)
+    (rw (c .before .if1 .taken, p, c .if2 .left), p)
 
 returns-3 : tie.Need-returns-3
 unfolding capped

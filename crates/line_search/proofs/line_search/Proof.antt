@@ -1,12 +1,8 @@
 use borrow.Author.Needs.{needs}
-use mathlib.Core.Path.{_≡_, sym, _∙_}
-use mathlib.Core.Bool.{true, false}
-use Prim.Native.Nat.{_-_, _*_}
+use mathlib.Core.Path.{_≡_}
+use Prim.Native.Nat.{_-_}
 use native.Mathlib.Omega.{arith}
-use Rattle.line_search.specs.LineSearch.{accepted}
-use Rattle.vectors.specs.Sums.{inside}
-use Rattle.dual_point.specs.Places.{point}
-use Rattle.line_search.proofs.Lines.{Searching, begins, goes, stops, exhausted, accepted-inside}
+use Rattle.line_search.proofs.Lines.{Searching, begins, goes, stops, exhausted}
 use Rattle.line_search.proofs.line_search.Statement.{statement}
 use Rattle.line_search.proofs.line_search.Tie as tie
 
@@ -21,27 +17,27 @@ loop-holds c = let a = c .before .before .args in
     begins (a .k) (a .g) (a .dy .now) (a .lam) (a .u) (a .m) (a .b) (a .cap) (a .old) (a .s .now)
 
 attempt-requires : tie.Need-attempt-requires Inv-loop μ-loop
-attempt-requires c κs = let w = c .before .before .loop .inv in
-    (search needs, (search needs, (omega (arith, w .kept .size), search needs)))
+attempt-requires c κs = let lc = c .before .before in
+    let p = lc .before .before .before .pre in
+    record { order = p .order; after = p .after; room = omega (arith, lc .loop .inv .kept .size); dy = p .dy }
 
 same-length : tie.Need-same-length Inv-loop μ-loop
-same-length c = omega (arith, c .before .before .before .before .before .before .loop .inv .kept .size, c .before .before .before .attempt .ensures .1 .0 .size)
+same-length c = let t = c .before .before .before in
+    omega (arith, t .before .before .before .loop .inv .kept .size, t .attempt .ensures .kept .size)
 
 returns : tie.Need-returns Inv-loop μ-loop
-returns c = let l = c .before .before .before .before .before .before .loop in
-    let a = c .before .before .before .before .before .before .before .before .before .args in
-    let v = c .before .before .before .attempt .ensures in
-    let s = c .before .before .before .attempt .last .0 in
-    let e : accepted (a .k) (a .g) (a .dy .now) (a .lam) (a .u) (a .old) (point (3 * a .m) (a .m) s) (l .step) ≡ true = sym (v .1 .1 .1) ∙ c .if1 .taken in
-    stops (a .k) (a .g) (a .dy .now) (a .lam) (a .u) (a .m) (a .b) (a .cap) (a .old) (a .s .now) (l .s) s (l .step) (l .last) (l .i) (l .inv) (omega arith) (omega (arith, l .inv .some)) (v .0) (v .1 .0) (accepted-inside (a .k) (a .g) (a .dy .now) (a .lam) (a .u) (a .old) (l .step) (point (3 * a .m) (a .m) s) e) e
+returns c = let t = c .before .before .before in
+    let l = t .before .before .before .loop in
+    let a = t .before .before .before .before .before .before .args in
+    stops (a .k) (a .g) (a .dy .now) (a .lam) (a .u) (a .m) (a .b) (a .cap) (a .old) (a .s .now) (l .s) (t .attempt .last .0) (l .step) (l .last) (l .i) (l .inv)
+    (t .attempt .result .inside) (t .attempt .result .good) (omega arith) (omega (arith, l .inv .some)) (t .attempt .ensures) (c .if1 .taken)
 
 loop-again : tie.Need-loop-again Inv-loop μ-loop
-loop-again c = let l = c .before .before .before .before .before .before .loop in
-    let a = c .before .before .before .before .before .before .before .before .before .args in
-    let v = c .before .before .before .attempt .ensures in
-    let s = c .before .before .before .attempt .last .0 in
-    let e : accepted (a .k) (a .g) (a .dy .now) (a .lam) (a .u) (a .old) (point (3 * a .m) (a .m) s) (l .step) ≡ false = sym (v .1 .1 .1) ∙ c .if1 .left in
-    goes (a .k) (a .g) (a .dy .now) (a .lam) (a .u) (a .m) (a .b) (a .cap) (a .old) (a .s .now) (l .s) s (l .step) (l .last) (l .i) (l .inv) (omega arith) (omega (arith, l .inv .some)) (v .0) (v .1 .0) (c .before .before .before .attempt .result .inside) (v .1 .1 .0) e
+loop-again c = let t = c .before .before .before in
+    let l = t .before .before .before .loop in
+    let a = t .before .before .before .before .before .before .args in
+    goes (a .k) (a .g) (a .dy .now) (a .lam) (a .u) (a .m) (a .b) (a .cap) (a .old) (a .s .now) (l .s) (t .attempt .last .0) (l .step) (l .last) (l .i) (l .inv)
+    (t .attempt .result .inside) (t .attempt .result .good) (omega arith) (omega (arith, l .inv .some)) (t .attempt .ensures) (c .if1 .left)
 
 same-length-2 : tie.Need-same-length-2 Inv-loop μ-loop
 same-length-2 c = omega (arith, c .before .loop .inv .kept .size)

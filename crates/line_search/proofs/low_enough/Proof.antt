@@ -1,5 +1,4 @@
 use borrow.Author.Needs.{needs}
-use Prim.Native.Nat.{_-_}
 use Rattle.newton_system.specs.Newton.{norm}
 use Rattle.line_search.proofs.low_enough.Statement.{statement}
 use Rattle.line_search.proofs.low_enough.Tie as tie

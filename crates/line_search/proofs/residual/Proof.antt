@@ -25,13 +25,15 @@ unfolding sumTo
 loop-holds c = (search needs, refl)
 
 loop-again : tie.Need-loop-again Inv-loop μ-loop
-loop-again c = let l = c .before .before .before .before .before .before .before .before .loop in
-    let a = c .before .before .before .before .before .before .before .before .before .before .before .args in
+loop-again c = let pc = c .before .before .before .before .before in
+    let lc = pc .before .before .before in
+    let l = lc .loop in
+    let a = lc .before .before .before .args in
     let r = a .s .now in (
       search needs,
       sum-more (squareOf (a .k) (a .g) (a .dy .now) (a .lam) (a .u) (point 0 (a .m) r)) (l .i) (l .a) (c .residual-of .result) (l .inv .1)
-          (c .residual-of .ensures ∙ square-place (a .k) (a .g) (a .dy .now) (a .lam) (a .u) (a .m) r (l .i) (c .before .before .before .before .before .product .result) (omega arith)
-          (c .before .before .before .before .before .product .ensures ∙ ap (λ (v : List Float). product (a .k) (a .g) v (l .i)) (range-part 0 (a .m) (a .m) r (omega arith) (omega arith)))),
+          (c .residual-of .ensures ∙ square-place (a .k) (a .g) (a .dy .now) (a .lam) (a .u) (a .m) r (l .i) (pc .product .result) (omega arith)
+          (pc .product .ensures ∙ ap (λ (v : List Float). product (a .k) (a .g) v (l .i)) (range-part 0 (a .m) (a .m) r (omega arith) (omega arith)))),
     )
 
 returns : tie.Need-returns Inv-loop μ-loop

@@ -1,6 +1,5 @@
-use native.Mathlib.Omega.{arith}
 use Rattle.listing.specs.Listing.{fitLine}
-use Rattle.vectors.proofs.Texts.{wrote-then}
+use Rattle.fields.proofs.Writers.{puts-then}
 use borrow.Author.Needs.{needs}
 use Rattle.listing.proofs.put_fit_line.Statement.{statement}
 use Rattle.listing.proofs.put_fit_line.Tie as tie
@@ -10,10 +9,8 @@ unfolding fitLine
 returns c = let w4 = c .before .before in
     let w3 = w4 .before .before .before .before in
     let w2 = w3 .before .before .before .before .before in
-    let w1 = w2 .before .before .before .before .before .before in (
-      rw (w3 .before .bit .ensures) at (wrote-then (wrote-then (wrote-then (w1 .put-all .ensures) (w2 .put-three .ensures .0)) (w3 .put-three2 .ensures .0)) (w4 .put-byte .ensures)),
-      omega (arith, w1 .put-all .ensures .next, w2 .put-three .ensures .1, w3 .put-three2 .ensures .1, w4 .put-byte .ensures .next),
-    )
+    let w1 = w2 .before .before .before .before .before .before in
+    rw (w3 .before .bit .ensures) at (puts-then (puts-then (puts-then (w1 .put-all .ensures) (w2 .put-three .ensures)) (w3 .put-three2 .ensures)) (w4 .put-byte .ensures))
 
 pub put-fit-line-spec : {M : Type 1} → statement M
 put-fit-line-spec =

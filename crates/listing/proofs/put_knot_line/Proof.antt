@@ -1,6 +1,5 @@
-use native.Mathlib.Omega.{arith}
 use Rattle.listing.specs.Listing.{knotLine}
-use Rattle.vectors.proofs.Texts.{wrote-then}
+use Rattle.fields.proofs.Writers.{puts-then}
 use borrow.Author.Needs.{needs}
 use Rattle.listing.proofs.put_knot_line.Statement.{statement}
 use Rattle.listing.proofs.put_knot_line.Tie as tie
@@ -10,7 +9,7 @@ unfolding knotLine
 returns c = let w3 = c .before .before in
     let w2 = w3 .before .before .before .before in
     let w1 = w2 .before .before .before .before in
-    (wrote-then (wrote-then (w1 .put-all .ensures) (w2 .put-field .ensures .0)) (w3 .put-byte .ensures), omega (arith, w1 .put-all .ensures .next, w2 .put-field .ensures .1, w3 .put-byte .ensures .next))
+    puts-then (puts-then (w1 .put-all .ensures) (w2 .put-field .ensures)) (w3 .put-byte .ensures)
 
 pub put-knot-line-spec : {M : Type 1} → statement M
 put-knot-line-spec =

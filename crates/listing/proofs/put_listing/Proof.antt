@@ -1,5 +1,5 @@
 use Rattle.listing.specs.Listing.{listingOf}
-use Rattle.vectors.proofs.Texts.{wrote-then}
+use Rattle.fields.proofs.Writers.{puts-then}
 use borrow.Author.Needs.{needs}
 use Rattle.listing.proofs.put_listing.Statement.{statement}
 use Rattle.listing.proofs.put_listing.Tie as tie
@@ -9,7 +9,7 @@ unfolding listingOf
 returns c = let w3 = c .before .before .before in
     let w2 = w3 .before .before .before .before in
     let w1 = w2 .before .before in
-    wrote-then (wrote-then (wrote-then (w1 .put-fit-line .ensures .0) (w2 .put-numbers-line .ensures .0)) (w3 .put-hours .ensures .0)) (c .put-knots .ensures .0)
+    puts-then (puts-then (puts-then (w1 .put-fit-line .ensures) (w2 .put-numbers-line .ensures)) (w3 .put-hours .ensures)) (c .put-knots .ensures) .wrote
 
 pub put-listing-spec : {M : Type 1} → statement M
 put-listing-spec =

@@ -1,6 +1,5 @@
-use native.Mathlib.Omega.{arith}
 use Rattle.listing.specs.Listing.{numbersLine}
-use Rattle.vectors.proofs.Texts.{wrote-then}
+use Rattle.fields.proofs.Writers.{puts-then}
 use borrow.Author.Needs.{needs}
 use Rattle.listing.proofs.put_numbers_line.Statement.{statement}
 use Rattle.listing.proofs.put_numbers_line.Tie as tie
@@ -10,10 +9,8 @@ unfolding numbersLine
 returns c = let w4 = c .before .before in
     let w3 = w4 .before .before .before .before in
     let w2 = w3 .before .before .before .before in
-    let w1 = w2 .before .before .before .before in (
-      wrote-then (wrote-then (wrote-then (w1 .put-hex .ensures .0) (w2 .put-hex-field .ensures .0)) (w3 .put-hex-field2 .ensures .0)) (w4 .put-byte .ensures),
-      omega (arith, w1 .put-hex .ensures .1, w2 .put-hex-field .ensures .1, w3 .put-hex-field2 .ensures .1, w4 .put-byte .ensures .next),
-    )
+    let w1 = w2 .before .before .before .before in
+    puts-then (puts-then (puts-then (w1 .put-hex .ensures) (w2 .put-hex-field .ensures)) (w3 .put-hex-field2 .ensures)) (w4 .put-byte .ensures)
 
 pub put-numbers-line-spec : {M : Type 1} → statement M
 put-numbers-line-spec =

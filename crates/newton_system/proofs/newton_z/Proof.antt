@@ -1,44 +1,26 @@
 use borrow.Author.Needs.{needs}
-use borrow.Author.Tests.{not-true, not-false}
-use mathlib.Core.Path.{_≡_, _∙_}
-use mathlib.Core.Bool.{true, false}
-use Prim.Native.Nat.{ℕ, _≤_, _-_, _+_, _*_}
+use borrow.Author.Tests.{not-true}
+use mathlib.Core.Path.{_≡_}
+use Prim.Native.Nat.{_≤_, _-_, _+_, _*_}
 use native.Mathlib.Omega.{arith}
-use lib.ListN.{length, take, drop, length-drop}
-use lib.Seq.{length-take-le}
-use lib.Ieee.{nan}
-use Rattle.vectors.proofs.Laws.{kept-then}
-use Rattle.vectors.proofs.Parts.{kept-put}
-use Rattle.newton_system.proofs.Sweeps.{solved}
+use lib.ListN.{length}
+use Rattle.newton_system.proofs.Sweeps.{newton-bad, newton-solved}
 use Rattle.newton_system.proofs.newton_z.Statement.{statement}
 use Rattle.newton_system.proofs.newton_z.Tie as tie
 
 returns : tie.Need-returns
-returns c = let w = c .before .before .before .before .sweep in
-    let bad : w .result .good ≡ false = not-true _ (c .if1 .taken) in
-    (w .ensures .answer, (λ t. let z : _≡_ {A = ℕ} 0 1 = cc in absurd (omega arith), w .ensures .kept))
+returns c = newton-bad (c .before .before .before .before .sweep .ensures) (not-true _ (c .if1 .taken))
 
 returns-2 : tie.Need-returns-2
-returns-2 c = let st = c .before .before .before .before .before .before .before .before .before .before .before .before in
+returns-2 c = let solved = c .before .before in
+    let swept = solved .before .before .before .before .before .before in
+    let st = swept .before .before .before .before in
     let a = st .args in
-    let w = c .before .before .before .before .before .before .before .before .sweep in
-    let s = w .last .0 in
-    let x = c .before .before .solve .last .0 in
     let n = a .m * (a .k + 1) + a .m in
     let d : a .a + n - a .a ≡ n = omega (arith, st .pre) in
-    let size = w .ensures .kept .size in
-    let room : a .a + n ≤ length s = omega (arith, st .pre) in
-    let l : length (take n (drop (a .a) s)) ≡ n = length-take-le n (drop (a .a) s) (omega (arith, length-drop (a .a) s)) in
-    let e : length x ≡ n = (rw d at (c .before .before .solve .kept .0)) ∙ l in
-    let yes : w .result .good ≡ true = not-false _ (c .before .before .before .before .if1 .left) in
-    let back = rw d at (c .before .before .solve .ensures .1 .1) in
-    rw d (
-      w .ensures .answer,
-      (
-        λ t. (w .ensures .norm yes, solved (a .k) (a .g) (a .dy .now) (a .lam) (a .u) (a .a) (a .m) x (w .ensures) yes room e back),
-        kept-then (a .a) n (w .ensures .kept) (kept-put (a .a) n s x room e nan) (omega arith) (omega arith) (omega arith) (omega arith),
-      ),
-    )
+    let size = swept .sweep .ensures .kept .size in
+    let room : a .a + n ≤ length (swept .sweep .last .0) = omega (arith, st .pre) in
+    rw d (newton-solved (swept .sweep .ensures) room (rw d at (solved .solve .ensures)))
 
 pub newton-z-spec : {M : Type 1} → statement M
 newton-z-spec =

@@ -1,7 +1,7 @@
 use borrow.Author.Needs.{needs}
 use borrow.Author.Tests.{not-true, not-false}
 use mathlib.Core.Path.{_≡_}
-use Prim.Native.Nat.{_≤_, _<_, _-_, _+_, _*_}
+use Prim.Native.Nat.{_≤_, _-_, _+_, _*_}
 use native.Mathlib.Omega.{arith}
 use lib.ListN.{length}
 use Rattle.vectors.specs.Sums.{sumTo}
@@ -21,39 +21,37 @@ loop-holds c = let a = c .before .before .args in
     sweep-none (a .k) (a .g) (a .dy .now) (a .lam) (a .u) (a .a) (a .m) (a .s .now)
 
 returns : tie.Need-returns Inv-loop μ-loop
-returns c = let st = c .before .before .before .before .before .before .before .before .before .before .before .before .before .before .before in
+returns c = let done = c .before .before .before in
+    let put = done .before .before .before .before in
+    let row = put .before .before in
+    let at-loop = row .before .before .before in
+    let st = at-loop .before .before .before in
     let a = st .args in
-    let l = c .before .before .before .before .before .before .before .before .before .before .before .before .loop in
     let n = a .m * (a .k + 1) + a .m in
     let d : a .a + n - a .a ≡ n = omega (arith, st .pre) in
-    let size = l .inv .kept .size in
-    let room : a .a + n ≤ length (l .s) = omega (arith, st .pre) in
-    let b : l .r < a .m = omega arith in
-    let row = c .before .before .before .before .before .before .before .before .before .row-at .ensures in
-    let put = rw d at (c .before .before .before .before .before .before .before .put-row .ensures) in
-    let e = rw d at (c .before .before .before .eliminate .ensures) in
-    rw d (sweep-bad (a .k) (a .g) (a .dy .now) (a .lam) (a .u) (a .a) (a .m) (l .inv) b (omega (arith, st .pre)) room (row .0) (row .1 .0) put e (l .acc) (not-true _ (c .if1 .taken)))
+    let size = at-loop .loop .inv .kept .size in
+    let room : a .a + n ≤ length (at-loop .loop .s) = omega (arith, st .pre) in
+    rw d (sweep-bad (at-loop .loop .inv) (omega arith) (st .pre .three) room (row .row-at .ensures) (rw d at (put .put-row .ensures)) (rw d at (done .eliminate .ensures)) (not-true _ (c .if1 .taken)))
 
 loop-again : tie.Need-loop-again Inv-loop μ-loop
-loop-again c = let st = c .before .before .before .before .before .before .before .before .before .before .before .before .before .before .before .before in
+loop-again c = let kept = c .before in
+    let done = kept .before .before .before in
+    let put = done .before .before .before .before in
+    let row = put .before .before in
+    let at-loop = row .before .before .before in
+    let st = at-loop .before .before .before in
     let a = st .args in
-    let l = c .before .before .before .before .before .before .before .before .before .before .before .before .before .loop in
     let n = a .m * (a .k + 1) + a .m in
     let d : a .a + n - a .a ≡ n = omega (arith, st .pre) in
-    let size = l .inv .kept .size in
-    let room : a .a + n ≤ length (l .s) = omega (arith, st .pre) in
-    let b : l .r < a .m = omega arith in
-    let row = c .before .before .before .before .before .before .before .before .before .before .row-at .ensures in
-    let put = rw d at (c .before .before .before .before .before .before .before .before .put-row .ensures) in
-    let e = rw d at (c .before .before .before .before .eliminate .ensures) in
-    rw d (sweep-more (a .k) (a .g) (a .dy .now) (a .lam) (a .u) (a .a) (a .m) (l .inv) b (omega (arith, st .pre)) room (row .0) (row .1 .0) put e (c .before .before .before .before .before .before .before .before .before .before .row-at .result .e) (row .1 .1) (not-false _ (c .before .if1 .left)))
+    let size = at-loop .loop .inv .kept .size in
+    let room : a .a + n ≤ length (at-loop .loop .s) = omega (arith, st .pre) in
+    rw d (sweep-more (at-loop .loop .inv) (omega arith) (st .pre .three) room (row .row-at .ensures) (rw d at (put .put-row .ensures)) (rw d at (done .eliminate .ensures)) (not-false _ (kept .if1 .left)))
 
 returns-2 : tie.Need-returns-2 Inv-loop μ-loop
-returns-2 c = let st = c .before .before .before .before in
-    let a = st .args in
-    let l = c .before .loop in
-    let size = l .inv .kept .size in
-    sweep-done (a .k) (a .g) (a .dy .now) (a .lam) (a .u) (a .a) (a .m) (l .inv) (omega arith) (omega (arith, st .pre))
+returns-2 c = let at-loop = c .before in
+    let st = at-loop .before .before .before in
+    let size = at-loop .loop .inv .kept .size in
+    sweep-done (at-loop .loop .inv) (omega arith) (omega (arith, st .pre))
 
 pub sweep-spec : {M : Type 1} → statement M
 sweep-spec =

@@ -15,14 +15,14 @@ use Rattle.polish.proofs.fill_candidate.Statement.{statement}
 use Rattle.polish.proofs.fill_candidate.Tie as tie
 
 abbrev Inv-loop : tie.InvT-loop
-Inv-loop s₀ marks lam b a n m q₀ i₀ s q i = (i ≤ m) × ((q ≤ i) × ((q ≡ length (freeTo (heldBy n marks) i)) × Written a (a + i) (λ j. candidateAt lam (heldBy n marks) (part b m s₀) (j - a)) s₀ s))
+Inv-loop s₀ marks lam b a n m q₀ i₀ s q i = (i ≤ m) × (q ≤ i) × (q ≡ length (freeTo (heldBy n marks) i)) × Written a (a + i) (λ j. candidateAt lam (heldBy n marks) (part b m s₀) (j - a)) s₀ s
 
 abbrev μ-loop : tie.MeasureT-loop
 μ-loop s₀ marks lam b a n m q₀ i₀ s q i = m - i
 
 loop-holds : tie.Need-loop-holds Inv-loop μ-loop
 unfolding freeTo
-loop-holds c = (search needs, (search needs, (refl, rw add-zero none)))
+loop-holds c = (search needs, search needs, refl, rw add-zero none)
 
 add-q : tie.Need-add-q Inv-loop μ-loop
 add-q c = let l = c .before .before .before .before .before in
@@ -35,23 +35,19 @@ loop-again c = let l = c .before .before .before .before .before in
     let h = heldBy (a .n) (a .marks .now) in
     let i = l .loop .i in
     let q = l .loop .q in
-    let w = l .loop .inv .1 .1 .1 in
+    let w = l .loop .inv .3 in
     let x = c .before .candidate-at .result in (
       search needs,
-      (
-        omega (arith, c .one-if-free .ensures, one-le (isFree (h i))),
-        (
-          count-more h i (l .loop .inv .1 .1 .0) (c .one-if-free .ensures),
-          store-more (a .a) i (candidateAt (a .lam) h (part (a .b) (a .m) (a .s .now))) (a .s .now) (l .loop .s) x w (omega arith)
-              (place-is (a .lam) h (a .b) (a .m) i q (a .s .now) (l .loop .s) x (l .loop .inv .1 .1 .0) (omega arith) (w .below (a .b + q) (omega arith)) (c .before .candidate-at .ensures)),
-        ),
-      ),
+      omega (arith, c .one-if-free .ensures, one-le (isFree (h i))),
+      count-more h i (l .loop .inv .2) (c .one-if-free .ensures),
+      store-more (a .a) i (candidateAt (a .lam) h (part (a .b) (a .m) (a .s .now))) (a .s .now) (l .loop .s) x w (omega arith)
+          (place-is (a .lam) h (a .b) (a .m) i q (a .s .now) (l .loop .s) x (l .loop .inv .2) (omega arith) (w .below (a .b + q) (omega arith)) (c .before .candidate-at .ensures)),
     )
 
 returns : tie.Need-returns Inv-loop μ-loop
 returns c = let l = c .before .loop in
     let e : l .i ≡ c .before .before .before .before .args .m = omega arith in
-    rw e at (l .inv .1 .1 .1)
+    rw e at (l .inv .3)
 
 pub fill-candidate-spec : {M : Type 1} → statement M
 fill-candidate-spec =

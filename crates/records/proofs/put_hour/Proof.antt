@@ -9,14 +9,13 @@ four-requires : tie.Need-four-requires
 four-requires c κs = c .before .before .before .pre .0 (c .if1 .taken)
 
 slice-write-y : tie.Need-slice-write-y
-slice-write-y c = let b = c .before .before in
-    let a = b .before .before .before in
-    omega (arith, simp (eq-eqb _ _ (b .if1 .taken)) at (a .pre .1))
+slice-write-y c = let t = c .before .before in
+    omega (arith, simp (eq-eqb _ _ (t .if1 .taken)) at (t .before .before .before .pre .1))
 
 returns : tie.Need-returns
-returns c = let b = c .before .before in
-    let a = b .before .before .before in
-    simp (eq-eqb _ _ (b .if1 .taken), c .signed .ensures, c .before .four .ensures .0) (wrote-one _ _ _ (omega (arith, simp (eq-eqb _ _ (b .if1 .taken)) at (a .pre .1))))
+returns c = let t = c .before .before in
+    let a = t .before .before .before in
+    simp (eq-eqb _ _ (t .if1 .taken), c .signed .ensures, c .before .four .ensures .0) (wrote-one _ _ _ (omega (arith, simp (eq-eqb _ _ (t .if1 .taken)) at (a .pre .1))))
 
 returns-2 : tie.Need-returns-2
 returns-2 c = let a = c .before .before .before in

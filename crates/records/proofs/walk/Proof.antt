@@ -1,44 +1,39 @@
-use native.Mathlib.Omega.{arith}
 use borrow.Author.Needs.{needs}
-use mathlib.Core.Path.{sym, _∙_}
-use Prim.Native.Nat.{_≤_}
-use Rattle.records.proofs.Passing.{passed-end, passed-bad, placed, Counted, counted-none, counted-more}
+use native.Mathlib.Omega.{arith}
 use Prim.Native.Nat.{_-_}
 use lib.ListN.{length}
+use Rattle.records.proofs.Passing.{passed-end, passed-bad, Counted, counted-none, counted-more}
 use Rattle.records.proofs.walk.Statement.{statement}
 use Rattle.records.proofs.walk.Tie as tie
 
 abbrev Inv-loop : tie.InvT-loop
-Inv-loop s at₀ settings₀ hours₀ at settings hours = (at ≤ length s) × (settings ≤ at) × (hours ≤ at) × Counted s at settings hours
+Inv-loop s at₀ settings₀ hours₀ at settings hours = Counted s at settings hours
 
 abbrev μ-loop : tie.MeasureT-loop
 μ-loop s at₀ settings₀ hours₀ at settings hours = length s - at
 
 loop-holds : tie.Need-loop-holds Inv-loop μ-loop
-loop-holds c = (search needs, search needs, search needs, counted-none _)
+loop-holds c = counted-none _
 
 returns : tie.Need-returns Inv-loop μ-loop
-returns c = let l = c .before .before .before .loop in
-    let k = l .inv .3 in
-    let e = passed-end (k .passed) (sym (c .enum-told .given .1) ∙ c .before .before .head-at .ensures) in
-    simp (e, k .settings, k .hours)
+returns c = let r = c .before .before in
+    let w = r .before .loop .inv in
+    simp (passed-end (w .passed) (rw (c .enum-told .given .1) at (r .record-at .ensures)), w .settings, w .hours)
 
 returns-2 : tie.Need-returns-2 Inv-loop μ-loop
-returns-2 c = let k = c .before .before .before .loop .inv .3 in
-    let e = passed-bad (k .passed) (sym (c .enum-told2 .given .1) ∙ c .before .before .head-at .ensures) in
-    simp e
+returns-2 c = let r = c .before .before in
+    simp (passed-bad (r .before .loop .inv .passed) (rw (c .enum-told2 .given .1) at (r .record-at .ensures)))
 
 loop-less : tie.Need-loop-less Inv-loop μ-loop
 loop-less c = let k = c .before .before .before in
-    let p = placed (sym (k .kind .given .1) ∙ k .before .before .head-at .ensures) in
-    omega (arith, p .more, p .inside)
+    let f = rw (k .kind .given .1) at (k .before .before .record-at .ensures) in
+    omega (arith, f .body, f .more, f .inside)
 
 loop-again : tie.Need-loop-again Inv-loop μ-loop
-loop-again c = let k = c .before .before .before in
-    let h = sym (k .kind .given .1) ∙ k .before .before .head-at .ensures in
-    let p = placed h in
-    let l = k .before .before .before .loop in
-    (p .inside, omega (arith, p .more), omega (arith, p .more), counted-more (l .inv .3) h (c .before .one-if .ensures .0) (c .one-if2 .ensures .0))
+loop-again c = let o = c .before in
+    let k = o .before .before in
+    let r = k .before .before in
+    counted-more (r .before .loop .inv) (rw (k .kind .given .1) at (r .record-at .ensures)) (o .one-if .ensures .0) (c .one-if2 .ensures .0)
 
 pub walk-spec : {M : Type 1} → statement M
 walk-spec =

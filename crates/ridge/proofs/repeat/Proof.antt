@@ -1,9 +1,7 @@
-use mathlib.Core.Path.{_≡_, refl, sym, ap, _∙_}
-use mathlib.Core.List.{List}
-use Prim.Native.Nat.{ℕ, suc, _≤_, _<_, _-_, _+_, _*_}
+use mathlib.Core.Path.{_≡_, refl}
+use Prim.Native.Nat.{_≤_, _-_, _+_}
 use native.Mathlib.Omega.{arith}
 use lib.ListN.{length, length-set}
-use lib.Ieee.{Float}
 use Rattle.ridge.specs.Layout.{Repeated}
 use Rattle.ridge.proofs.Alike.{repeat-none, repeat-more}
 use borrow.Author.Needs.{needs}
@@ -11,10 +9,10 @@ use Rattle.ridge.proofs.repeat.Statement.{statement}
 use Rattle.ridge.proofs.repeat.Tie as tie
 
 abbrev Inv-loop : tie.InvT-loop
-Inv-loop s₀ w b n i₀ s i = (i ≤ n) × (length s ≡ length s₀) × Repeated w b i s₀ s
+Inv-loop s₀ k b n i₀ s i = (i ≤ n) × (length s ≡ length s₀) × Repeated (k + 1) b i s₀ s
 
 abbrev μ-loop : tie.MeasureT-loop
-μ-loop s₀ w b n i₀ s i = n - i
+μ-loop s₀ k b n i₀ s i = n - i
 
 loop-holds : tie.Need-loop-holds Inv-loop μ-loop
 loop-holds c = (search needs, refl, repeat-none _ _ _)
@@ -31,4 +29,4 @@ repeat-spec =
     tie.close
     (tie.spec Inv-loop μ-loop loop-holds (λ c. search needs) (λ c. search needs) (λ c. search needs)
     (λ c. search needs) (λ c. search needs) (λ c. search needs) (λ c. search needs) (λ c. search needs)
-    (λ c. search needs) loop-again (λ c. search needs) returns)
+    (λ c. search needs) (λ c. search needs) loop-again (λ c. search needs) returns)

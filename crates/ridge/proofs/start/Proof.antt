@@ -2,11 +2,9 @@ use borrow.Author.Tests.{lt-ltb, le-ltb}
 use Rattle.ridge.proofs.start.Statement.{statement}
 use Rattle.ridge.proofs.start.Tie as tie
 
--- src/ridge.rt:8:1
 returns : tie.Need-returns
 returns c = simp (lt-ltb _ _ (c .if1 .taken))
 
--- src/ridge.rt:8:1
 returns-2 : tie.Need-returns-2
 returns-2 c = simp (le-ltb _ _ (c .if1 .left))
 

@@ -1,44 +1,41 @@
 use borrow.Author.Needs.{needs}
-use mathlib.Core.List.{List}
-use lib.Ieee.{Float}
-use mathlib.Core.Path.{_≡_, refl, sym, ap, _∙_}
-use Prim.Native.Nat.{ℕ, suc, _≤_, _<_, _-_, _+_, _*_}
+use mathlib.Core.Path.{_≡_, refl, sym}
+use Prim.Native.Nat.{_<_, _-_, _+_, _*_}
 use native.Mathlib.Omega.{arith}
-use lib.ListN.{length, length-set}
 use Rattle.vectors.specs.Vec.{at}
-use Rattle.substitution.specs.Solved.{Backed}
-use Rattle.banded.proofs.Orders.{at-same}
-use Rattle.substitution.proofs.Orders.{step-1}
-use Rattle.substitution.proofs.Laws.{backed-more}
+use Rattle.substitution.specs.Solved.{Carried}
+use Rattle.substitution.proofs.Orders.{at-same, step-1}
+use Rattle.substitution.proofs.Laws.{carried-none, carried-more}
 use Rattle.substitution.proofs.back1.Statement.{statement}
 use Rattle.substitution.proofs.back1.Tie as tie
 
 abbrev Inv-loop : tie.InvT-loop
-Inv-loop s₀ m b i₀ x₀ s i x = (i < m) × (length s ≡ length s₀) × (x ≡ at s (m * 2 + i)) × ((v : List Float) → Backed 1 m 1 v s₀ → Backed 1 m (m - i) v s)
+Inv-loop s₀ m b i₀ x₀ s i x = (i < m) × (x ≡ at s (m * 2 + i)) × Carried 1 m 1 (m - i) s₀ s
 
 abbrev μ-loop : tie.MeasureT-loop
 μ-loop s₀ m b i₀ x₀ s i x = i
 
 loop-holds : tie.Need-loop-holds Inv-loop μ-loop
-loop-holds c = let e : c .before .args .m - (c .before .args .m - 1) ≡ 1 = omega arith in
-    (search needs, refl, refl, λ v h. rw e h)
+loop-holds c = let m = c .before .args .m in
+    let e : m - (m - 1) ≡ 1 = omega arith in
+    (search needs, refl, rw e (carried-none _ _ _ _))
 
 loop-again : tie.Need-loop-again Inv-loop μ-loop
 loop-again c = let at-loop = c .before .before .before .before in
-    let m = c .before .before .before .before .before .before .args .m in
+    let m = at-loop .before .before .args .m in
     let i = at-loop .loop .i in
     let s = at-loop .loop .s in
     let inv = at-loop .loop .inv in (
       search needs,
-      simp length-set (search needs),
       sym (at-same s (m * 2 + i - 1) (m * 2 + (i - 1)) _ (omega arith) (omega arith)),
-      λ v h. backed-more (i - 1) (m * 2 + i - 1) (inv .3 v h) (omega arith) (omega arith) (omega arith) (omega arith) (step-1 s m i _ (omega arith) (omega arith) (inv .2)) (omega arith),
+      carried-more (i - 1) (m * 2 + i - 1) (inv .2) (omega arith) (omega arith) (omega arith) (omega arith) (step-1 s m i _ (omega arith) (omega arith) (inv .1)) (omega arith),
     )
 
 returns : tie.Need-returns Inv-loop μ-loop
-returns c = let m = c .before .before .before .args .m in
-    let e : m - c .before .loop .i ≡ m = omega arith in
-    rw e at (c .before .loop .inv .3)
+returns c = let at-loop = c .before in
+    let m = at-loop .before .before .args .m in
+    let e : m - at-loop .loop .i ≡ m = omega arith in
+    rw e at (at-loop .loop .inv .2)
 
 pub back1-spec : {M : Type 1} → statement M
 back1-spec =

@@ -1,37 +1,34 @@
 use borrow.Author.Needs.{needs}
-use mathlib.Core.List.{List}
-use lib.Ieee.{Float}
-use mathlib.Core.Path.{_≡_, refl, sym, ap, _∙_}
-use Prim.Native.Nat.{ℕ, suc, _≤_, _<_, _-_, _+_, _*_}
+use mathlib.Core.Path.{_≡_, refl}
+use Prim.Native.Nat.{_≤_, _-_}
 use native.Mathlib.Omega.{arith}
-use lib.ListN.{length, length-set}
-use Rattle.substitution.specs.Solved.{Backed}
-use Rattle.banded.proofs.Laws.{rows-fit}
-use Rattle.substitution.proofs.Laws.{backed-more}
+use Rattle.banded.proofs.Laws.{wide-row}
+use Rattle.substitution.specs.Solved.{Carried}
+use Rattle.substitution.proofs.Laws.{carried-none, carried-more}
 use Rattle.substitution.proofs.back_any.Statement.{statement}
 use Rattle.substitution.proofs.back_any.Tie as tie
 
 abbrev Inv-loop : tie.InvT-loop
-Inv-loop s₀ k m from to b t₀ s t = (t ≤ to) × (length s ≡ length s₀) × ((v : List Float) → Backed k m from v s₀ → Backed k m t v s)
+Inv-loop s₀ k m from to b t₀ s t = (t ≤ to) × Carried k m from t s₀ s
 
 abbrev μ-loop : tie.MeasureT-loop
 μ-loop s₀ k m from to b t₀ s t = to - t
 
 add-b : tie.Need-add-b Inv-loop μ-loop
-add-b c = let a = c .before .args in
-    omega (arith, rows-fit (a .k) 0 (a .m) (length (a .s .now)) (omega arith) (omega arith))
+add-b c = let fits = c .before .pre .fits in
+    omega (arith, wide-row (c .before .args .k) (c .before .args .m) (fits .some))
 
 loop-holds : tie.Need-loop-holds Inv-loop μ-loop
-loop-holds c = (search needs, refl, λ v h. h)
+loop-holds c = (search needs, carried-none _ _ _ _)
 
 loop-again : tie.Need-loop-again Inv-loop μ-loop
-loop-again c = let at-loop = c .before .before .before in
-    let inv = at-loop .loop .inv in
-    (search needs, simp length-set (search needs), λ v h. backed-more _ _ (inv .2 v h) (omega arith) refl refl (omega arith) (c .back-at .ensures) refl)
+loop-again c = let inv = c .before .before .before .loop .inv in
+    (search needs, carried-more _ _ (inv .1) (omega arith) refl refl (omega arith) (c .back-at .ensures) refl)
 
 returns : tie.Need-returns Inv-loop μ-loop
-returns c = let e : c .before .loop .t ≡ c .before .before .before .args .to = omega arith in
-    rw e at (c .before .loop .inv .2)
+returns c = let at-loop = c .before in
+    let e : at-loop .loop .t ≡ at-loop .before .before .args .to = omega arith in
+    rw e at (at-loop .loop .inv .1)
 
 pub back-any-spec : {M : Type 1} → statement M
 back-any-spec =

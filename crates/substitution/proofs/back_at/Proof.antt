@@ -1,16 +1,14 @@
-use Rattle.banded.proofs.Laws.{less-more}
 use borrow.Author.Needs.{needs}
-use mathlib.Core.Path.{_≡_, refl, sym, ap, _∙_}
-use Prim.Native.Nat.{ℕ, suc, _≤_, _<_, _-_, _+_, _*_}
+use mathlib.Core.Path.{_≡_, ap, _∙_}
+use Prim.Native.Nat.{_≤_, _<_, _-_, _+_, _*_}
 use native.Mathlib.Omega.{arith}
 use native.Mathlib.Numerals.{add-one}
-use lib.ListN.{length}
-use Rattle.vectors.specs.Vec.{at}
-use Rattle.banded.proofs.Laws.{rows-fit, within}
-use Rattle.banded.specs.Run.{flat}
 use Rattle.float64.specs.Ops.{_⊘_, _⊗_}
+use Rattle.vectors.specs.Vec.{at}
 use Rattle.banded.specs.Rows.{less}
 use Rattle.banded.specs.Solve.{backAt}
+use Rattle.banded.specs.Run.{flat, HasRow}
+use Rattle.banded.proofs.Laws.{row-fits, within, less-more}
 use Rattle.substitution.proofs.back_at.Statement.{statement}
 use Rattle.substitution.proofs.back_at.Tie as tie
 
@@ -21,30 +19,31 @@ abbrev μ-loop : tie.MeasureT-loop
 μ-loop s k m i b d v₀ n t₀ v t = n - t
 
 add-b : tie.Need-add-b Inv-loop μ-loop
-add-b c = let a = c .before .args in
-    omega (arith, rows-fit (a .k) (a .i) (a .m) (length (a .s .now)) (omega arith) (omega arith))
+add-b c = omega (arith, row-fits (c .before .pre))
 
 add-get : tie.Need-add-get Inv-loop μ-loop
-add-get c = let a = c .before .args in
-    omega (arith, rows-fit (a .k) (a .i) (a .m) (length (a .s .now)) (omega arith) (omega arith))
+add-get c = omega (arith, row-fits (c .before .pre))
 
 get-requires : tie.Need-get-requires Inv-loop μ-loop
-get-requires c κs = let a = c .before .args in
-    within (a .k) (a .i) (a .i) (a .k) _ (rows-fit (a .k) (a .i) (a .m) _ (omega arith) (omega arith)) (omega arith) (omega arith)
+get-requires c κs = let st = c .before in
+    within (st .args .k) (st .args .i) (st .args .i) (st .args .k) _ (row-fits (st .pre)) (omega arith) (omega arith)
 
 loop-holds : tie.Need-loop-holds Inv-loop μ-loop
 unfolding less
 loop-holds c = (search needs, rw (c .before .before .get .ensures))
 
 add-get-2 : tie.Need-add-get-2 Inv-loop μ-loop
-add-get-2 c = let a = c .before .before .before .before .before .before .args in
-    omega (arith, rows-fit (a .k) (a .i) (a .m) (length (a .s .now)) (omega arith) (omega arith))
+add-get-2 c = let n-is = c .before .before in
+    omega (arith, row-fits (n-is .before .before .before .before .pre))
 
 get-requires-2 : tie.Need-get-requires-2 Inv-loop μ-loop
-get-requires-2 c κs = let a = c .before .before .before .before .before .before .args in
-    let t = c .before .loop .t in
-    let r = a .i + 1 + t in
-    within (a .k) r r (a .k - (t + 1)) _ (rows-fit (a .k) r (a .m) _ (omega arith) (omega arith)) (omega arith) (omega arith)
+get-requires-2 c κs = let at-loop = c .before in
+    let n-is = at-loop .before in
+    let st = n-is .before .before .before .before in
+    let a = st .args in
+    let r = a .i + 1 + at-loop .loop .t in
+    let below : HasRow (a .k) (a .m) r _ = record { row = omega arith; room = st .pre .room } in
+    within (a .k) r r (a .k - (at-loop .loop .t + 1)) _ (row-fits below) (omega arith) (omega arith)
 
 loop-again : tie.Need-loop-again Inv-loop μ-loop
 loop-again c = let at-loop = c .before .before .before in

@@ -1,10 +1,7 @@
 use native.Mathlib.Omega.{arith}
 use borrow.Author.Needs.{needs}
-use mathlib.Core.Path.{_≡_}
 use denote.Ref.{now}
-use Rattle.listing.specs.Listing.{refusedLine}
-use Rattle.week.specs.Printed.{fitText}
-use Rattle.week.proofs.Showing.{Listed, fit-listed, fit-refused, lent-is}
+use Rattle.week.proofs.Showing.{Fitted, fits-lent, fit-listed, fit-refused, lent-is}
 use Rattle.week.proofs.fit_week.Statement.{statement}
 use Rattle.week.proofs.fit_week.Tie as tie
 
@@ -24,38 +21,42 @@ slice-aggregate-l1-trend-filter-5 : tie.Need-slice-aggregate-l1-trend-filter-5
 slice-aggregate-l1-trend-filter-5 c = search needs
 
 -- pre{
--- what the fit was lent, and what it left
-abbrev begun : tie.After-l1-trend-filter → tie.Start
-begun f = f .before .before .before .before .before .before .before
+-- the call of the fit, from where its buffers are at hand again
+abbrev called : tie.After-marks2 → tie.After-l1-trend-filter
+called m = let k = m .before .before in k .before .before .before
 
-listed : (s : tie.After-s) → let f = s .before .before .before .before .before .before .before in
-    Listed (begun f .args .st) (now (begun f .args .y)) (s .s .given .0 .0) (f .l1-trend-filter .last .1 .1 .1 .0) (f .l1-trend-filter .last .1 .1 .1 .1 .0) (f .l1-trend-filter .last .1 .1 .1 .1 .1 .0)
-listed s =
-    let f = s .before .before .before .before .before .before .before in
-    let m = f .before in
-    fit-listed (begun f .args .st) (now (begun f .args .y)) _ (s .s .given .1) (f .l1-trend-filter .ensures .gives)
-    (lent-is (slice-aggregate-l1-trend-filter (m .before .before .before .before)) (slice-aggregate-l1-trend-filter-2 (m .before .before .before)) (slice-aggregate-l1-trend-filter-3 (m .before .before)) (slice-aggregate-l1-trend-filter-4 (m .before)) (slice-aggregate-l1-trend-filter-5 m))
+abbrev begun : tie.After-marks → tie.Start
+begun m = let k = m .before .before in k .before .before .before .before
+
+fitted : (m : tie.After-marks2) → let f = called m in let a = begun (f .before) .args in
+    Fitted (a .st) (now (a .y)) (f .l1-trend-filter .result) (f .l1-trend-filter .last .1 .1 .1 .0) (f .l1-trend-filter .last .1 .1 .1 .1 .0) (f .l1-trend-filter .last .1 .1 .1 .1 .1 .0)
+fitted m =
+    let f = called m in
+    let marks = f .before in
+    let work = marks .before in
+    let knots = work .before in
+    let cycle = knots .before in
+    fits-lent _ _ _ (f .l1-trend-filter .ensures .gives)
+    (lent-is (slice-aggregate-l1-trend-filter (cycle .before)) (slice-aggregate-l1-trend-filter-2 cycle) (slice-aggregate-l1-trend-filter-3 knots) (slice-aggregate-l1-trend-filter-4 work) (slice-aggregate-l1-trend-filter-5 marks))
 
 -- }pre
 
 put-listing-requires : tie.Need-put-listing-requires
 put-listing-requires c κs = let h = c .before .before .before .before in
     let s = h .before .before in
-    let a = begun (s .before .before .before .before .before .before .before) in
-    rw (h .shown .ensures) (a .pre, omega (arith, listed s .few, a .pre))
+    let m = s .before .before in
+    let a = begun (called m .before) in
+    rw (h .shown .ensures) (a .pre, omega (arith, fit-listed (fitted m) (s .s .given .1) .few, a .pre))
 
 returns : tie.Need-returns
 returns c = let n = c .before .before .before in
-    let f = n .before .before .before .before .before .before .before in
-    let m = f .before in
-    let e : fitText (begun f .args .st) (now (begun f .args .y)) ≡ refusedLine (n .number .given .0 .0) =
-    fit-refused (begun f .args .st) (now (begun f .args .y)) _ (n .number .given .1) (f .l1-trend-filter .ensures .gives)
-    (lent-is (slice-aggregate-l1-trend-filter (m .before .before .before .before)) (slice-aggregate-l1-trend-filter-2 (m .before .before .before)) (slice-aggregate-l1-trend-filter-3 (m .before .before)) (slice-aggregate-l1-trend-filter-4 (m .before)) (slice-aggregate-l1-trend-filter-5 m)) in
-    rw e (c .put-refused .ensures)
+    rw (fit-refused (fitted (n .before .before)) (n .number .given .1)) (c .put-refused .ensures)
 
 returns-2 : tie.Need-returns-2
-returns-2 c = let h = c .before .before .before .before .before in
-    rw (listed (h .before .before) .text, ← h .shown .ensures) (c .put-listing .ensures)
+returns-2 c = let a = c .before .before .before .before in
+    let h = a .before in
+    let s = h .before .before in
+    rw (fit-listed (fitted (s .before .before)) (s .s .given .1) .text, ← h .shown .ensures) (c .put-listing .ensures)
 
 pub fit-week-spec : {M : Type 1} → statement M
 fit-week-spec =

@@ -1,6 +1,8 @@
 use native.Mathlib.Omega.{arith}
 use borrow.Author.Needs.{needs}
 use mathlib.Core.Path.{sym, ap, _∙_}
+use Prim.Native.Nat.{ℕ}
+use mathlib.Core.List.{List}
 use lib.ListN.{length}
 use denote.Ref.{now}
 use Rattle.records.specs.Week.{readWeek}
@@ -10,10 +12,12 @@ use Rattle.week.proofs.weekly.Tie as tie
 
 -- pre{
 -- what `read_week` took
-week : (c : tie.After-known-told2) → Taken (readWeek (now (c .before .before .before .before .before .before .args .input))) (c .before .settings .given .0 .0) (c .before .settings .given .0 .1 .0) (c .before .before .before .read-week .last .1 .0)
-week c =
-    let r = c .before .before .before in
-    taken-week _ _ (sym (c .before .settings .given .1) ∙ r .read-week .ensures .0) (r .read-week .ensures .1)
+abbrev input : tie.After-settings → List ℕ
+input k = let r = k .before .before in now (r .before .before .before .args .input)
+
+week : (c : tie.After-known-told2) → let k = c .before in Taken (readWeek (input k)) (k .settings .given .0 .0) (k .settings .given .0 .1 .0) (k .before .before .read-week .last .1 .0)
+week c = let k = c .before in
+    taken-week _ _ (rw (k .settings .given .1) at (k .before .before .read-week .ensures))
 
 -- }pre
 
@@ -29,7 +33,8 @@ fit-week-requires c κs = let w = week (c .before .before) in
     omega (arith, w .few, w .count, ap length (w .front))
 
 returns : tie.Need-returns
-returns c = let e = text-refused _ (sym (c .before .before .before .number .given .1) ∙ c .before .before .before .before .before .read-week .ensures .0) in
+returns c = let k = c .before .before .before in
+    let e = text-refused _ (sym (k .number .given .1) ∙ k .before .before .read-week .ensures .said) in
     (rw e (c .put-refused .ensures), wrote-counts (c .put-refused .ensures))
 
 returns-2 : tie.Need-returns-2

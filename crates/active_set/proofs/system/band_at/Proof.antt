@@ -13,17 +13,23 @@ returns c = simp (lt-ltb _ _ (c .if1 .taken))
 
 returns-2 : tie.Need-returns-2
 unfolding compressed
-returns-2 c = let a = c .before .before .before .before .before .before .before .before .args in
+returns-2 c = let wj = c .before .before in
+    let wi = wj .before .before in
+    let el = wi .before .before in
+    let a = el .before .before .args in
     let o = c .before .over in
-    let e : o .result ≡ getD (a .free .now) (a .p) 0 - getD (a .free .now) (a .p + a .c - a .k) 0 = o .ensures ∙ rw (c .before .before .before .before .wide .ensures, c .before .before .wide2 .ensures) in
-    rw (le-ltb _ _ (c .before .before .before .before .before .before .if1 .left), ← e, le-leb _ _ (c .if2 .taken))
+    let e : o .result ≡ getD (a .free .now) (a .p) 0 - getD (a .free .now) (a .p + a .c - a .k) 0 = o .ensures ∙ rw (wi .wide .ensures, wj .wide2 .ensures) in
+    rw (le-ltb _ _ (el .if1 .left), ← e, le-leb _ _ (c .if2 .taken))
 
 returns-3 : tie.Need-returns-3
 unfolding compressed
-returns-3 c = let a = c .before .before .before .before .before .before .before .before .args in
+returns-3 c = let wj = c .before .before in
+    let wi = wj .before .before in
+    let el = wi .before .before in
+    let a = el .before .before .args in
     let o = c .before .over in
-    let e : o .result ≡ getD (a .free .now) (a .p) 0 - getD (a .free .now) (a .p + a .c - a .k) 0 = o .ensures ∙ rw (c .before .before .before .before .wide .ensures, c .before .before .wide2 .ensures) in
-    rw (le-ltb _ _ (c .before .before .before .before .before .before .if1 .left), ← e, lt-leb _ _ (c .if2 .left))
+    let e : o .result ≡ getD (a .free .now) (a .p) 0 - getD (a .free .now) (a .p + a .c - a .k) 0 = o .ensures ∙ rw (wi .wide .ensures, wj .wide2 .ensures) in
+    rw (le-ltb _ _ (el .if1 .left), ← e, lt-leb _ _ (c .if2 .left))
 
 pub band-at-spec : {M : Type 1} → statement M
 band-at-spec =

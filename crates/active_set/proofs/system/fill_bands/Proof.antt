@@ -1,7 +1,8 @@
 use borrow.Author.Needs.{needs}
-use mathlib.Core.Path.{_≡_}
+use mathlib.Core.Path.{_≡_, sym, _∙_}
 use native.Mathlib.Omega.{arith}
-use Prim.Native.Nat.{_≤_, _-_}
+use Prim.Native.Nat.{_≤_, _-_, _+_, _*_}
+use Rattle.vectors.proofs.Parts.{first-part}
 use Rattle.banded.proofs.Laws.{rows-fit}
 use Rattle.banded.proofs.Filling.{laid-none, laid-more, laid-done}
 use Rattle.banded.specs.Layout.{Laid}
@@ -20,10 +21,11 @@ loop-holds c = let a = c .before .before .args in
     (search needs, laid-none (a .k) (compressed (a .k) (a .g) (a .free .now)) (a .s .now))
 
 fill-row-requires : tie.Need-fill-row-requires Inv-loop μ-loop
-fill-row-requires c κs = let a = c .before .before .before .before .before .args in
-    let l = c .before .before .loop in
+fill-row-requires c κs = let lc = c .before .before in
+    let l = lc .loop in
+    let a = lc .before .before .before .args in
     let size = l .inv .1 .kept .size in
-    (omega arith, (omega arith, rows-fit (a .k) (l .p) (a .q) _ (omega arith) (omega arith)))
+    record { order = lc .before .before .before .pre .order; down = omega arith; room = rows-fit (a .k) (l .p) (a .q) _ (omega arith) (omega arith) }
 
 loop-again : tie.Need-loop-again Inv-loop μ-loop
 loop-again c = (search needs, laid-more (c .before .before .before .before .before .loop .inv .1) (c .before .before .fill-row .ensures))
@@ -36,7 +38,7 @@ returns c = let a = c .before .before .before .before .args in
     let e : c .before .loop .p ≡ a .q = omega arith in
     let w = rw e at (c .before .loop .inv .1) in
     let size = w .kept .size in
-    (laid-done w (omega arith) .0, w .kept)
+    (sym (first-part (a .q * (a .k + 1)) (c .before .loop .s) (omega arith)) ∙ laid-done w (omega arith) .0, w .kept)
 
 pub fill-bands-spec : {M : Type 1} → statement M
 fill-bands-spec =

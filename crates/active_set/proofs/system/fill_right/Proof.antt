@@ -24,13 +24,13 @@ loop-holds c = (search needs, rw add-zero none)
 
 sub-right-at : tie.Need-sub-right-at Inv-loop μ-loop
 sub-right-at c = let l = c .before .before .before in
-    omega (arith, l .before .before .before .before .pre .1 .1 .1 .1 .1 (l .loop .p) (omega arith))
+    omega (arith, l .before .before .before .before .pre .0 .places (l .loop .p) (omega arith))
 
 right-at-requires : tie.Need-right-at-requires Inv-loop μ-loop
 right-at-requires c κs = let l = c .before .before .before in
-    let s = l .before .before .before .before in
-    let f = s .pre .1 .1 .1 .1 .1 (l .loop .p) (omega arith) in
-    (omega arith, (omega (arith, c .wide .ensures), (omega arith, omega arith)))
+    let p = l .before .before .before .before .pre .0 in
+    let f = p .places (l .loop .p) (omega arith) in
+    record { order = p .order; inside = omega (arith, c .wide .ensures); marked = omega arith; dy = omega arith }
 
 loop-again : tie.Need-loop-again Inv-loop μ-loop
 loop-again c = let l = c .before .before .before .before in

@@ -24,7 +24,7 @@ loop-holds : tie.Need-loop-holds Inv-loop μ-loop
 loop-holds c = (search needs, rw add-zero none)
 
 band-at-requires : tie.Need-band-at-requires Inv-loop μ-loop
-band-at-requires c κs = (omega arith, (omega arith, omega arith))
+band-at-requires c κs = record { order = c .before .before .before .before .pre .order; across = omega arith; down = omega arith }
 
 add-s : tie.Need-add-s Inv-loop μ-loop
 add-s c = let a = c .before .before .before .before .before .args in

@@ -1,12 +1,13 @@
 use borrow.Author.Needs.{needs}
-use mathlib.Core.Path.{_≡_, refl}
+use mathlib.Core.Path.{_≡_, refl, ap}
 use Prim.Native.Nat.{_≤_, _-_}
-use native.Mathlib.Numerals.{add-one}
 use native.Mathlib.Omega.{arith}
 use lib.ListN.{length}
+use lib.Ieee.{Float}
 use Rattle.float64.specs.Ops.{_⊗_}
 use Rattle.vectors.specs.Vec.{at}
 use Rattle.vectors.specs.Sums.{sumTo, dot}
+use Rattle.vectors.proofs.Sums.{sum-more}
 use Rattle.differences.specs.Diff.{diffK}
 use Rattle.l2.proofs.sums.dot_diff.Statement.{statement}
 use Rattle.l2.proofs.sums.dot_diff.Tie as tie
@@ -22,13 +23,15 @@ unfolding sumTo
 loop-holds c = (search needs, refl)
 
 loop-again : tie.Need-loop-again Inv-loop μ-loop
-unfolding sumTo
-loop-again c = (search needs, rw add-one (cc))
+loop-again c = let lp = c .before .before .before in
+    let a = lp .before .before .before .args in
+    (search needs, sum-more _ _ _ _ (lp .loop .inv .1) (ap (λ (d : Float). at (a .v .now) (lp .loop .i) ⊗ d) (c .before .diff-at .ensures)))
 
 returns : tie.Need-returns Inv-loop μ-loop
 unfolding dot
-returns c = let e : c .before .loop .i ≡ length (c .before .before .before .before .args .v .now) = omega arith in
-    cc
+returns c = let lp = c .before in
+    let e : lp .loop .i ≡ length (lp .before .before .before .args .v .now) = omega arith in
+    rw e at (lp .loop .inv .1)
 
 pub dot-diff-spec : {M : Type 1} → statement M
 dot-diff-spec =

@@ -1,12 +1,13 @@
 use borrow.Author.Needs.{needs}
-use mathlib.Core.Path.{_≡_, refl}
+use mathlib.Core.Path.{_≡_, refl, ap}
 use Prim.Native.Nat.{_≤_, _-_}
-use native.Mathlib.Numerals.{add-one}
 use native.Mathlib.Omega.{arith}
 use lib.ListN.{length}
+use lib.Ieee.{Float}
 use Rattle.float64.specs.Ops.{_⊗_}
 use Rattle.vectors.specs.Vec.{at}
 use Rattle.vectors.specs.Sums.{sumTo, norm2Sq}
+use Rattle.vectors.proofs.Sums.{sum-more}
 use Rattle.differences.specs.Diff.{diffKT}
 use Rattle.differences.proofs.Laws.{length-diffKT}
 use Rattle.l2.proofs.sums.fall_squares.Statement.{statement}
@@ -23,14 +24,13 @@ unfolding sumTo
 loop-holds c = (search needs, refl)
 
 loop-again : tie.Need-loop-again Inv-loop μ-loop
-unfolding sumTo
-loop-again c = (search needs, rw add-one (cc))
+loop-again c = (search needs, sum-more _ _ _ _ (c .before .before .loop .inv .1) (ap (λ (d : Float). d ⊗ d) (c .diff-t-at .ensures)))
 
 returns : tie.Need-returns Inv-loop μ-loop
 unfolding norm2Sq
 returns c = let p = c .before .before .before .args in
     let e : c .before .loop .j ≡ length (diffKT (p .k) (p .v .now)) = omega (arith, length-diffKT (p .k) (p .v .now)) in
-    cc
+    rw e at (c .before .loop .inv .1)
 
 pub fall-squares-spec : {M : Type 1} → statement M
 fall-squares-spec =

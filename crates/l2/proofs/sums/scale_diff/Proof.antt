@@ -7,9 +7,12 @@ use lib.Ieee.{Float, nan}
 use Rattle.float64.specs.Ops.{_⊗_}
 use Rattle.vectors.specs.Vec.{at, part, Written}
 use Rattle.differences.specs.Diff.{diffK}
+use Rattle.differences.proofs.Laws.{length-diffK}
+use Rattle.l2.specs.L2.{scaled}
+use lib.ListN.{length}
 use native.Mathlib.Nat.{add-zero}
 use Rattle.vectors.proofs.Laws.{none, store-more, written-kept}
-use Rattle.vectors.proofs.Parts.{range-part, part-below}
+use Rattle.vectors.proofs.Parts.{range-part, part-below, store-done, length-part}
 use Rattle.l2.proofs.sums.scale_diff.Statement.{statement}
 use Rattle.l2.proofs.sums.scale_diff.Tie as tie
 
@@ -39,9 +42,17 @@ loop-again c = let l = c .before .before .before .before in
     (search needs, store-more n i (value (p .lam) (p .k) n (p .s .now)) (p .s .now) s (p .lam ⊗ c .diff-at .result) w (omega (arith, w .size)) (ap (λ (d : Float). p .lam ⊗ d) x))
 
 returns : tie.Need-returns Inv-loop μ-loop
+unfolding scaled
 returns c = let p = c .before .before .before .args in
-    let e : c .before .loop .i ≡ p .n - p .k = omega arith in
-    rw e at (c .before .loop .inv .1)
+    let d = diffK (p .k) (part 0 (p .n) (p .s .now)) in
+    let m = p .n - p .k in
+    let e : c .before .loop .i ≡ m = omega arith in
+    let w = rw e at (c .before .loop .inv .1) in
+    let l : length d ≡ m = length-diffK (p .k) (part 0 (p .n) (p .s .now)) ∙ omega (arith, length-part 0 (p .n) (p .s .now)) in
+    record {
+      held = store-done nan (p .n) m (value (p .lam) (p .k) (p .n) (p .s .now)) (p .s .now) (c .before .loop .s) w ∙ rw l;
+      kept = written-kept w;
+    }
 
 pub scale-diff-spec : {M : Type 1} → statement M
 scale-diff-spec =

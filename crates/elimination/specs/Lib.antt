@@ -1,0 +1,2 @@
+-- The definitions that the contracts of elimination cite.
+pub mod Decomposed

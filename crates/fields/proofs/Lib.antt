@@ -1,0 +1,3 @@
+-- Laws of digits and of writers.
+mod Decimals
+pub mod Writers

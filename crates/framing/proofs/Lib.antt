@@ -1,0 +1,4 @@
+-- Laws of numbers and of heads.
+pub mod Numbers
+pub mod Heads
+pub mod Floats

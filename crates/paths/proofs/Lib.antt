@@ -1,0 +1,3 @@
+-- The laws of paths.
+pub mod Areas
+pub mod Ways

@@ -1,0 +1,76 @@
+// L1 with 0 < lam < lam_max: the search and its polish.
+ghost use mathlib.Core.Path.{_≡_};
+ghost use mathlib.Core.Bool.{cond};
+ghost use Prim.Native.Nat.{ℕ, _≤_, _*_};
+ghost use lib.ListN.{length};
+ghost use Rattle.vectors.specs.Vec.{Kept, KeptOf};
+ghost use Rattle.certificate.specs.Ready.{Ready};
+ghost use Rattle.dual_point.specs.Lanes.{searchArea};
+ghost use Rattle.questions.specs.Asking.{asking};
+ghost use Rattle.fit.specs.Fit.{searchOf, pathEnd};
+ghost use Rattle.paths.specs.Taken.{Prepared, Room, Finds};
+ghost use Rattle.paths.specs.Search.{Reached};
+use crate::Found;
+use crate::Trend;
+
+fn pick(second: bool, a: f64, b: f64) -> f64
+    ensures { λ r. ⌜ r ≡ cond second b a ⌝ }
+{
+    if second { b } else { a }
+}
+
+// The search and its polish, in an area of their own: the iterate's trend at its start, the candidate's behind it.
+fn search_polish(
+    work: &mut [f64],
+    marks: &mut [u32],
+    y: &[f64],
+    dy: &[f64],
+    lam: f64,
+    tol: f64,
+    max_iter: u64,
+    k: usize,
+) -> Found
+    requires { ⌜ Ready k (now y) (now dy) (searchArea (length (now y))) (length (now work)) × (2 * length (now y) ≤ length (now marks)) ⌝ }
+    ensures { λ r. ⌜ ((p : ℕ) → Reached (asking (now (y .entry)) lam tol «max_iter» k p) (now (work .exit)) r)
+        × (Kept 0 (searchArea (length (now (y .entry)))) (now (work .entry)) (now (work .exit))
+        × KeptOf 0 0 (2 * length (now (y .entry))) (now (marks .entry)) (now (marks .exit))) ⌝ }
+{
+    let r = interior_point::ipm_l1(work, y, dy, lam, tol, max_iter, k);
+    let q = polish::polish_l1(work, marks, y, dy, lam, k);
+    let second = polish::won(q, r.gap);
+    let gap = pick(second, r.gap, q.gap);
+    let primal = pick(second, r.primal, q.primal);
+    Found {
+        trend: Trend::Won(second),
+        gap: gap,
+        first_gap: r.first,
+        best_gap: r.best,
+        objective: primal,
+        n_iter: r.n_iter,
+        improvements: r.improvements,
+        converged: gap <= tol * primal,
+    }
+}
+
+// The path: cycle holds D y meanwhile, and the area is the one behind the preparation.
+pub fn search_path(
+    work: &mut [f64],
+    marks: &mut [u32],
+    cycle: &mut [f64],
+    y: &[f64],
+    lam: f64,
+    tol: f64,
+    max_iter: u64,
+    k: usize,
+) -> Found
+    requires { ⌜ Prepared k (now y) (now work) × (Room (length (now y)) (now work) (now cycle) × (2 * length (now y) ≤ length (now marks))) ⌝ }
+    ensures { λ r. ⌜ Finds (λ (p : ℕ). pathEnd (asking (now (y .entry)) lam tol «max_iter» k p) (searchOf (asking (now (y .entry)) lam tol «max_iter» k p))) k (now (y .entry))
+        (now (work .entry)) (now (work .exit)) (now (cycle .entry)) (now (cycle .exit)) r
+        × KeptOf 0 0 (2 * length (now (y .entry))) (now (marks .entry)) (now (marks .exit)) ⌝ }
+{
+    let n = y.len();
+    crate::differences_to(cycle, work, n, n - k);
+    let a = 5 * n;
+    let e = 18 * n;
+    search_polish(&mut work[a..e], marks, y, cycle, lam, tol, max_iter, k)
+}
