@@ -13,10 +13,10 @@ def case(name):
     n = struct.unpack_from('<I', d, 8)[0]
     lent = struct.unpack_from('<5I', d, 12)
     lam, tol = struct.unpack_from('<dd', d, 32)
-    limit = struct.unpack_from('<Q', d, 48)[0]
+    max_iter = struct.unpack_from('<Q', d, 48)[0]
     y = struct.unpack_from('<%dd' % n, d, 56)
     e = open(name + '.exp').read().split('\n')
-    asked = 'record { y = %s; lam = %s; tol = %s; max-iter = %d; order = %d; penalty = %d }' % (vector(map(bits, y)), bits(lam), bits(tol), limit, d[4], d[5])
+    asked = 'record { y = %s; lam = %s; tol = %s; max-iter = %d; order = %d; penalty = %d }' % (vector(map(bits, y)), bits(lam), bits(tol), max_iter, d[4], d[5])
     room = 'record { trend = %d; cycle = %d; knots = %d; work = %d; marks = %d }' % lent
     if e[0].startswith('refused'):
         end = e[0]
@@ -26,7 +26,7 @@ def case(name):
         k = [l.split()[1] for l in e if l.startswith('knot ')]
         end = ('fitted (record { trend = %s; cycle = %s; knots = %s; lam-max = F 0x%s; gap = F 0x%s; first-gap = F 0x%s; best-gap = F 0x%s; objective = F 0x%s; n-iter = %s; improvements = %s; converged = %s })'
             % (vector('F 0x' + w[2] for w in h), vector('F 0x' + w[3] for w in h), vector(k), v[1], v[2], v[3], v[4], v[5], f[4], f[5], 'true' if f[6] == '1' else 'false'))
-    say = '-- order %d, penalty %d, y %s, lam %r, tol %r, at most %d iterations: %s' % (d[4], d[5], y, lam, tol, limit, e[0])
+    say = '-- order %d, penalty %d, y %s, lam %r, tol %r, at most %d iterations: %s' % (d[4], d[5], y, lam, tol, max_iter, e[0])
     return say, asked, room, end
 
 def main():

@@ -3,13 +3,13 @@ ghost use mathlib.Core.Path.{_≡_};
 ghost use Prim.Native.Nat.{_+_, _*_, _^_, _<_, _≤_};
 ghost use lib.Ieee.{binary64, ofBits};
 ghost use Rattle.square_root.specs.Sqrt.{sqrtOf, nearestRoot, isqrt};
-ghost use Rattle.square_root.specs.Parts.{roundedRoot, Bits};
+ghost use Rattle.square_root.specs.Parts.{roundedRoot, Bits, Lifted, Scaled};
 
 // How many places the digits t of a subnormal go up until they are 53.
 fn places(t: u64) -> u64
     requires { ⌜ 0 < t ⌝ }
     requires { ⌜ t < 2 ^ 53 ⌝ }
-    ensures { λ r. ⌜ (2 ^ 52 ≤ t * 2 ^ r) × (t * 2 ^ r < 2 ^ 53) × (r ≤ 52) ⌝ }
+    ensures { λ r. ⌜ Lifted t r ⌝ }
 {
     let mut m: u64 = t;
     let mut s: u64 = 0;
@@ -64,10 +64,7 @@ fn rooted(w: u64) -> u64
 
 // The bits of the double nearest to the root of m * 2 ^ e.
 fn root_bits(m: u64, e: u64) -> u64
-    requires { ⌜ 2 ^ 52 ≤ m ⌝ }
-    requires { ⌜ m < 2 ^ 53 ⌝ }
-    requires { ⌜ 53 ≤ e ⌝ }
-    requires { ⌜ e < 4096 ⌝ }
+    requires { ⌜ Scaled m e ⌝ }
     ensures { λ r. ⌜ Bits (nearestRoot (m * 2 ^ e)) r ⌝ }
 {
     if e % 2 == 0 {

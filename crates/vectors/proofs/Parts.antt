@@ -111,25 +111,10 @@ module _ {A : Type 0} (a n : ℕ) (s x : List A) (fits : a + n ≤ length s) (e 
       partOf-ext z (a + b) b m (putBack a n s x) x
       (λ j l. let q : a + (b + j) ≡ a + b + j = omega arith in ap (λ (p : ℕ). getD (putBack a n s x) p z) (sym q) ∙ sym (getD-put z (b + j) (omega arith)))
 
--- ---- the n places of a run from a on, and then the m after them
-
-pub head-is : (a n m : ℕ) (s : List Float) → a + (n + m) ≤ length s → take n (take (n + m) (drop a s)) ≡ part a n s
-head-is a n m s room =
-    let t = take (n + m) (drop a s) in
-    let l : length t ≡ n + m = length-take-le (n + m) (drop a s) (omega (arith, length-drop a s)) in
-    let d : a + (n + m) - a ≡ n + m = omega arith in
-    let z : a + 0 ≡ a = omega arith in
-    first-part n t (omega arith) ∙ rw (d, z) at (partOf-range nan 0 n a (a + (n + m)) s (omega arith) room (omega arith))
+-- ---- the m places of a run from n on
 
 pub mid-is : (n m : ℕ) (s : List Float) → n + m ≤ length s → take m (drop n s) ≡ part n m s
 mid-is n m s h = let d : n + m - n ≡ m = omega arith in rw d at (range-part n (n + m) m s refl h)
-
-pub side-is : (a n m : ℕ) (s : List Float) → a + (n + m) ≤ length s → take m (drop n (take (n + m) (drop a s))) ≡ part (a + n) m s
-side-is a n m s room =
-    let t = take (n + m) (drop a s) in
-    let l : length t ≡ n + m = length-take-le (n + m) (drop a s) (omega (arith, length-drop a s)) in
-    let d : a + (n + m) - a ≡ n + m = omega arith in
-    mid-is n m t (omega arith) ∙ rw d at (partOf-range nan n m a (a + (n + m)) s (omega arith) room (omega arith))
 
 -- ---- what a call on a part leaves of the run
 
@@ -177,10 +162,3 @@ kept-drop {A} z q s₀ s n e = record {
       let r : q + (j - q) ≡ j = omega arith in
       ap (λ (p : ℕ). getD s p z) (sym r) ∙ sym (getD-drop q s (j - q) z) ∙ ap (λ (v : List A). getD v (j - q) z) e ∙ getD-drop q s₀ (j - q) z ∙ ap (λ (p : ℕ). getD s₀ p z) r;
 }
-
-pub kept-take : {b n : ℕ} {s₀ s : List Float} → Kept b n s₀ s → b ≤ length s₀ → take b s ≡ take b s₀
-kept-take {b} {n} {s₀} {s} w h =
-    let e = w .size in
-    let l : length (take b s) ≡ b = length-take-le b s (omega arith) in
-    ext-getD nan (take b s) (take b s₀) (l ∙ sym (length-take-le b s₀ h))
-    (λ i u. let c : i < b = omega arith in getD-take b s i nan c ∙ w .below i c ∙ sym (getD-take b s₀ i nan c))

@@ -1,6 +1,7 @@
 -- A vector and its places; a part of a run; what a loop has written. Definitions only: their laws are in proofs/.
 -- Each is given once for any element type. There z is the value that is read beyond the end: nan for doubles, 0 for bytes and counts.
 use mathlib.Core.Path.{_≡_}
+use mathlib.Core.Logic.{_⊎_}
 use mathlib.Core.List.{List, [], _∷_, _++_}
 use Prim.Native.Nat.{ℕ, zero, suc, _+_, _-_, _≤_, _<_}
 use lib.ListN.{length, getD, take, drop}
@@ -48,6 +49,12 @@ pub record KeptOf {A : Type 0} (z : A) (a n : ℕ) (v₀ v : List A) : Type 0 wh
 
 abbrev pub Kept : ℕ → ℕ → List Float → List Float → Type 0
 Kept a n v₀ v = KeptOf nan a n v₀ v
+
+-- in a run of l places the n from a on and the n from b on lie apart
+pub record Disjoint (a b n l : ℕ) : Type 0 where
+  pub apart : (a + n ≤ b) ⊎ (b + n ≤ a)
+  pub first : a + n ≤ l
+  pub second : b + n ≤ l
 
 -- t was written into s from place a on, which made it e, and r is the place past it
 pub record Wrote {A : Type 0} (s : List A) (a : ℕ) (t e : List A) (r : ℕ) : Type 0 where

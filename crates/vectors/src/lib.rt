@@ -1,12 +1,11 @@
 // Sums and the greatest size of a vector, whether it lies within a bound, and a copy of one.
 ghost use mathlib.Core.Path.{_≡_};
 ghost use mathlib.Core.Bool.{_&&_};
-ghost use mathlib.Core.Logic.{_⊎_};
-ghost use Prim.Native.Nat.{_≤_, _+_, _-_, min};
+ghost use Prim.Native.Nat.{_≤_, _-_, min};
 ghost use lib.ListN.{length};
 ghost use lib.Ieee.{lt};
 ghost use Rattle.float64.specs.Helpers.{absOf};
-ghost use Rattle.vectors.specs.Vec.{put, apart, part, Kept};
+ghost use Rattle.vectors.specs.Vec.{put, apart, part, Kept, Disjoint};
 ghost use Rattle.vectors.specs.Sums.{norm2Sq, maxAbs, inside};
 
 pub fn norm2_sq(v: &[f64]) -> f64
@@ -73,7 +72,7 @@ pub fn copy(t: &mut [f64], x: &[f64])
 
 // The n places of s from b on become those from a on; the two stretches lie apart.
 pub fn copy_within(s: &mut [f64], a: usize, b: usize, n: usize)
-    requires { ⌜ ((a + n ≤ b) ⊎ (b + n ≤ a)) × ((a + n ≤ length (now s)) × (b + n ≤ length (now s))) ⌝ }
+    requires { ⌜ Disjoint a b n (length (now s)) ⌝ }
     ensures { λ _. ⌜ (part b n (now (s .exit)) ≡ part a n (now (s .entry))) × Kept b n (now (s .entry)) (now (s .exit)) ⌝ }
 {
     let mut i = 0;

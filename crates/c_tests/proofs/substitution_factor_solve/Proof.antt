@@ -17,27 +17,32 @@ returns-2 c = let a = c .before .before .before .args in
     refused (λ (room : Room (a .k) (a .m) (length (a .s .now))). omega arith) refl
 
 returns-3 : tie.Need-returns-3
-returns-3 c = let a = c .before .before .before .before .args in
+returns-3 c = let order = c .before in
+    let a = order .before .before .before .args in
     refused (λ (room : Room (a .k) (a .m) (length (a .s .now))). omega arith) refl
 
 returns-4 : tie.Need-returns-4
-returns-4 c = let a = c .before .before .before .before .before .args in
+returns-4 c = let order = c .before .before in
+    let a = order .before .before .before .args in
     refused (λ (room : Room (a .k) (a .m) (length (a .s .now))). omega arith) refl
 
 mul-if5 : tie.Need-mul-if5
-mul-if5 c = let a = c .before .before .before .before .before .args in
+mul-if5 c = let order = c .before .before in
+    let a = order .before .before .before .args in
     let w : a .k + 1 ≤ 3 = omega arith in
     let f : a .m * (a .k + 1) ≤ a .m * 3 = mul-le-mul-left (a .m) w in
     omega arith
 
 add-if5-2 : tie.Need-add-if5-2
-add-if5-2 c = let a = c .before .before .before .before .before .args in
+add-if5-2 c = let order = c .before .before in
+    let a = order .before .before .before .args in
     let w : a .k + 1 ≤ 3 = omega arith in
     let f : a .m * (a .k + 1) ≤ a .m * 3 = mul-le-mul-left (a .m) w in
     omega arith
 
 returns-5 : tie.Need-returns-5
-returns-5 c = let a = c .before .before .before .before .before .before .args in
+returns-5 c = let order = c .before .before .before in
+    let a = order .before .before .before .args in
     refused (λ (room : Room (a .k) (a .m) (length (a .s .now))). omega arith) refl
 
 returns-6 : tie.Need-returns-6

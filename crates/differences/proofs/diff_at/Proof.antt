@@ -6,12 +6,14 @@ use Rattle.differences.proofs.diff_at.Statement.{statement}
 use Rattle.differences.proofs.diff_at.Tie as tie
 
 returns : tie.Need-returns
-returns c = let a = c .before .before .before .args in
-    let e : a .k ≡ 1 = c .before .before .if1 .taken in
+returns c = let first = c .before .before in
+    let a = first .before .args in
+    let e : a .k ≡ 1 = first .if1 .taken in
     rw e (sym (at-diff-1 (a .y .now) (a .i) (omega arith)))
 
 returns-2 : tie.Need-returns-2
-returns-2 c = let a = c .before .before .before .before .before .args in
+returns-2 c = let second = c .before .before .before .before in
+    let a = second .before .args in
     let e : a .k ≡ 2 = omega arith in
     rw e (sym (at-diff-2 (a .y .now) (a .i) (omega arith)))
 

@@ -22,7 +22,7 @@ copy-within-requires c κs = let di = c .before .before .before in
     let fi = di .before .before .before .before in
     let st = fi .before .before .before .before .before in
     let ends = system-fits (st .pre .0) in
-    (inr (omega arith), (omega arith, omega arith))
+    record { apart = inr (omega arith); first = omega arith; second = omega arith }
 
 returns : tie.Need-returns
 returns c = let co = c .before .before in

@@ -16,7 +16,7 @@ returns c = let a = c .before .before .args in
     (rw n, kept-none 0 (3 * a .m) (a .s .now))
 
 copy-within-requires : tie.Need-copy-within-requires
-copy-within-requires c κs = (inr (omega arith), (omega arith, omega arith))
+copy-within-requires c κs = record { apart = inr (omega arith); first = omega arith; second = omega arith }
 
 returns-2 : tie.Need-returns-2
 returns-2 c = let w = c .before .before .copy-within in

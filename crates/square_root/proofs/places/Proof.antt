@@ -1,4 +1,4 @@
--- `float64::places` meets its contract. The invariant: m is t with s zeros after it, and is below 2 ^ 53. Assumes nothing.
+-- `square_root::places` meets its contract. The invariant: m is t with s zeros after it, and is below 2 ^ 53. Assumes nothing.
 use mathlib.Core.Path.{_≡_}
 use Prim.Native.Nat.{ℕ, _≤_, _<_, _+_, _*_, _-_, _^_}
 use native.Mathlib.Nat.{pow-suc}
@@ -26,8 +26,11 @@ loop-again c =
     let z : l .s + 1 < 53 = zeros-lt t (l .m * 2) (l .s + 1) 53 (c .before .before .pre .0) n b in
     (n, b, omega arith)
 
+returns : tie.Need-returns Inv-loop μ-loop
+returns c = record { least = omega arith; under = omega arith; few = omega arith }
+
 pub places-spec : {M : Type 1} → statement M
 places-spec =
     tie.close
     (tie.spec Inv-loop μ-loop (λ c. omega arith) (λ c. omega arith) (λ c. omega arith) (λ c. omega arith) loop-again
-    (λ c. omega arith))
+    returns)

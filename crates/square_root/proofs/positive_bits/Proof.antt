@@ -1,4 +1,4 @@
--- `float64::positive_bits` meets its contract. Assumes nothing.
+-- `square_root::positive_bits` meets its contract. Assumes nothing.
 use mathlib.Core.Path.{_≡_, sym, ap, subst, _∙_}
 use Prim.Native.Nat.{ℕ, _-_, _*_, _%_, _^_, _<_}
 use native.Mathlib.Nat.{mod-eq-of-lt}

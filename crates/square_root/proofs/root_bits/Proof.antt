@@ -1,4 +1,4 @@
--- `float64::root_bits` meets its contract. Assumes nothing.
+-- `square_root::root_bits` meets its contract. Assumes nothing.
 use mathlib.Core.Path.{_≡_, sym, subst}
 use Prim.Native.Nat.{ℕ, _+_, _-_, _*_, _/_, _^_}
 use native.Mathlib.Omega.{arith}

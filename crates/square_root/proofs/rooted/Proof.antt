@@ -1,4 +1,4 @@
--- `float64::rooted` meets its contract. Assumes nothing.
+-- `square_root::rooted` meets its contract. Assumes nothing.
 use mathlib.Core.Path.{sym, subst}
 use Prim.Native.Nat.{ℕ}
 use native.Mathlib.Omega.{arith}

@@ -1,4 +1,4 @@
--- `float64::short_root` meets its contract. Assumes nothing.
+-- `square_root::short_root` meets its contract. Assumes nothing.
 use mathlib.Core.Path.{_≡_, subst}
 use Prim.Native.Nat.{suc, _≤_, _+_, _*_, _-_, _%_, _^_}
 use native.Mathlib.Nat.{mul-le-mul}

@@ -1,4 +1,4 @@
--- `float64::sqrt` meets its contract. Assumes nothing.
+-- `square_root::sqrt` meets its contract. Assumes nothing.
 use mathlib.Core.Path.{_≡_, refl, sym, ap, subst, _∙_}
 use Prim.Native.Nat.{ℕ, _*_, _%_, _^_, _<_}
 use native.Mathlib.Omega.{arith}
@@ -34,7 +34,7 @@ returns-2 c = fixed (c .before .before .args .x) 0 (back (c .before .before)) (c
 
 returns-3 : tie.Need-returns-3
 unfolding ofBits sqrtOf
-returns-3 c = fixed (c .before .before .before .args .x) (2 ^ 63) (back (c .before .before .before)) (c .if3 .taken) refl
+returns-3 c = let s = c .before .before .before in fixed (s .args .x) (2 ^ 63) (back s) (c .if3 .taken) refl
 
 zero-by-zero : div binary64 (ofBits binary64 0) (ofBits binary64 0) ≡ nan
 unfolding div ofBits
@@ -42,13 +42,15 @@ zero-by-zero = refl
 
 returns-4 : tie.Need-returns-4
 returns-4 c =
-    let s = c .before .before .before .before in
+    let plus = c .before .before in
+    let s = plus .before .before in
     let x = s .args .x in
     zero-by-zero ∙ sym (ap sqrtOf (back s) ∙ negative-root (toBits binary64 x) (omega arith) (toBits-lt binary64 x (subst T (sym (s .good .0 .1)) tt)))
 
 returns-5 : tie.Need-returns-5
 returns-5 c =
-    let s = c .before .before .before .before .before in
+    let plus = c .before .before .before in
+    let s = plus .before .before in
     fixed (s .args .x) (toBits binary64 (s .args .x)) (back s) refl (top-root (toBits binary64 (s .args .x)) (omega arith) (omega arith))
 
 float-from-bits-result : tie.Need-float-from-bits-result
@@ -59,7 +61,10 @@ float-from-bits-result c =
     (not-T (ltb (2047 * 2 ^ 52) (r % 2 ^ 63)) (λ t. let h : 2047 * 2 ^ 52 < r % 2 ^ 63 = ltb→lt (2047 * 2 ^ 52) (r % 2 ^ 63) t in omega arith))
 
 returns-6 : tie.Need-returns-6
-returns-6 c = c .positive-bits .ensures .value ∙ ap sqrtOf (sym (back (c .before .before .before .before .before .before)))
+returns-6 c =
+    let plus = c .before .before .before .before in
+    let s = plus .before .before in
+    c .positive-bits .ensures .value ∙ ap sqrtOf (sym (back s))
 
 pub sqrt-spec : {M : Type 1} → statement M
 sqrt-spec =

@@ -1,4 +1,4 @@
--- `float64::whole_root` meets its contract. Assumes nothing.
+-- `square_root::whole_root` meets its contract. Assumes nothing.
 use Prim.Native.Nat.{ℕ, _+_, _*_, _/_, _^_, _<_, _≤_}
 use native.Mathlib.Nat.{mul-le-mul, le-of-lt}
 use native.Mathlib.Omega.{arith}

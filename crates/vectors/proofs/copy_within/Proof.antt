@@ -28,7 +28,7 @@ loop-again c = let l = c .before .before .loop in
     let size = w .size in (
       search needs,
       store-more (a .b) (l .i) (λ j. at (a .s .now) (a .a + j)) (a .s .now) (l .s) _ w (omega arith)
-          (⊎-elim (λ (h : a .a + a .n ≤ a .b). w .below (a .a + l .i) (omega arith)) (λ (h : a .b + a .n ≤ a .a). w .above (a .a + l .i) (omega arith)) (st .pre .0)),
+          (⊎-elim (λ (h : a .a + a .n ≤ a .b). w .below (a .a + l .i) (omega arith)) (λ (h : a .b + a .n ≤ a .a). w .above (a .a + l .i) (omega arith)) (st .pre .apart)),
     )
 
 returns : tie.Need-returns Inv-loop μ-loop

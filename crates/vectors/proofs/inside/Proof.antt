@@ -19,13 +19,15 @@ unfolding insideTo
 loop-holds c = (search needs, refl)
 
 loop-again : tie.Need-loop-again Inv-loop μ-loop
-loop-again c = let l = c .before .before .before .loop in
-    let a = c .before .before .before .before .before .args in
+loop-again c = let at-loop = c .before .before .before in
+    let l = at-loop .loop in
+    let a = at-loop .before .before .args in
     (search needs, inside-more (a .lam) (a .v .now) (l .i) (l .all) (c .still .result) (l .inv .1) (c .still .ensures))
 
 returns : tie.Need-returns Inv-loop μ-loop
-returns c = let l = c .before .loop in
-    let e : l .i ≡ length (c .before .before .before .args .v .now) = omega arith in
+returns c = let at-loop = c .before in
+    let l = at-loop .loop in
+    let e : l .i ≡ length (at-loop .before .before .args .v .now) = omega arith in
     l .inv .1 ∙ rw e
 
 pub inside-spec : {M : Type 1} → statement M

@@ -35,7 +35,7 @@ copy-within-requires c κs = let st = c .before .before .before .before .before 
     let m = length (a .y .now) - a .k in
     let f = rows-fit (a .k) m (st .pre .0 .series .order .high) in
     let r = st .pre .1 .work in
-    (inl (omega arith), (omega arith, omega arith))
+    record { apart = inl (omega arith); first = omega arith; second = omega arith }
 
 certify-l1-requires : tie.Need-certify-l1-requires
 certify-l1-requires c κs = let cw = c .before .before .before .before in
