@@ -47,13 +47,15 @@ certify-l1-requires c κs = let cw = c .before .before .before .before in
     let m = n - a .k in
     let p = st .pre .0 in
     let r = st .pre .1 .work in
-    let s = p .series in
-    let o = s .order in
     let w = cw .copy-within .last .0 in
     let size = cw .copy-within .ensures .1 .size in
     let l = 5 * n + n + m - 5 * n in
     let q : length (take l (drop (5 * n) w)) ≡ l = part-size (5 * n) l w (take l (drop (5 * n) w)) (omega arith) refl in
-    (o .low, (o .high, (s .long, (omega arith, first-places _ (a .cycle .now) (diffK (a .k) y) m (dt .differences-to .ensures ∙ ap (put (a .cycle .now) 0) (p .differences)) (length-diffK (a .k) y)))))
+    record {
+      series = p .series;
+      room = omega arith;
+      known = first-places _ (a .cycle .now) (diffK (a .k) y) m (dt .differences-to .ensures ∙ ap (put (a .cycle .now) 0) (p .differences)) (length-diffK (a .k) y);
+    }
 
 returns : tie.Need-returns
 unfolding reach trendOf pathFlat certify

@@ -39,7 +39,7 @@ solve-l2-requires c κs = let st = c .before .before .before in
     let r = st .pre .1 in
     let a = 8 * n - n * (st .args .k + 1) in
     let q : length (take (9 * n - a) (drop a w)) ≡ 9 * n - a = part-size a (9 * n - a) w (take (9 * n - a) (drop a w)) (omega arith) refl in
-    (p .order .high, (omega (arith, p .long), (p .short, omega arith)))
+    (p, omega arith)
 
 returns : tie.Need-returns
 unfolding said reached

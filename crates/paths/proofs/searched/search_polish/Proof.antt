@@ -27,9 +27,7 @@ polish-l1-requires : tie.Need-polish-l1-requires
 polish-l1-requires c κs = let ip = c .before .before .before .before in
     let h = ip .before .before .before .before .before .before .pre in
     let r = h .0 in
-    let s = r .series in
-    let o = s .order in
-    (o .low, (o .high, (s .long, (s .short, (omega (arith, r .room, ip .ipm-l1 .ensures .kept .size), (h .1, r .known))))))
+    record { ready = record { series = r .series; room = omega (arith, r .room, ip .ipm-l1 .ensures .kept .size); known = r .known }; marked = h .1 }
 
 returns : tie.Need-returns
 unfolding searchOf keptOf firstGap
