@@ -14,11 +14,11 @@ use Rattle.float64.specs.Ops.{_⊘_}
 use Rattle.float64.proofs.Clash.{clash}
 use Rattle.vectors.specs.Vec.{at, part, Kept}
 use Rattle.vectors.proofs.Laws.{length-list, at-list, kept-none, kept-then}
-use Rattle.vectors.proofs.Parts.{length-part, first-part, mid-is, part-below, putBack, mid-put, length-put, kept-put, part-put, part-size}
-use Rattle.banded.specs.Rows.{Matrix, look, rows, sound, matrix, concat}
+use Rattle.vectors.proofs.Parts.{length-part, part-below, putBack, mid-put, length-put, kept-put, part-put, part-size}
+use Rattle.banded.specs.Rows.{look, rows}
 use Rattle.banded.specs.Solve.{backAt, forward, divided, back, solve}
 use Rattle.banded.specs.Run.{flat, Holds, Stands}
-use Rattle.banded.proofs.Laws.{above, less-ext, holds-of, shape-rows, kept-after, rows-part, side-part, part-stands, stands-part}
+use Rattle.banded.proofs.Laws.{above, less-ext, holds-of, shape-rows, rows-part, side-part, part-stands, stands-part}
 use Rattle.banded.proofs.Forward.{length-forward}
 use Rattle.elimination.specs.Decomposed.{Decomposed}
 use Rattle.substitution.specs.Solved.{Backed, Carried, Substituted, Solved}
@@ -167,20 +167,3 @@ module _ (p : ℕ) (s : List Float) {k m : ℕ} {x : List Float} {ok : Bool} (ro
             ∙ ap (λ (u : List Float). back k f (divided k f u) m) (d .side a (rows-part k p m s room ∙ g) good ∙ ap (λ (u : List Float). forward k f u m) (side-part k p m s room))
             ∙ sym (solve-is k m f b (length-part (p + n) m s));
       }
-
--- a system that a run begins with, and all of the run
-pub solved-run : {k m : ℕ} {s₀ s : List Float} {ok : Bool} → m * (k + 1) + m ≤ length s₀ → Solved 0 k m s₀ s ok
-    → (drop (m * (k + 1) + m) s ≡ drop (m * (k + 1) + m) s₀)
-    × ((a : Matrix) → take (m * (k + 1)) s₀ ≡ concat (matrix k a m)
-    → (ok ≡ sound k a m) × (ok ≡ true → (take (m * (k + 1)) s ≡ concat (rows k a m)) × (take m (drop (m * (k + 1)) s) ≡ solve k (rows k a m) (take m (drop (m * (k + 1)) s₀)))))
-solved-run {k} {m} {s₀} {s} room w =
-    let n = m * (k + 1) in
-    let size = w .kept .size in
-    let z : 0 + n ≡ n = omega arith in
-    let head : (a : Matrix) → take n s₀ ≡ concat (matrix k a m) → part 0 n s₀ ≡ concat (matrix k a m) = λ a h. sym (first-part n s₀ (omega arith)) ∙ h in (
-      kept-after (n + m) s s₀ size (λ q h. w .kept .above q (omega arith)),
-      λ a h. (
-        w .answer a (head a h),
-        λ y. (first-part n s (omega arith) ∙ w .factor a (head a h) y, mid-is n m s (omega arith) ∙ (rw z at (w .solution a (head a h) y)) ∙ ap (solve k (rows k a m)) (sym (mid-is n m s₀ room))),
-      ),
-    )

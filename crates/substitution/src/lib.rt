@@ -1,12 +1,10 @@
 // The solution of a banded system from its factor and the right side carried forward: division by the pivots, and back. Then both in one call.
 ghost use mathlib.Core.Path.{_≡_};
-ghost use mathlib.Core.Bool.{true};
 ghost use Prim.Native.Nat.{_≤_, _-_, _+_, _*_, min};
-ghost use lib.ListN.{length, take, drop};
+ghost use lib.ListN.{length};
 ghost use Rattle.float64.specs.Ops.{_⊘_};
 ghost use Rattle.vectors.specs.Vec.{at};
-ghost use Rattle.banded.specs.Rows.{Matrix, rows, sound, matrix, concat};
-ghost use Rattle.banded.specs.Solve.{backAt, solve as solve_of};
+ghost use Rattle.banded.specs.Solve.{backAt};
 ghost use Rattle.banded.specs.Run.{flat, HasRow};
 ghost use Rattle.substitution.specs.Solved.{Fits, Stretch, Carried, Substituted, Solved};
 
@@ -118,15 +116,4 @@ pub fn factor_solve_at(s: &mut [f64], p: usize, k: usize, m: usize) -> bool
     }
     solve(&mut s[p..e], k, m);
     true
-}
-
-// The same for the system that s begins with.
-pub fn factor_solve(s: &mut [f64], k: usize, m: usize) -> bool
-    requires { ⌜ (1 ≤ m) × (m * (k + 1) + m ≤ length (now s)) ⌝ }
-    ensures { λ ok. ⌜ (drop (m * (k + 1) + m) (now (s .exit)) ≡ drop (m * (k + 1) + m) (now (s .entry)))
-        × ((a : Matrix) → take (m * (k + 1)) (now (s .entry)) ≡ concat (matrix k a m)
-        → (ok ≡ sound k a m) × (ok ≡ true → (take (m * (k + 1)) (now (s .exit)) ≡ concat (rows k a m))
-        × (take m (drop (m * (k + 1)) (now (s .exit))) ≡ solve_of k (rows k a m) (take m (drop (m * (k + 1)) (now (s .entry))))))) ⌝ }
-{
-    factor_solve_at(s, 0, k, m)
 }
