@@ -1,15 +1,17 @@
--- A matrix laid out row by row. Assumes nothing.
+-- A matrix laid out row by row, and a right side behind it. Assumes nothing.
 use mathlib.Core.Logic.{⊎-elim}
 use mathlib.Core.Path.{_≡_, sym, _∙_}
 use mathlib.Core.List.{List}
 use Prim.Native.Nat.{ℕ, _+_, _-_, _*_, _≤_, _<_}
 use native.Mathlib.Nat.{eq-or-lt-of-le}
 use native.Mathlib.Omega.{arith}
-use lib.ListN.{length, take, drop}
-use lib.Ieee.{Float}
-use Rattle.vectors.specs.Vec.{Written}
+use lib.ListN.{length, take, drop, length-drop}
+use lib.Seq.{take-all, length-take-le}
+use lib.Ieee.{Float, nan}
+use Rattle.vectors.specs.Vec.{put, part, Written, Wrote}
 use Rattle.vectors.proofs.Laws.{kept-none}
-use Rattle.vectors.proofs.Parts.{first-part}
+use Rattle.vectors.proofs.Parts.{first-part, mid-is, putBack, mid-put, length-put, kept-put, part-below}
+use Rattle.vectors.proofs.Texts.{wrote-take}
 use Rattle.banded.specs.Rows.{Matrix, matrix, concat}
 use Rattle.banded.specs.Layout.{Laid}
 use Rattle.banded.proofs.Laws.{above, one-row, of-holds, shape-matrix, look-matrix, kept-after}
@@ -35,3 +37,18 @@ laid-done {k} {m} {a} {s₀} {s} w room = (
   first-part (m * (k + 1)) s room ∙ of-holds k m (matrix k a m) s (record { shape = shape-matrix k a m; same = λ i j h g. w .same i j h g ∙ sym (look-matrix k a m i j h g) }),
   kept-after (m * (k + 1)) s s₀ (w .kept .size) (λ q h. w .kept .above q (omega arith)),
 )
+
+-- ---- a right side v, written over the n places from a on: x is what the call left there
+
+module _ (a n : ℕ) (s x : List Float) (fits : a + n ≤ length s) (l : length x ≡ n) where
+  pub side-put : (v : List Float) → length v ≡ n → x ≡ put (take n (drop a s)) 0 v → part a n (putBack a n s x) ≡ v
+  side-put v e h =
+      let t = take n (drop a s) in
+      let lt : length t ≡ n = length-take-le n (drop a s) (omega (arith, length-drop a s)) in
+      let w : Wrote t 0 v x n = record { next = omega arith; room = omega arith; text = h } in
+      sym (mid-is a n (putBack a n s x) (omega (arith, length-put a n s x fits l))) ∙ mid-put a n s x fits l ∙ sym (take-all n x (omega arith)) ∙ wrote-take w .0
+
+  -- the rows before it
+  pub rows-put : {k m : ℕ} {q : Matrix} {s₀ : List Float} → Laid k m q s₀ s → m * (k + 1) ≤ a → part 0 (m * (k + 1)) (putBack a n s x) ≡ concat (matrix k q m)
+  rows-put {k} {m} w h =
+      part-below nan 0 (m * (k + 1)) (kept-put a n s x fits l nan) (omega arith) ∙ sym (first-part (m * (k + 1)) s (omega arith)) ∙ laid-done w (omega arith) .0

@@ -109,7 +109,7 @@ clamped-inside lam z h =
 -- ---- the whole certificate
 
 -- a vector whose first m places are c has m places
-pub room : (b c : List Float) (m : ℕ) → take m b ≡ c → length c ≡ m → m ≤ length b
+room : (b c : List Float) (m : ℕ) → take m b ≡ c → length c ≡ m → m ≤ length b
 room b c m e h = let l : min m (length b) ≡ m = sym (length-take m b) ∙ ap length e ∙ h in omega arith
 
 -- D y has its places in dy

@@ -1,25 +1,23 @@
 -- The system (D D') z = D y laid out in a run, and where its solution stands. Assumes nothing.
-use mathlib.Core.Path.{_≡_, sym, ap, _∙_}
+use mathlib.Core.Path.{_≡_, ap, _∙_}
 use mathlib.Core.Bool.{true}
 use mathlib.Core.List.{List}
 use Prim.Native.Nat.{ℕ, _+_, _-_, _*_, _≤_}
 use native.Mathlib.Nat.{mul-le-mul-left, zero-add}
 use native.Mathlib.Omega.{arith}
-use lib.ListN.{length, take, drop, length-drop}
-use lib.Seq.{take-all, length-take-le}
+use lib.ListN.{length, take, drop}
 use lib.Ieee.{Float, nan}
-use Rattle.vectors.specs.Vec.{put, part, Kept, Wrote}
+use Rattle.vectors.specs.Vec.{put, part, Kept}
 use Rattle.vectors.specs.Sums.{maxAbs}
 use Rattle.vectors.proofs.Laws.{kept-then}
-use Rattle.vectors.proofs.Parts.{putBack, mid-put, kept-put, mid-is, first-part, part-below, part-above}
-use Rattle.vectors.proofs.Texts.{wrote-take}
+use Rattle.vectors.proofs.Parts.{putBack, kept-put, part-below, part-above}
 use Rattle.differences.specs.Diff.{diffK, gramRow}
 use Rattle.differences.specs.Series.{Series}
 use Rattle.differences.proofs.Laws.{length-diffK}
 use Rattle.banded.specs.Rows.{rows}
 use Rattle.banded.specs.Solve.{solve}
 use Rattle.banded.specs.Layout.{Laid}
-use Rattle.banded.proofs.Filling.{laid-done}
+use Rattle.banded.proofs.Filling.{side-put, rows-put}
 use Rattle.substitution.specs.Solved.{Solved}
 use Rattle.gram.specs.Gram.{gram, zstar, lamMax}
 use Rattle.gram.specs.Prepared.{starLane, diffLane, preparation, System, Prepared}
@@ -32,15 +30,6 @@ system-fits {k} {n} o = let f : (n - k) * (k + 1) ≤ (n - k) * 3 = mul-le-mul-l
 -- s₁ holds the rows of D D', x the lane of D y, and s₂ also the right side
 module _ (k : ℕ) (y s₁ x : List Float) (o : Series k (length y)) (room : preparation (length y) ≤ length s₁) (l : length x ≡ length y - k)
     (right : x ≡ put (take (length y - k) (drop (diffLane (length y)) s₁)) 0 (diffK k y)) where
-  put-all : x ≡ diffK k y
-  put-all =
-      let m = length y - k in
-      let t = take m (drop (diffLane (length y)) s₁) in
-      let lt : length t ≡ m = length-take-le m (drop (diffLane (length y)) s₁) (omega (arith, length-drop (diffLane (length y)) s₁)) in
-      let ld = length-diffK k y in
-      let w : Wrote t 0 (diffK k y) x m = record { next = omega arith; room = omega arith; text = right } in
-      sym (take-all m x (omega arith)) ∙ wrote-take w .0
-
   pub system-laid : {s₀ s₂ : List Float} → Laid k (length y - k) (gram k (gramRow k)) s₀ s₁
       → (part (starLane k (length y)) (length y - k) s₂ ≡ part (diffLane (length y)) (length y - k) (putBack (diffLane (length y)) (length y - k) s₁ x))
       → Kept (starLane k (length y)) (length y - k) (putBack (diffLane (length y)) (length y - k) s₁ x) s₂ → System k y s₀ s₂
@@ -49,11 +38,10 @@ module _ (k : ℕ) (y s₁ x : List Float) (o : Series k (length y)) (room : pre
       let m = n - k in
       let fits = system-fits o in
       let f = kept-put (diffLane n) m s₁ x (omega arith) l nan in
-      let size = f .size in
-      let lane = sym (mid-is (diffLane n) m (putBack (diffLane n) m s₁ x) (omega arith)) ∙ mid-put (diffLane n) m s₁ x (omega arith) l ∙ put-all in
+      let lane = side-put (diffLane n) m s₁ x (omega arith) l (diffK k y) (length-diffK k y) right in
       record {
         ends = fits;
-        rows = part-below nan 0 (starLane k n) kept (omega arith) ∙ part-below nan 0 (starLane k n) f (omega arith) ∙ sym (first-part (starLane k n) s₁ (omega arith)) ∙ laid-done w (omega arith) .0;
+        rows = part-below nan 0 (starLane k n) kept (omega arith) ∙ rows-put (diffLane n) m s₁ x (omega arith) l w (omega arith);
         right = copied ∙ lane;
         differences = part-above nan (diffLane n) m kept (omega arith) ∙ lane;
         kept = kept-then 0 (preparation n) (kept-then 0 (preparation n) (w .kept) f (omega arith) (omega arith) (omega arith) (omega arith)) kept (omega arith) (omega arith) (omega arith) (omega arith);

@@ -1,21 +1,19 @@
 -- The system (I + lam D'D) x = y in one run: its rows, y put after them, and its solution. Assumes nothing.
 use mathlib.Core.Bool.{Bool}
-use mathlib.Core.Path.{_≡_, sym, ap, _∙_}
+use mathlib.Core.Path.{_≡_, refl, ap, _∙_}
 use mathlib.Core.List.{List}
 use Prim.Native.Nat.{ℕ, _+_, _*_, _≤_}
 use native.Mathlib.Nat.{zero-add}
 use native.Mathlib.Omega.{arith}
-use lib.ListN.{length, take, drop, length-drop}
-use lib.Seq.{take-all, length-take-le}
+use lib.ListN.{length, take, drop}
 use lib.Ieee.{Float, nan}
-use Rattle.vectors.specs.Vec.{put, Wrote}
+use Rattle.vectors.specs.Vec.{put}
 use Rattle.vectors.proofs.Laws.{kept-then}
-use Rattle.vectors.proofs.Parts.{putBack, mid-put, kept-put, mid-is, first-part, part-below}
-use Rattle.vectors.proofs.Texts.{wrote-take}
+use Rattle.vectors.proofs.Parts.{putBack, kept-put}
 use Rattle.banded.specs.Rows.{rows}
 use Rattle.banded.specs.Solve.{solve}
 use Rattle.banded.specs.Layout.{Laid}
-use Rattle.banded.proofs.Filling.{laid-done}
+use Rattle.banded.proofs.Filling.{side-put, rows-put}
 use Rattle.substitution.specs.Solved.{Solved}
 use Rattle.l2.specs.L2.{systemL2, soundL2, trendL2}
 use Rattle.l2.specs.Solved.{SolvedL2}
@@ -23,14 +21,6 @@ use Rattle.l2.specs.Solved.{SolvedL2}
 -- s₁ holds the rows and x the places after them, s₂ the solution
 module _ (k : ℕ) (lam : Float) (y s₁ x : List Float) (room : length y * (k + 1) + length y ≤ length s₁) (l : length x ≡ length y)
     (right : x ≡ put (take (length y) (drop (length y * (k + 1)) s₁)) 0 y) where
-  series : x ≡ y
-  series =
-      let n = length y in
-      let t = take n (drop (n * (k + 1)) s₁) in
-      let lt : length t ≡ n = length-take-le n (drop (n * (k + 1)) s₁) (omega (arith, length-drop (n * (k + 1)) s₁)) in
-      let w : Wrote t 0 y x n = record { next = omega arith; room = omega arith; text = right } in
-      sym (take-all n x (omega arith)) ∙ wrote-take w .0
-
   pub l2-solved : {s₀ s₂ : List Float} {ok : Bool} → Laid k (length y) (systemL2 k y lam) s₀ s₁
       → Solved 0 k (length y) (putBack (length y * (k + 1)) (length y) s₁ x) s₂ ok → SolvedL2 k y lam s₀ s₂ ok
   unfolding soundL2 trendL2
@@ -39,9 +29,8 @@ module _ (k : ℕ) (lam : Float) (y s₁ x : List Float) (room : length y * (k +
       let b = n * (k + 1) in
       let a = systemL2 k y lam in
       let f = kept-put b n s₁ x room l nan in
-      let size = f .size in
-      let held = part-below nan 0 b f (omega arith) ∙ sym (first-part b s₁ (omega arith)) ∙ laid-done w (omega arith) .0 in
-      let lane = sym (mid-is b n (putBack b n s₁ x) (omega arith)) ∙ mid-put b n s₁ x room l ∙ series in
+      let held = rows-put b n s₁ x room l w (omega arith) in
+      let lane = side-put b n s₁ x room l y refl right in
       let z = zero-add b in
       record {
         sound = q .answer a held;
