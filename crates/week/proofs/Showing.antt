@@ -23,7 +23,8 @@ use Rattle.listing.specs.Listing.{listingOf, refusedLine}
 use Rattle.questions.specs.Questions.{Lent}
 use Rattle.fit.specs.Fit.{Fit, Outcome, refused, fitted, fit}
 use Rattle.fit.proofs.Lengths.{lengths}
-use Rattle.trend_filter.specs.Answers.{summaryOf, answerOf, after, Gives}
+use Rattle.trend_filter.specs.Answers.{Buffers, summaryOf, answerOf, after, Gives}
+use Rattle.trend_filter.specs.Inner.{buffers}
 use Rattle.trend_filter.specs.declared.Summary.{Summary}
 use Rattle.trend_filter.specs.declared.Answer.{Answer}
 use Rattle.trend_filter.specs.declared.Answer.the-variants as fits
@@ -111,34 +112,34 @@ pub record Listed (st : Settings) (y : List Float) (s : Summary) (t c : List Flo
   pub text : fitText st y ≡ listingOf (shown st (length y) s) t c k
   pub few : s .knots ≤ length y
 
-was-fit : (st : Settings) (y : List Float) (o : Outcome) (t₀ c₀ : List Float) (k₀ : List ℕ) {r : Answer} {s : Summary} {t c : List Float} {k : List ℕ}
-    → fit (asked st y) lent ≡ o → r ≡ fits.Fit s → Gives o r t₀ t c₀ c k₀ k → Listed st y s t c k
+was-fit : (st : Settings) (y : List Float) (o : Outcome) (before : Buffers) {r : Answer} {s : Summary} {t c w : List Float} {k m : List ℕ}
+    → fit (asked st y) lent ≡ o → r ≡ fits.Fit s → Gives o r before (buffers t c k w m) → Listed st y s t c k
 unfolding fitText outcomeText listingOf summaryOf answerOf after
-was-fit st y (refused i) t₀ c₀ k₀ {r} {s} g e h =
+was-fit st y (refused i) before {r} {s} g e h =
     let p : fits.Fit s ≡ answerOf (refused i) = sym e ∙ h .answer in
     let z : _≡_ {A = ℕ} 0 1 = cc in absurd (omega arith)
-was-fit st y (fitted f) t₀ c₀ k₀ {r} {s} {t} {c} {k} g e h =
+was-fit st y (fitted f) before {r} {s} {t} {c} {w} {k} {m} g e h =
     let p : fits.Fit s ≡ answerOf (fitted f) = sym e ∙ h .answer in
     let es : summaryOf f ≡ s = cc in
     let l = lengths (asked st y) lent f g in
     subst (λ (x : Summary). Listed st y x t c k) es (record {
-      text = ap (outcomeText st (length y)) g ∙ rw (h .trend, h .cycle, h .knots, hours-front (f .trend) (f .cycle) t₀ c₀ (length y) (omega (arith, l .trend)) (omega (arith, l .cycle)), knots-front (f .knots) k₀ (length (f .knots)) (omega arith));
+      text = ap (outcomeText st (length y)) g ∙ rw (h .trend, h .cycle, h .knots, hours-front (f .trend) (f .cycle) (before .trend) (before .cycle) (length y) (omega (arith, l .trend)) (omega (arith, l .cycle)), knots-front (f .knots) (before .knots) (length (f .knots)) (omega arith));
       few = omega (arith, l .knots);
     })
 
 -- a call of the fit with what the program lends: its answer, and the places that it left
 pub record Fitted (st : Settings) (y : List Float) (r : Answer) (t c : List Float) (k : List ℕ) : Type 0 where
-  trend : List Float
-  cycle : List Float
-  knots : List ℕ
-  gives : Gives (fit (asked st y) lent) r trend t cycle c knots k
+  before : Buffers
+  work : List Float
+  marks : List ℕ
+  gives : Gives (fit (asked st y) lent) r before (buffers t c k work marks)
 
-pub fits-lent : (st : Settings) (y : List Float) (l : Lent) {r : Answer} {t₀ t c₀ c : List Float} {k₀ k : List ℕ} → Gives (fit (asked st y) l) r t₀ t c₀ c k₀ k → lent ≡ l → Fitted st y r t c k
-fits-lent st y l {r} {t₀} {t} {c₀} {c} {k₀} {k} h g = record { trend = t₀; cycle = c₀; knots = k₀; gives = subst (λ (x : Lent). Gives (fit (asked st y) x) r t₀ t c₀ c k₀ k) (sym g) h }
+pub fits-lent : (st : Settings) (y : List Float) (l : Lent) {r : Answer} {b : Buffers} {t c w : List Float} {k m : List ℕ} → Gives (fit (asked st y) l) r b (buffers t c k w m) → lent ≡ l → Fitted st y r t c k
+fits-lent st y l {r} {b} {t} {c} {w} {k} {m} h g = record { before = b; work = w; marks = m; gives = subst (λ (x : Lent). Gives (fit (asked st y) x) r b (buffers t c k w m)) (sym g) h }
 
 module _ {st : Settings} {y : List Float} {r : Answer} {t c : List Float} {k : List ℕ} (f : Fitted st y r t c k) where
   pub fit-listed : {s : Summary} → r ≡ fits.Fit s → Listed st y s t c k
-  fit-listed {s} e = was-fit st y (fit (asked st y) lent) (f .trend) (f .cycle) (f .knots) refl e (f .gives)
+  fit-listed {s} e = was-fit st y (fit (asked st y) lent) (f .before) refl e (f .gives)
 
   pub fit-refused : {j : ℕ} → r ≡ fits.Refused j → fitText st y ≡ refusedLine j
   unfolding fitText
