@@ -2,13 +2,13 @@
 use mathlib.Core.Bool.{true}
 use mathlib.Core.Path.{_≡_}
 use mathlib.Core.List.{List, [], _∷_}
-use Prim.Native.Nat.{ℕ, _*_, _≤_, _<_}
+use Prim.Native.Nat.{ℕ, _≤_, _<_}
 use lib.IntN.{pos}
 use lib.Dec.{T}
 use lib.ListN.{length}
 use lib.Ieee.{Float, binary64, neg, nan, ofBits, ofInt}
 use Rattle.square_root.specs.Sqrt.{sqrtOf}
-use Rattle.questions.specs.Questions.{Asked, Lent, oneOrTwo}
+use Rattle.questions.specs.Questions.{Asked, Lent, oneOrTwo, workPlaces, marksPlaces}
 use Rattle.fit.specs.Fit.{Outcome, refused, fitted, fit}
 
 -- what is asked and lent, and what comes of it
@@ -36,7 +36,7 @@ asking order penalty lam y = record { y = y; lam = lam; tol = ofBits binary64 0x
 
 -- what a series of n asks for
 abbrev pub room : ℕ → Lent
-room n = record { trend = n; cycle = n; knots = n; work = 40 * n; marks = 2 * n }
+room n = record { trend = n; cycle = n; knots = n; work = workPlaces n; marks = marksPlaces n }
 
 -- the outcome of a closed path whose three gaps are 0: no iteration and no improvement
 abbrev pub flat : List Float → List Float → List ℕ → Float → Float → Outcome
