@@ -2,7 +2,6 @@
 use mathlib.Core.Path.{_≡_}
 use mathlib.Core.Bool.{Bool, cond}
 use mathlib.Core.List.{List}
-use Prim.Native.Nat.{ℕ}
 use lib.ListN.{length}
 use lib.Ieee.{Float, le}
 use Rattle.float64.specs.Ops.{_⊗_}
@@ -11,9 +10,8 @@ use Rattle.certificate.specs.Certificate.{Certificate, gapOf}
 use Rattle.dual_point.specs.Lanes.{candidateTrend}
 use Rattle.questions.specs.Questions.{Asked}
 use Rattle.fit.specs.Fit.{searchOf, keptOf, firstGap}
-use Rattle.paths.specs.declared.Trend.{Trend}
-use Rattle.paths.specs.declared.Trend.the-variants.{Won}
-use Rattle.paths.specs.declared.Found.{Found}
+use Rattle.closed_paths.specs.declared.Trend.the-variants.{Won}
+use Rattle.closed_paths.specs.declared.Found.{Found}
 
 -- the certificate that is kept
 abbrev pub wonOf : Asked → Certificate

@@ -9,10 +9,10 @@ ghost use Rattle.dual_point.specs.Lanes.{searchArea};
 ghost use Rattle.questions.specs.Questions.{marksPlaces};
 ghost use Rattle.questions.specs.Asking.{asking};
 ghost use Rattle.fit.specs.Fit.{searchOf, pathEnd};
-ghost use Rattle.paths.specs.Taken.{Prepared, Room, Finds};
+ghost use Rattle.closed_paths.specs.Taken.{Prepared, Room, Finds};
 ghost use Rattle.paths.specs.Search.{Reached};
-use crate::Found;
-use crate::Trend;
+use closed_paths::Found;
+use closed_paths::Trend;
 
 fn pick(second: bool, a: f64, b: f64) -> f64
     ensures { λ r. ⌜ r ≡ cond second b a ⌝ }
@@ -70,7 +70,7 @@ pub fn search_path(
         × KeptOf 0 0 (marksPlaces (length (now (y .entry)))) (now (marks .entry)) (now (marks .exit)) ⌝ }
 {
     let n = y.len();
-    crate::differences_to(cycle, work, n, n - k);
+    closed_paths::differences_to(cycle, work, n, n - k);
     let a = 5 * n;
     let e = 18 * n;
     search_polish(&mut work[a..e], marks, y, cycle, lam, tol, max_iter, k)

@@ -3,7 +3,7 @@ use mathlib.Core.Path.{_≡_, refl, sym, ap, ap₂, subst, _∙_}
 use mathlib.Core.Bool.{Bool, true, false, cond}
 use mathlib.Core.List.{List, _++_}
 use mathlib.Core.Option.{Option, none, some}
-use Prim.Native.Nat.{ℕ, _+_, _≤_}
+use Prim.Native.Nat.{ℕ, _+_}
 use native.Mathlib.Omega.{arith}
 use lib.ListN.{length, drop, length-drop}
 use lib.Seq.{ext-getD, getD-drop}
@@ -19,8 +19,8 @@ use Rattle.questions.specs.Questions.{Asked, Lent, question}
 use Rattle.fit.specs.Fit.{Fit as FitOf, Found as FoundOf, Outcome, refused, fitted, lamMaxOf, path, written, outcome, soundDD, fit}
 use Rattle.fit.proofs.Lengths.{lengths}
 use Rattle.fit.proofs.Passed.{fit-passed, outcome-some}
-use Rattle.paths.specs.declared.Found.{Found}
-use Rattle.paths.specs.Trends.{trendOf, foundOf}
+use Rattle.closed_paths.specs.declared.Found.{Found}
+use Rattle.closed_paths.specs.Trends.{trendOf, foundOf}
 use Rattle.trend_filter.specs.declared.Answer.{Answer}
 use Rattle.trend_filter.specs.declared.Answer.the-variants.{Fit, Refused}
 use Rattle.trend_filter.specs.Answers.{Buffers, summaryOf, answerOf, after, early, Gives, Sizes}

@@ -1,12 +1,10 @@
 -- What the functions below the entry ask of the buffers and leave in them. For the contracts inside this crate.
-use mathlib.Core.Path.{_≡_}
 use mathlib.Core.List.{List}
-use Prim.Native.Nat.{ℕ, _+_, _≤_}
+use Prim.Native.Nat.{ℕ, _≤_}
 use lib.ListN.{length}
 use lib.Ieee.{Float}
-use Rattle.fit.specs.Fit.{Found as FoundOf}
-use Rattle.paths.specs.Taken.{Asks}
-use Rattle.paths.specs.declared.Found.{Found}
+use Rattle.closed_paths.specs.Taken.{Asks}
+use Rattle.closed_paths.specs.declared.Found.{Found}
 use Rattle.trend_filter.specs.declared.Summary.{Summary}
 use Rattle.trend_filter.specs.Answers.{Buffers}
 

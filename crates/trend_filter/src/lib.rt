@@ -8,8 +8,8 @@ ghost use Rattle.questions.specs.Asking.{asking};
 ghost use Rattle.fit.specs.Fit.{outcome, path, fit};
 ghost use Rattle.trend_filter.specs.Answers.{lent, Gives, Scratch, Answered};
 ghost use Rattle.trend_filter.specs.Inner.{buffers, summed as summed_of, Prepared};
-use paths::Found;
-use paths::Path;
+use closed_paths::Found;
+use closed_paths::Path;
 
 // penalty 1 is L1, 2 is L2.
 pub struct TrendFilterOptions {

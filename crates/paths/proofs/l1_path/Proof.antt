@@ -1,19 +1,15 @@
 use borrow.Author.Needs.{needs}
-use mathlib.Core.Path.{_≡_, refl, sym, ap, _∙_}
+use mathlib.Core.Path.{sym, _∙_}
 use mathlib.Core.Bool.{true, false}
-use Prim.Native.Nat.{ℕ, _*_}
 use native.Mathlib.Omega.{arith}
 use lib.ListN.{length}
-use lib.Ieee.{le}
 use Rattle.vectors.proofs.Laws.{kept-none}
 use Rattle.gram.specs.Prepared.{preparation}
 use Rattle.dual_point.specs.Lanes.{searchArea}
 use Rattle.questions.specs.Questions.{marksPlaces}
 use Rattle.questions.specs.Asking.{asking}
 use Rattle.fit.specs.Fit.{pathZero}
-use Rattle.paths.specs.declared.Trend.the-variants.{Series}
-use Rattle.paths.specs.Trends.{trendOf, reach}
-use Rattle.paths.proofs.Areas.{closed-found}
+use Rattle.closed_paths.specs.Trends.{trendOf, reach}
 use Rattle.paths.proofs.Ways.{l1-zero, l1-high}
 use Rattle.paths.proofs.l1_path.Statement.{statement}
 use Rattle.paths.proofs.l1_path.Tie as tie

@@ -1,16 +1,12 @@
 use borrow.Author.Needs.{needs}
-use mathlib.Core.Path.{_≡_, sym, ap, subst, _∙_}
-use mathlib.Core.List.{List}
-use mathlib.Core.Option.{Option, none, some}
-use Prim.Native.Nat.{ℕ, _*_}
+use mathlib.Core.Path.{sym, ap, _∙_}
+use mathlib.Core.Option.{some}
 use lib.ListN.{length}
 use Rattle.vectors.proofs.Laws.{kept-none}
 use Rattle.questions.specs.Questions.{marksPlaces}
 use Rattle.questions.specs.Asking.{asking}
-use Rattle.fit.specs.Fit.{Found as FoundOf, path}
-use Rattle.paths.specs.Trends.{said, reached}
-use Rattle.paths.specs.Taken.{Took}
-use Rattle.paths.proofs.Areas.{some-none}
+use Rattle.closed_paths.specs.Trends.{said, reached}
+use Rattle.closed_paths.proofs.Areas.{some-none}
 use Rattle.paths.proofs.Ways.{by-1, by-2}
 use Rattle.paths.proofs.take_path.Statement.{statement}
 use Rattle.paths.proofs.take_path.Tie as tie

@@ -9,9 +9,9 @@ use Rattle.vectors.specs.Vec.{part}
 use Rattle.vectors.proofs.Parts.{range-part, partOf-range}
 use Rattle.gram.specs.Prepared.{preparation}
 use Rattle.dual_point.specs.Lanes.{candidateTrend, searchArea}
-use Rattle.paths.specs.Trends.{solutionLane, trendOf, reach}
-use Rattle.paths.specs.declared.Trend.{Trend}
-use Rattle.paths.specs.declared.Trend.the-variants.{Solution, Won}
+use Rattle.closed_paths.specs.Trends.{solutionLane, trendOf, reach}
+use Rattle.closed_paths.specs.declared.Trend.{Trend}
+use Rattle.closed_paths.specs.declared.Trend.the-variants.{Solution, Won}
 use Rattle.paths.proofs.trend_of.Statement.{statement}
 use Rattle.paths.proofs.trend_of.Tie as tie
 

@@ -1,15 +1,13 @@
 use borrow.Author.Needs.{needs}
 use borrow.Author.Tests.{not-true, not-false}
-use mathlib.Core.Path.{_≡_, refl, sym, ap, _∙_}
-use mathlib.Core.Bool.{true, false}
-use Prim.Native.Nat.{ℕ, _≤_, _*_}
+use mathlib.Core.Path.{refl, sym, _∙_}
 use native.Mathlib.Omega.{arith}
 use lib.ListN.{length}
 use Rattle.vectors.proofs.Laws.{kept-none, kept-then}
 use Rattle.questions.specs.Questions.{workPlaces, marksPlaces}
 use Rattle.questions.specs.Asking.{asking}
 use Rattle.questions.proofs.Laws.{passed}
-use Rattle.paths.proofs.Areas.{kept-wide}
+use Rattle.closed_paths.proofs.Areas.{kept-wide}
 use Rattle.trend_filter.specs.Answers.{lent}
 use Rattle.trend_filter.specs.Inner.{buffers}
 use Rattle.trend_filter.proofs.Laws.{gives-refused, gives-same, gives-through, sound-fit, unsound-fit}

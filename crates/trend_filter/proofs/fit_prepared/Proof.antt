@@ -1,16 +1,15 @@
 use borrow.Author.Needs.{needs}
 use mathlib.Core.Path.{_≡_, refl, sym, ap, subst, _∙_}
-use Prim.Native.Nat.{ℕ, _≤_, _*_}
+use Prim.Native.Nat.{ℕ, _≤_}
 use native.Mathlib.Omega.{arith}
 use lib.ListN.{length}
-use Rattle.vectors.proofs.Parts.{length-part}
 use Rattle.questions.specs.Questions.{workPlaces}
 use Rattle.questions.specs.Asking.{asking}
-use Rattle.paths.specs.declared.Found.{Found}
-use Rattle.paths.specs.declared.Path.{Path}
-use Rattle.paths.specs.declared.Path.the-variants.{Lost, Found as Found-is}
-use Rattle.paths.specs.Trends.{said, reached, reach}
-use Rattle.paths.proofs.Areas.{kept-wide, length-trend}
+use Rattle.closed_paths.specs.declared.Found.{Found}
+use Rattle.closed_paths.specs.declared.Path.{Path}
+use Rattle.closed_paths.specs.declared.Path.the-variants.{Found as Found-is}
+use Rattle.closed_paths.specs.Trends.{said, reached, reach}
+use Rattle.closed_paths.proofs.Areas.{kept-wide, length-trend}
 use Rattle.trend_filter.proofs.Laws.{gives-refused, gives-same, found-gives, lost-outcome}
 use Rattle.trend_filter.proofs.fit_prepared.Statement.{statement}
 use Rattle.trend_filter.proofs.fit_prepared.Tie as tie

@@ -1,6 +1,6 @@
 use borrow.Author.Needs.{needs}
 use mathlib.Core.Path.{_≡_, refl, ap, _∙_}
-use Prim.Native.Nat.{ℕ, _+_, _-_, _*_, _≤_}
+use Prim.Native.Nat.{ℕ, _-_, _*_, _≤_}
 use native.Mathlib.Omega.{arith}
 use lib.ListN.{length, take, drop}
 use lib.Ieee.{nan}
@@ -11,8 +11,9 @@ use Rattle.differences.proofs.Laws.{length-diffK}
 use Rattle.dual_point.specs.Lanes.{searchArea}
 use Rattle.gram.specs.Prepared.{preparation}
 use Rattle.questions.specs.Asking.{asking}
-use Rattle.paths.specs.Trends.{reach}
-use Rattle.paths.proofs.Areas.{kept-first, first-places, search-says}
+use Rattle.closed_paths.specs.Trends.{reach}
+use Rattle.closed_paths.proofs.Areas.{kept-first, first-places}
+use Rattle.paths.proofs.Areas.{search-says}
 use Rattle.paths.proofs.searched.search_path.Statement.{statement}
 use Rattle.paths.proofs.searched.search_path.Tie as tie
 

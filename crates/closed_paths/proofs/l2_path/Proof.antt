@@ -1,9 +1,9 @@
 use borrow.Author.Needs.{needs}
 use borrow.Author.Tests.{not-true, not-false}
 use mathlib.Core.Path.{_≡_, refl, sym, ap, ap₂, _∙_}
-use mathlib.Core.Bool.{true, false}
-use mathlib.Core.Option.{none, some}
-use Prim.Native.Nat.{ℕ, _+_, _-_, _*_, _≤_}
+use mathlib.Core.Bool.{true}
+use mathlib.Core.Option.{some}
+use Prim.Native.Nat.{_+_, _-_, _*_, _≤_}
 use native.Mathlib.Omega.{arith}
 use lib.ListN.{length, take, drop}
 use lib.Ieee.{Float, nan}
@@ -12,15 +12,14 @@ use Rattle.vectors.proofs.Parts.{putBack, part-size, kept-put}
 use Rattle.differences.specs.Diff.{diffK}
 use Rattle.dual_point.specs.Lanes.{searchArea}
 use Rattle.gram.specs.Prepared.{preparation}
-use Rattle.l2.specs.L2.{trendL2, gapL2, objectiveL2}
+use Rattle.l2.specs.L2.{trendL2}
 use Rattle.questions.specs.Asking.{asking}
-use Rattle.fit.specs.Fit.{Found as FoundOf, closed}
-use Rattle.paths.specs.declared.Trend.the-variants.{Solution}
-use Rattle.paths.specs.declared.Path.the-variants.{Found as Found-is}
-use Rattle.paths.specs.Trends.{solutionLane, trendOf, reach, said, reached}
-use Rattle.paths.proofs.Areas.{kept-wide, closed-found, rows-fit, solution-stands, ends-gap, ends-objective, ends-trend, l2-sound, l2-unsound, some-none}
-use Rattle.paths.proofs.closed.l2_path.Statement.{statement}
-use Rattle.paths.proofs.closed.l2_path.Tie as tie
+use Rattle.fit.specs.Fit.{closed}
+use Rattle.closed_paths.specs.declared.Trend.the-variants.{Solution}
+use Rattle.closed_paths.specs.Trends.{trendOf, reach, said, reached}
+use Rattle.closed_paths.proofs.Areas.{kept-wide, closed-found, rows-fit, solution-stands, ends-gap, ends-objective, ends-trend, l2-sound, l2-unsound, some-none}
+use Rattle.closed_paths.proofs.l2_path.Statement.{statement}
+use Rattle.closed_paths.proofs.l2_path.Tie as tie
 
 mul-a : tie.Need-mul-a
 mul-a c = let st = c .before .before in

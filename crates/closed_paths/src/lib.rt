@@ -1,19 +1,53 @@
-// The closed paths: what they have in common, L1 with lam at least lam_max, and L2.
+// The closed paths of a prepared series: what they have in common, L1 with lam at least lam_max, and L2. What a path answers, and where its trend stands.
+// work holds the preparation first; a path writes only behind it.
 ghost use mathlib.Core.Path.{_≡_};
 ghost use mathlib.Core.List.{List};
 ghost use Prim.Native.Nat.{ℕ, _+_, _≤_};
 ghost use lib.Ieee.{Float};
 ghost use lib.ListN.{length};
 ghost use Rattle.differences.specs.Series.{Series};
-ghost use Rattle.gram.specs.Prepared.{preparation};
+ghost use Rattle.vectors.specs.Vec.{part, put};
+ghost use Rattle.gram.specs.Prepared.{diffLane, preparation};
 ghost use Rattle.dual_point.specs.Lanes.{searchArea};
 ghost use Rattle.fit.specs.Fit.{pathFlat, pathL2};
 ghost use Rattle.questions.specs.Asking.{asking};
-ghost use Rattle.paths.specs.Trends.{closedOf};
-ghost use Rattle.paths.specs.Taken.{Prepared, Room, Finds, Took};
-use crate::Found;
-use crate::Path;
-use crate::Trend;
+ghost use Rattle.closed_paths.specs.Trends.{closedOf};
+ghost use Rattle.closed_paths.specs.Taken.{Prepared, Room, Finds, Took};
+
+// Where a trend stands: the series is the trend; after the system of L2; or in the search's area, the candidate's if it won and else the iterate's.
+pub enum Trend {
+    Series,
+    Solution,
+    Won(bool),
+}
+
+// What a path found.
+pub struct Found {
+    pub trend: Trend,
+    pub gap: f64,
+    pub first_gap: f64,
+    pub best_gap: f64,
+    pub objective: f64,
+    pub n_iter: u64,
+    pub improvements: u64,
+    pub converged: bool,
+}
+
+// A pivot of the system was bad, or what was found.
+pub enum Path {
+    Lost,
+    Found(Found),
+}
+
+// The first m places of cycle become D y, which stands in the preparation.
+pub fn differences_to(cycle: &mut [f64], work: &[f64], n: usize, m: usize)
+    requires { ⌜ (m ≤ n) × ((n ≤ 65536) × ((preparation n ≤ length (now work)) × (n ≤ length (now cycle)))) ⌝ }
+    ensures { λ _. ⌜ now (cycle .exit) ≡ put (now (cycle .entry)) 0 (part (diffLane n) m (now (work .entry))) ⌝ }
+{
+    let a = 4 * n;
+    let e = a + m;
+    vectors::copy(cycle, &work[a..e]);
+}
 
 // The numbers of a closed path.
 pub fn closed(trend: Trend, gap: f64, objective: f64) -> Found
@@ -39,7 +73,7 @@ pub fn flat_path(work: &mut [f64], cycle: &mut [f64], y: &[f64], lam: f64, k: us
 {
     let n = y.len();
     let m = n - k;
-    crate::differences_to(cycle, work, n, m);
+    differences_to(cycle, work, n, m);
     let a = 5 * n;
     let z = a + n;
     let e = z + m;

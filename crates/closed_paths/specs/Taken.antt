@@ -13,9 +13,9 @@ use Rattle.gram.specs.Prepared.{starLane, diffLane, preparation}
 use Rattle.dual_point.specs.Lanes.{searchArea}
 use Rattle.questions.specs.Questions.{marksPlaces}
 use Rattle.fit.specs.Fit.{Found as FoundOf}
-use Rattle.paths.specs.declared.Found.{Found}
-use Rattle.paths.specs.declared.Path.{Path}
-use Rattle.paths.specs.Trends.{reach, foundOf, said, reached}
+use Rattle.closed_paths.specs.declared.Found.{Found}
+use Rattle.closed_paths.specs.declared.Path.{Path}
+use Rattle.closed_paths.specs.Trends.{reach, foundOf, said, reached}
 
 -- y is prepared at the start of w
 pub record Prepared (k : ℕ) (y w : List Float) : Type 0 where

@@ -10,11 +10,11 @@ use Rattle.differences.specs.Diff.{diffK}
 use Rattle.gram.specs.Prepared.{preparation}
 use Rattle.dual_point.specs.Lanes.{candidateTrend, searchArea}
 use Rattle.fit.specs.Fit.{Found as FoundOf}
-use Rattle.paths.specs.declared.Trend.{Trend}
-use Rattle.paths.specs.declared.Trend.the-variants.{Series, Solution, Won}
-use Rattle.paths.specs.declared.Found.{Found}
-use Rattle.paths.specs.declared.Path.{Path}
-use Rattle.paths.specs.declared.Path.the-variants.{Lost, Found as Found-is}
+use Rattle.closed_paths.specs.declared.Trend.{Trend}
+use Rattle.closed_paths.specs.declared.Trend.the-variants.{Series, Solution, Won}
+use Rattle.closed_paths.specs.declared.Found.{Found}
+use Rattle.closed_paths.specs.declared.Path.{Path}
+use Rattle.closed_paths.specs.declared.Path.the-variants.{Lost, Found as Found-is}
 
 -- L2's trend: the rows of its system end there
 abbrev pub solutionLane : ℕ → ℕ

@@ -1,14 +1,12 @@
 use borrow.Author.Needs.{needs}
-use mathlib.Core.Path.{_≡_, ap, _∙_}
-use mathlib.Core.List.{List}
+use mathlib.Core.Path.{ap, _∙_}
 use Prim.Native.Nat.{_+_, _-_, _*_, _≤_}
 use native.Mathlib.Omega.{arith}
 use lib.ListN.{length}
-use lib.Ieee.{Float}
 use Rattle.vectors.specs.Vec.{put}
 use Rattle.vectors.proofs.Parts.{range-part}
-use Rattle.paths.proofs.differences_to.Statement.{statement}
-use Rattle.paths.proofs.differences_to.Tie as tie
+use Rattle.closed_paths.proofs.differences_to.Statement.{statement}
+use Rattle.closed_paths.proofs.differences_to.Tie as tie
 
 returns : tie.Need-returns
 returns c = let cp = c .before .before in

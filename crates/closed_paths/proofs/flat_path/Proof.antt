@@ -1,7 +1,7 @@
 use borrow.Author.Needs.{needs}
 use mathlib.Core.Logic.{inl}
 use mathlib.Core.Path.{_≡_, refl, ap, ap₂, _∙_}
-use Prim.Native.Nat.{ℕ, _+_, _-_, _*_, _≤_}
+use Prim.Native.Nat.{_+_, _-_, _*_, _≤_}
 use native.Mathlib.Omega.{arith}
 use lib.ListN.{length, take, drop}
 use lib.Ieee.{Float, nan}
@@ -14,13 +14,13 @@ use Rattle.differences.proofs.Laws.{length-diffK}
 use Rattle.gram.specs.Gram.{zstar}
 use Rattle.gram.specs.Prepared.{preparation}
 use Rattle.dual_point.specs.Lanes.{searchArea}
-use Rattle.certificate.specs.Certificate.{certify, gapOf}
+use Rattle.certificate.specs.Certificate.{certify}
 use Rattle.fit.specs.Fit.{closed, pathFlat}
-use Rattle.paths.specs.declared.Trend.the-variants.{Won}
-use Rattle.paths.specs.Trends.{trendOf, reach, foundOf}
-use Rattle.paths.proofs.Areas.{kept-first, first-places, closed-found, rows-fit, flat-primal, flat-dual, flat-trend}
-use Rattle.paths.proofs.closed.flat_path.Statement.{statement}
-use Rattle.paths.proofs.closed.flat_path.Tie as tie
+use Rattle.closed_paths.specs.declared.Trend.the-variants.{Won}
+use Rattle.closed_paths.specs.Trends.{trendOf, reach}
+use Rattle.closed_paths.proofs.Areas.{kept-first, first-places, closed-found, rows-fit, flat-primal, flat-dual, flat-trend}
+use Rattle.closed_paths.proofs.flat_path.Statement.{statement}
+use Rattle.closed_paths.proofs.flat_path.Tie as tie
 use mathlib.Core.Bool.{false}
 
 mul-copy-within : tie.Need-mul-copy-within

@@ -1,0 +1,2 @@
+-- The laws of closed_paths.
+pub mod Areas
