@@ -3,10 +3,9 @@ pub mod c;
 
 ghost use mathlib.Core.Path.{_≡_};
 ghost use lib.ListN.{length};
-ghost use Rattle.questions.specs.Questions.{question};
 ghost use Rattle.questions.specs.Asking.{asking};
-ghost use Rattle.fit.specs.Fit.{outcome, path, fit};
-ghost use Rattle.trend_filter.specs.Answers.{lent, Gives, Scratch, Answered};
+ghost use Rattle.fit.specs.Fit.{outcome, path};
+ghost use Rattle.trend_filter.specs.Answers.{Gives, Scratch, Answered};
 ghost use Rattle.trend_filter.specs.Inner.{buffers, summed as summed_of, Prepared};
 use closed_paths::Found;
 use closed_paths::Path;
@@ -98,34 +97,6 @@ fn fit_prepared(
     }
 }
 
-// The preparation and the rest, where questions 1 to 9 are answered yes.
-fn fit_asked(
-    y: &[f64],
-    lam: f64,
-    opts: TrendFilterOptions,
-    trend: &mut [f64],
-    cycle: &mut [f64],
-    knots: &mut [u32],
-    work: &mut [f64],
-    marks: &mut [u32],
-) -> Answer
-    requires { ⌜ question (asking (now y) lam (opts .tol) (opts .«max_iter») (opts .order) (opts .penalty)) (lent (buffers (now trend) (now cycle) (now knots) (now work) (now marks))) ≡ 0 ⌝ }
-    ensures { λ r. ⌜ Gives (fit (asking (now (y .entry)) lam (opts .tol) (opts .«max_iter») (opts .order) (opts .penalty))
-        (lent (buffers (now (trend .entry)) (now (cycle .entry)) (now (knots .entry)) (now (work .entry)) (now (marks .entry))))) r
-        (buffers (now (trend .entry)) (now (cycle .entry)) (now (knots .entry)) (now (work .entry)) (now (marks .entry)))
-        (buffers (now (trend .exit)) (now (cycle .exit)) (now (knots .exit)) (now (work .exit)) (now (marks .exit)))
-        × Scratch (length (now (y .entry)))
-        (buffers (now (trend .entry)) (now (cycle .entry)) (now (knots .entry)) (now (work .entry)) (now (marks .entry)))
-        (buffers (now (trend .exit)) (now (cycle .exit)) (now (knots .exit)) (now (work .exit)) (now (marks .exit))) ⌝ }
-{
-    let k = opts.order as usize;
-    let p = gram::prepare(work, y, k);
-    if !p.good {
-        return Answer::Refused(10);
-    }
-    fit_prepared(y, lam, opts, k, p.top, trend, cycle, knots, work, marks)
-}
-
 // The trend, the cycle and the knots of y, and the numbers of the fit; or a refusal's number. work and marks are scratch.
 pub fn l1_trend_filter(
     y: &[f64],
@@ -157,5 +128,10 @@ pub fn l1_trend_filter(
     if q != 0 {
         return Answer::Refused(q);
     }
-    fit_asked(y, lam, opts, trend, cycle, knots, work, marks)
+    let k = opts.order as usize;
+    let p = gram::prepare(work, y, k);
+    if !p.good {
+        return Answer::Refused(10);
+    }
+    fit_prepared(y, lam, opts, k, p.top, trend, cycle, knots, work, marks)
 }
