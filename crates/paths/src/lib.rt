@@ -2,18 +2,17 @@
 // Each writes behind the preparation, and answers what it found and where the trend stands (crate closed_paths).
 mod searched;
 
-use closed_paths::Found;
 use closed_paths::Path;
 use closed_paths::Trend;
 ghost use mathlib.Core.Path.{_≡_};
-ghost use Prim.Native.Nat.{ℕ, _≤_};
+ghost use Prim.Native.Nat.{_≤_};
 ghost use lib.ListN.{length};
 ghost use Rattle.vectors.specs.Vec.{KeptOf};
-ghost use Rattle.fit.specs.Fit.{pathL1, path};
+ghost use Rattle.fit.specs.Fit.{path};
 ghost use Rattle.questions.specs.Questions.{marksPlaces};
 ghost use Rattle.questions.specs.Asking.{asking};
 ghost use Rattle.closed_paths.specs.Trends.{trendOf, reach};
-ghost use Rattle.closed_paths.specs.Taken.{Asks, Finds, Took};
+ghost use Rattle.closed_paths.specs.Taken.{Asks, Took};
 
 // The trend, where it stands.
 pub fn trend_of<'a>(y: &'a [f64], work: &'a [f64], t: Trend) -> &'a [f64]
@@ -36,33 +35,7 @@ pub fn trend_of<'a>(y: &'a [f64], work: &'a [f64], t: Trend) -> &'a [f64]
     }
 }
 
-// L1 by lam: 0, at least lam_max, or between.
-fn l1_path(
-    work: &mut [f64],
-    marks: &mut [u32],
-    cycle: &mut [f64],
-    y: &[f64],
-    lam: f64,
-    tol: f64,
-    max_iter: u64,
-    k: usize,
-    lam_max: f64,
-) -> Found
-    requires { ⌜ Asks k (now y) «lam_max» (now work) (now cycle) (now marks) ⌝ }
-    ensures { λ r. ⌜ Finds (λ (p : ℕ). pathL1 (asking (now (y .entry)) lam tol «max_iter» k p)) k (now (y .entry))
-        (now (work .entry)) (now (work .exit)) (now (cycle .entry)) (now (cycle .exit)) r
-        × KeptOf 0 0 (marksPlaces (length (now (y .entry)))) (now (marks .entry)) (now (marks .exit)) ⌝ }
-{
-    if lam == 0.0 {
-        return closed_paths::closed(Trend::Series, 0.0, 0.0);
-    }
-    if lam_max <= lam {
-        return closed_paths::flat_path(work, cycle, y, lam, k);
-    }
-    searched::search_path(work, marks, cycle, y, lam, tol, max_iter, k)
-}
-
-// The path that a fit takes, by its penalty.
+// The path that a fit takes: L2, or L1 by lam: 0, at least lam_max, or between.
 pub fn take_path(
     work: &mut [f64],
     marks: &mut [u32],
@@ -83,6 +56,11 @@ pub fn take_path(
     if penalty == 2 {
         return closed_paths::l2_path(work, y, lam, k);
     }
-    let f = l1_path(work, marks, cycle, y, lam, tol, max_iter, k, lam_max);
-    Path::Found(f)
+    if lam == 0.0 {
+        return Path::Found(closed_paths::closed(Trend::Series, 0.0, 0.0));
+    }
+    if lam_max <= lam {
+        return Path::Found(closed_paths::flat_path(work, cycle, y, lam, k));
+    }
+    Path::Found(searched::search_path(work, marks, cycle, y, lam, tol, max_iter, k))
 }
