@@ -37,7 +37,7 @@ def main():
     out = ['-- Fits that the Rust made, worked out from the definition and compared bit by bit. Written by tests/known_fits.py.',
         'use mathlib.Core.Path.{_≡_, refl}', 'use mathlib.Core.Bool.{true, false}', 'use mathlib.Core.List.{List, [], _∷_}', 'use Prim.Native.Nat.{ℕ}',
         'use lib.Ieee.{Float, binary64, ofBits, ofInt, add, sub, mul, div, neg, lt, le, eq, isNan}'] + keep
-    out = [l.replace('closed, fitL2', 'fitted, closed, fitL2') for l in out]
+    out = [l.replace('Fit.{pathL2', 'Fit.{fitted, pathL2') for l in out]
     out += ['use Rattle.fit.specs.Known.{Case, worked, stated}', '', '-- a double by its bits', 'abbrev pub F : ℕ → Float', 'F = ofBits binary64', '']
     for i, g in enumerate(groups):
         rows = []

@@ -1,12 +1,12 @@
 -- Orders 1 and 2, away from the first rows: what the general definitions come to there. And the test of a pivot. Assumes nothing.
-use mathlib.Core.Bool.{true, false, not, cond}
+use mathlib.Core.Bool.{true, false, cond}
 use mathlib.Core.List.{List, [], _∷_}
 use mathlib.Core.Path.{_≡_, refl, sym, ap, _∙_}
 use Prim.Native.Nat.{ℕ, _+_, _-_, _*_, _≤_, _<_}
 use native.Mathlib.Nat.{zero-add}
 use native.Mathlib.Omega.{arith}
-use lib.Dec.{T, ltb}
-use lib.Ieee.{Float, nan, inf, fin, binary64, lt, ofBits, nanBits}
+use lib.Dec.{ltb}
+use lib.Ieee.{Float, nan, inf, fin, lt, ofBits}
 use borrow.Author.Tests.{le-ltb}
 use Rattle.float64.specs.Helpers.{isFinite}
 use Rattle.float64.specs.Ops.{_⊖_, _⊗_, _⊘_, c0, infinity}
@@ -19,10 +19,6 @@ use Rattle.banded.proofs.Storing.{first-two, first-three}
 use Rattle.elimination.proofs.Elimination.{eliminated}
 
 -- ---- a pivot
-
-pub top-no-nan : T (not (nanBits binary64 0x7ff0_0000_0000_0000))
-unfolding nanBits
-top-no-nan = tt
 
 pub above-0 : (x : Float) → lt c0 x ≡ true → lt x infinity ≡ good x
 unfolding lt isFinite ofBits

@@ -1,4 +1,5 @@
-use Rattle.elimination.proofs.Orders.{top-no-nan, above-0, not-above-0}
+use Rattle.float64.proofs.Helpers.{top-no-nan}
+use Rattle.elimination.proofs.Orders.{above-0, not-above-0}
 use mathlib.Core.Path.{sym, _∙_}
 use Rattle.elimination.proofs.is_good.Statement.{statement}
 use Rattle.elimination.proofs.is_good.Tie as tie
