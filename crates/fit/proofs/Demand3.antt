@@ -88,15 +88,15 @@ bounds a l f e =
 
 -- an end with the same state, best gap and counts
 abbrev endWith : State → ℕ → Float → ℕ → Ended State
-endWith s steps best gains = record { state = s; steps = steps; best = best; gains = gains; reason = small }
+endWith s steps best improvements = record { state = s; n-iter = steps; best = best; improvements = gains; reason = small }
 
 -- the reason does not reach the fit
-end-from : (a : Asked) (e : Ended State) → pathEnd a e ≡ pathEnd a (endWith (e .state) (e .steps) (e .best) (e .gains))
+end-from : (a : Asked) (e : Ended State) → pathEnd a e ≡ pathEnd a (endWith (e .state) (e .n-iter) (e .best) (e .improvements))
 unfolding pathEnd keptOf
 end-from a e = refl
 
 same-end : (a : Asked) (e f : Ended State) → search.Alike e f → pathEnd a e ≡ pathEnd a f
-same-end a e f h = end-from a e ∙ (λ i. pathEnd a (endWith (h .state i) (h .steps i) (h .best i) (h .gains i))) ∙ sym (end-from a f)
+same-end a e f h = end-from a e ∙ (λ i. pathEnd a (endWith (h .state i) (h .n-iter i) (h .best i) (h .improvements i))) ∙ sym (end-from a f)
 
 polished-other : (m : ℕ) (a : Asked) (c : Certificate) (z : Option (List Float)) → polished (withMaxIter m a) c z ≡ polished a c z
 unfolding polished
@@ -137,7 +137,7 @@ abbrev iterations : Option Found → ℕ
 iterations none = 0
 iterations (some f) = f .n-iter
 
-end-steps : (a : Asked) (f : Found) → path a ≡ some f → eqb (a .penalty) 2 ≡ false → lamZero a ≡ false → lamHigh a ≡ false → searchOf a .steps ≡ f .n-iter
+end-steps : (a : Asked) (f : Found) → path a ≡ some f → eqb (a .penalty) 2 ≡ false → lamZero a ≡ false → lamHigh a ≡ false → searchOf a .n-iter ≡ f .n-iter
 unfolding pathEnd
 end-steps a f e p z m =
     let x = pathEnd a (searchOf a) in
@@ -145,7 +145,7 @@ end-steps a f e p z m =
     ap iterations (sym q ∙ e)
 
 -- where n_iter is below the limit, a limit that is at least n_iter
-ends-alike : (a : Asked) (other n : ℕ) → Searches a → searchOf a .steps ≡ n → n < a .max-iter → n ≤ other → search.Alike (searchOf (withMaxIter other a)) (searchOf a)
+ends-alike : (a : Asked) (other n : ℕ) → Searches a → searchOf a .n-iter ≡ n → n < a .max-iter → n ≤ other → search.Alike (searchOf (withMaxIter other a)) (searchOf a)
 unfolding searchOf interiorPoint
 ends-alike a other n s e h g = s .alike (a .max-iter) other (subst (λ (x : ℕ). x < a .max-iter) (sym e) h) (subst (λ (x : ℕ). x ≤ other) (sym e) g)
 

@@ -122,8 +122,8 @@ foundWith a c e = record {
   first-gap = firstGap a;
   best-gap = e .best;
   objective = c .primal;
-  n-iter = e .steps;
-  improvements = e .gains;
+  n-iter = e .n-iter;
+  improvements = e .improvements;
   converged = le (gapOf c) (a .tol ⊗ c .primal);
 }
 

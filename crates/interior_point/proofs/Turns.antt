@@ -62,31 +62,31 @@ go-on false false true false e = record { found = refl; wide = refl; within = re
 -- the search ended at p
 pub record EndsAt (e : Ended State) (p : Point State) : Type 0 where
   pub state : p .state ≡ e .state
-  pub steps : p .steps ≡ e .steps
+  pub n-iter : p .n-iter ≡ e .n-iter
   pub best : p .best ≡ e .best
-  pub gains : p .gains ≡ e .gains
+  pub improvements : p .improvements ≡ e .improvements
 
 ended-at : (e : Ended State) (p : Point State) (r : Reason) → ended p r ≡ e → EndsAt e p
 ended-at e p r q = record {
   state = ap (λ (x : Ended State). x .state) q;
-  steps = ap (λ (x : Ended State). x .steps) q;
+  n-iter = ap (λ (x : Ended State). x .n-iter) q;
   best = ap (λ (x : Ended State). x .best) q;
-  gains = ap (λ (x : Ended State). x .gains) q;
+  improvements = ap (λ (x : Ended State). x .improvements) q;
 }
 
-module _ (L : Problem State) (tol : Float) (limit : ℕ) (e : Ended State) (p : Point State) (gone : Bool) (h : p .steps ≤ limit) (left : leftOf L tol (limit - p .steps) p gone ≡ e) where
-  pub finish : (a b c d : Bool) → gone ≡ a → enough L tol p ≡ b → ltb (p .steps) limit ≡ c → eqb (p .stall) 10 ≡ d
+module _ (L : Problem State) (tol : Float) (limit : ℕ) (e : Ended State) (p : Point State) (gone : Bool) (h : p .n-iter ≤ limit) (left : leftOf L tol (limit - p .n-iter) p gone ≡ e) where
+  pub finish : (a b c d : Bool) → gone ≡ a → enough L tol p ≡ b → ltb (p .n-iter) limit ≡ c → eqb (p .stall) 10 ≡ d
       → cond a false (cond b false (cond c (not d) false)) ≡ false → EndsAt e p
-  finish true b c d u v w x q = ended-at e p pivot (sym (ap (leftOf L tol (limit - p .steps) p) u) ∙ left)
-  finish false true c d u v w x q = ended-at e p small (sym (run-small L tol (limit - p .steps) p v) ∙ sym (ap (leftOf L tol (limit - p .steps) p) u) ∙ left)
+  finish true b c d u v w x q = ended-at e p pivot (sym (ap (leftOf L tol (limit - p .n-iter) p) u) ∙ left)
+  finish false true c d u v w x q = ended-at e p small (sym (run-small L tol (limit - p .n-iter) p v) ∙ sym (ap (leftOf L tol (limit - p .n-iter) p) u) ∙ left)
   finish false false false d u v w x q =
-      let o : limit ≤ p .steps = ltb-false (p .steps) limit w in
-      let z : limit - p .steps ≡ 0 = omega arith in
-      ended-at e p spent (sym (run-spent L tol p v) ∙ sym (ap (λ (j : ℕ). run L tol j p) z) ∙ sym (ap (leftOf L tol (limit - p .steps) p) u) ∙ left)
+      let o : limit ≤ p .n-iter = ltb-false (p .n-iter) limit w in
+      let z : limit - p .n-iter ≡ 0 = omega arith in
+      ended-at e p spent (sym (run-spent L tol p v) ∙ sym (ap (λ (j : ℕ). run L tol j p) z) ∙ sym (ap (leftOf L tol (limit - p .n-iter) p) u) ∙ left)
   finish false false true true u v w x q =
-      let o : p .steps < limit = ltb-true (p .steps) limit w in
-      let z : limit - p .steps ≡ suc (limit - suc (p .steps)) = omega arith in
-      ended-at e p stalled (sym (run-stalled L tol (limit - suc (p .steps)) p v x) ∙ sym (ap (λ (j : ℕ). run L tol j p) z) ∙ sym (ap (leftOf L tol (limit - p .steps) p) u) ∙ left)
+      let o : p .n-iter < limit = ltb-true (p .n-iter) limit w in
+      let z : limit - p .n-iter ≡ suc (limit - suc (p .n-iter)) = omega arith in
+      ended-at e p stalled (sym (run-stalled L tol (limit - suc (p .n-iter)) p v x) ∙ sym (ap (λ (j : ℕ). run L tol j p) z) ∙ sym (ap (leftOf L tol (limit - p .n-iter) p) u) ∙ left)
   finish false false true false u v w x q = absurd (clash refl q)
 
 -- n is the length of the series and m of the dual point
@@ -114,9 +114,9 @@ module _ (k : ℕ) (y : List Float) (lam : Float) where
   unfolding problem origin
   start-is g s v p e f = λ i. record {
     state = record { point = e i; t = c1e-10; step = infinity };
-    steps = 0;
+    n-iter = 0;
     best = (f ∙ λ j. gapOf (certify k y lam (e j .z))) i;
-    gains = 0;
+    improvements = 0;
     stall = 0;
   }
 
@@ -183,15 +183,15 @@ module _ (k : ℕ) (y : List Float) (lam : Float) where
         let z : part n m s₁ ≡ part n m s₀ = ap (λ (p : Dual). p .z) same in
         record {
           ahead = λ tol j q f. run-lost L tol j (pointOf k y s₀ r) (gap-test tol false q) f (ap (λ (h : State → Turn State). h (stateOf k y s₀ r)) moves-as ∙ by-flag false b)
-              ∙ λ i. record { state = record { point = sym same i; t = r .t; step = r .step }; steps = sym (add-one (r .«n_iter»)) i; best = r .best; gains = r .improvements; reason = pivot };
+              ∙ λ i. record { state = record { point = sym same i; t = r .t; step = r .step }; n-iter = sym (add-one (r .«n_iter»)) i; best = r .best; improvements = r .improvements; reason = pivot };
           standing = record {
             trend = part-below nan 0 n (stepped .kept) (omega arith) ∙ stands .trend ∙ λ i. certify k y lam (sym z i) .trend;
             primal = stands .primal ∙ λ i. certify k y lam (sym z i) .primal;
             gap = stands .gap ∙ λ i. gapOf (certify k y lam (sym z i));
           };
           first = refl;
-          steps = refl;
-          gains = omega arith;
+          n-iter = refl;
+          improvements = omega arith;
           stall = omega arith;
           kept = kept-then 0 (searchArea n) (stepped .kept) (kept-none 0 0 s₁) (omega arith) (omega arith) (omega arith) (omega arith);
         }
@@ -219,16 +219,16 @@ module _ (k : ℕ) (y : List Float) (lam : Float) where
       advanced : (b : Bool) → improves r p d ≡ b → pointOf k y s x ≡ advance L (pointOf k y s₀ r) (stateOf k y s x) b
       advanced true e = λ i. record {
         state = stateOf k y s x;
-        steps = (new .steps ∙ add-one (r .«n_iter»)) i;
+        n-iter = (new .n-iter ∙ add-one (r .«n_iter»)) i;
         best = (new .best ∙ (λ j. cond (e j) (p ⊖ d) (r .best)) ∙ gap-is) i;
-        gains = (new .gains ∙ (λ j. cond (e j) (r .improvements + 1) (r .improvements)) ∙ add-one (r .improvements)) i;
+        improvements = (new .improvements ∙ (λ j. cond (e j) (r .improvements + 1) (r .improvements)) ∙ add-one (r .improvements)) i;
         stall = (new .stall ∙ λ j. cond (e j) 0 (r .stalled + 1)) i;
       }
       advanced false e = λ i. record {
         state = stateOf k y s x;
-        steps = (new .steps ∙ add-one (r .«n_iter»)) i;
+        n-iter = (new .n-iter ∙ add-one (r .«n_iter»)) i;
         best = (new .best ∙ λ j. cond (e j) (p ⊖ d) (r .best)) i;
-        gains = (new .gains ∙ λ j. cond (e j) (r .improvements + 1) (r .improvements)) i;
+        improvements = (new .improvements ∙ λ j. cond (e j) (r .improvements + 1) (r .improvements)) i;
         stall = (new .stall ∙ (λ j. cond (e j) 0 (r .stalled + 1)) ∙ add-one (r .stalled)) i;
       }
 
@@ -254,8 +254,8 @@ module _ (k : ℕ) (y : List Float) (lam : Float) where
           gap = new .gap ∙ gap-s;
         };
         first = new .first;
-        steps = new .steps;
-        gains = rw (new .gains) (at-most (improves r p d) (r .improvements + 1) (r .improvements) (omega arith));
+        n-iter = new .n-iter;
+        improvements = rw (new .improvements) (at-most (improves r p d) (r .improvements + 1) (r .improvements) (omega arith));
         stall = rw (new .stall) (no-more (improves r p d));
         kept = kept-then 0 (searchArea n) (stepped .kept) kept (omega arith) (omega arith) (omega arith) (omega arith);
       }
@@ -289,8 +289,8 @@ module _ (k : ℕ) (y : List Float) (lam : Float) where
     pub loop-starts : Started k y lam s₀ s r → Looping g tol limit s s r
     loop-starts w =
         let e = w .begins g in
-        let none : r .«n_iter» ≡ 0 = ap (λ (p : Point State). p .steps) e in
-        let gains : r .improvements ≡ 0 = ap (λ (p : Point State). p .gains) e in
+        let none : r .«n_iter» ≡ 0 = ap (λ (p : Point State). p .n-iter) e in
+        let gains : r .improvements ≡ 0 = ap (λ (p : Point State). p .improvements) e in
         let stall : r .stalled ≡ 0 = ap (λ (p : Point State). p .stall) e in
         let all : limit - r .«n_iter» ≡ limit = omega arith in
         record {
@@ -314,7 +314,7 @@ module _ (k : ℕ) (y : List Float) (lam : Float) where
       loop-goes h s′ x t =
           let o = goes-on h in
           let b = still h in
-          let c = t .steps in
+          let c = t .n-iter in
           let one : limit - r .«n_iter» ≡ suc (limit - x .«n_iter») = omega arith in
           let d : suc (r .stalled) ≤ 10 = idle-room (r .stalled) (w .idle) (o .lively) in
           record {
@@ -325,7 +325,7 @@ module _ (k : ℕ) (y : List Float) (lam : Float) where
             standing = t .standing;
             first = t .first ∙ w .first;
             within = omega arith;
-            fewer = omega (arith, t .gains, w .fewer);
+            fewer = omega (arith, t .improvements, w .fewer);
             idle = omega (arith, t .stall);
             kept = kept-then 0 (searchArea n) (w .kept) (t .kept) (omega arith) (omega arith) (omega arith) (omega arith);
           }
@@ -351,7 +351,7 @@ module _ (k : ℕ) (y : List Float) (lam : Float) where
         primal = w .standing .primal ∙ λ i. certify k y lam (p i .z) .primal;
         first = w .first;
         best = e .best ∙ ap (λ (x : Ended State). x .best) q;
-        steps = e .steps ∙ ap (λ (x : Ended State). x .steps) q;
-        gains = e .gains ∙ ap (λ (x : Ended State). x .gains) q;
+        n-iter = e .n-iter ∙ ap (λ (x : Ended State). x .n-iter) q;
+        improvements = e .improvements ∙ ap (λ (x : Ended State). x .improvements) q;
         kept = kept-then 0 (searchArea n) v (w .kept) (omega arith) (omega arith) (omega arith) (omega arith);
       }

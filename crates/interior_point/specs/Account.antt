@@ -27,7 +27,7 @@ abbrev pub stateOf : ℕ → List Float → List Float → Run → State
 stateOf k y s r = record { point = pointIn k y s; t = r .t; step = r .step }
 
 abbrev pub pointOf : ℕ → List Float → List Float → Run → Point State
-pointOf k y s r = record { state = stateOf k y s r; steps = r .«n_iter»; best = r .best; gains = r .improvements; stall = r .stalled }
+pointOf k y s r = record { state = stateOf k y s r; n-iter = r .«n_iter»; best = r .best; improvements = r .improvements; stall = r .stalled }
 
 -- the trend in s, and P and the gap of r, are those of the point in s
 pub record Standing (k : ℕ) (y : List Float) (lam : Float) (s : List Float) (r : Run) : Type 0 where
@@ -54,8 +54,8 @@ goes r tol limit = cond (r .lost) false (cond (le (r .gap) (tol ⊗ r .primal)) 
 
 -- one more iteration can be counted
 pub record Countable (r : Run) : Type 0 where
-  pub steps : r .«n_iter» + 1 < 2 ^ 64
-  pub gains : r .improvements ≤ r .«n_iter»
+  pub n-iter : r .«n_iter» + 1 < 2 ^ 64
+  pub improvements : r .improvements ≤ r .«n_iter»
   pub stall : r .stalled ≤ 10
 
 -- what an iteration adds to r, where it ends with P and G and is an improvement or not
@@ -69,8 +69,8 @@ pub record Settled (r : Run) (t₁ step₁ p d : Float) (x : Run) : Type 0 where
   pub primal : x .primal ≡ p
   pub first : x .first ≡ r .first
   pub best : x .best ≡ cond (improves r p d) (p ⊖ d) (r .best)
-  pub steps : x .«n_iter» ≡ r .«n_iter» + 1
-  pub gains : x .improvements ≡ cond (improves r p d) (r .improvements + 1) (r .improvements)
+  pub n-iter : x .«n_iter» ≡ r .«n_iter» + 1
+  pub improvements : x .improvements ≡ cond (improves r p d) (r .improvements + 1) (r .improvements)
   pub stall : x .stalled ≡ cond (improves r p d) 0 (r .stalled + 1)
   pub lost : x .lost ≡ false
 
@@ -101,8 +101,8 @@ pub record Turned (k : ℕ) (g y : List Float) (lam : Float) (s₀ s : List Floa
       → run (problem k g y lam) tol (suc j) (pointOf k y s₀ r) ≡ leftOf (problem k g y lam) tol j (pointOf k y s x) (x .lost)
   pub standing : Standing k y lam s x
   pub first : x .first ≡ r .first
-  pub steps : x .«n_iter» ≡ r .«n_iter» + 1
-  pub gains : x .improvements ≤ r .improvements + 1
+  pub n-iter : x .«n_iter» ≡ r .«n_iter» + 1
+  pub improvements : x .improvements ≤ r .improvements + 1
   pub stall : x .stalled ≤ r .stalled + 1
   pub kept : Kept 0 (searchArea (length y)) s₀ s
 
@@ -120,6 +120,6 @@ pub record Found (k : ℕ) (y : List Float) (lam tol : Float) (limit : ℕ) (s�
   pub primal : r .primal ≡ endOf k y lam tol limit .primal
   pub first : r .first ≡ gapOf (certify k y lam (origin (length y - k) .point .z))
   pub best : r .best ≡ searchOf k y lam tol limit .best
-  pub steps : r .«n_iter» ≡ searchOf k y lam tol limit .steps
-  pub gains : r .improvements ≡ searchOf k y lam tol limit .gains
+  pub n-iter : r .«n_iter» ≡ searchOf k y lam tol limit .n-iter
+  pub improvements : r .improvements ≡ searchOf k y lam tol limit .improvements
   pub kept : Kept 0 (searchArea (length y)) s₀ s

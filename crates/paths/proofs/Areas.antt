@@ -66,7 +66,7 @@ module _ (a : Asked) (w x : List Float) (r : Found) (fits : preparation (length 
         first-gap = h .first i;
         best-gap = h .best i;
         objective = h .objective i;
-        n-iter = h .steps i;
-        improvements = h .gains i;
+        n-iter = h .n-iter i;
+        improvements = h .improvements i;
         converged = h .converged i;
       }

@@ -27,5 +27,5 @@ pub record Reached (a : Asked) (s : List Float) (r : Found) : Type 0 where
   pub converged : r .converged ≡ le (gapOf (wonOf a)) (a .tol ⊗ wonOf a .primal)
   pub first : r .«first_gap» ≡ firstGap a
   pub best : r .«best_gap» ≡ searchOf a .best
-  pub steps : r .«n_iter» ≡ searchOf a .steps
-  pub gains : r .improvements ≡ searchOf a .gains
+  pub n-iter : r .«n_iter» ≡ searchOf a .n-iter
+  pub improvements : r .improvements ≡ searchOf a .improvements

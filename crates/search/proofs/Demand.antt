@@ -47,7 +47,7 @@ module _ {S : Type 0} (L : Problem S) (tol : Float) (tol-pos : T (positive tol))
       subst (λ (b : Float). T (isNan b || above b)) (sym e)
       (goes-on binary64 tol (L .primal (p .state)) (L .dual (p .state)) tol-pos (sign (p .state)) (is-off (enough L tol p) s))
 
-  falls : {a : Float} {r : ℕ} {p : Point S} {e : Ended S} → Trace L tol r p e → Live L p → Falls a (p .gains) (p .best) → Falls a (e .gains) (e .best)
+  falls : {a : Float} {r : ℕ} {p : Point S} {e : Ended S} → Trace L tol r p e → Live L p → Falls a (p .improvements) (p .best) → Falls a (e .improvements) (e .best)
   falls (closes r p s) v f = f
   falls (spends p s) v f = f
   falls (stalls r p s n) v f = f
@@ -56,27 +56,27 @@ module _ {S : Type 0} (L : Problem S) (tol : Float) (tol-pos : T (positive tol))
       let l = is-on (better L p t) b in falls tr (inr refl) (lower (gap L t) f (above-of (gap L t) (p .best) (awake p v s) l) l (sub-fits binary64 (L .primal t) (L .dual t)))
   falls (stays {p = p} t s n m b tr) v f = falls tr (inl (awake p v s)) f
 
-  improvements : (max : ℕ) (s : S) → Falls (gap L s) (searched L tol max s .gains) (searched L tol max s .best)
+  improvements : (max : ℕ) (s : S) → Falls (gap L s) (searched L tol max s .improvements) (searched L tol max s .best)
   improvements max s = falls (trace L tol max (start L s)) (inr refl) (here (sub-fits binary64 (L .primal s) (L .dual s)))
 
-  within-limit : (max : ℕ) (s : S) → searched L tol max s .steps ≤ max
+  within-limit : (max : ℕ) (s : S) → searched L tol max s .n-iter ≤ max
   within-limit max s = let h = steps-within (trace L tol max (start L s)) in omega arith
 
-  within-ten : (max : ℕ) (s : S) → searched L tol max s .steps ≤ 10 * searched L tol max s .gains + 10
+  within-ten : (max : ℕ) (s : S) → searched L tol max s .n-iter ≤ 10 * searched L tol max s .improvements + 10
   within-ten max s = idle (trace L tol max (start L s)) zero-le zero-le
 
-  gains-few : (max : ℕ) (s : S) → searched L tol max s .gains ≤ 144763
+  gains-few : (max : ℕ) (s : S) → searched L tol max s .improvements ≤ 144763
   gains-few max s = few-improvements (improvements max s)
 
-  pub kept : (max : ℕ) (s : S) → Kept max (searched L tol max s .steps) (searched L tol max s .gains) (gap L s) (searched L tol max s .best)
+  pub kept : (max : ℕ) (s : S) → Kept max (searched L tol max s .n-iter) (searched L tol max s .improvements) (gap L s) (searched L tol max s .best)
   kept max s = record { limit = within-limit max s; ten = within-ten max s; few = gains-few max s; shrunk = falls-whole (improvements max s) }
 
-  steps-few : (max : ℕ) (s : S) → searched L tol max s .steps ≤ 1447640
+  steps-few : (max : ℕ) (s : S) → searched L tol max s .n-iter ≤ 1447640
   steps-few max s = let h = within-ten max s in let g = gains-few max s in omega arith
 
 -- ---- the same search under another limit
 abbrev retold : {S : Type 0} → Ended S → Reason → Ended S
-retold e r = record { state = e .state; steps = e .steps; best = e .best; gains = e .gains; reason = r }
+retold e r = record { state = e .state; n-iter = e .n-iter; best = e .best; improvements = e .improvements; reason = r }
 
 record Again {S : Type 0} (L : Problem S) (tol : Float) (k : ℕ) (p : Point S) (e : Ended S) : Type 0 where
   why : Reason
@@ -84,7 +84,7 @@ record Again {S : Type 0} (L : Problem S) (tol : Float) (k : ℕ) (p : Point S) 
 
 module _ {S : Type 0} {L : Problem S} {tol : Float} where
   -- a limit that is at least where it ended: the same but for the reason
-  again : {r : ℕ} {p : Point S} {e : Ended S} (k : ℕ) → Trace L tol r p e → e .steps < p .steps + r → e .steps ≤ p .steps + k → Again L tol k p e
+  again : {r : ℕ} {p : Point S} {e : Ended S} (k : ℕ) → Trace L tol r p e → e .n-iter < p .n-iter + r → e .n-iter ≤ p .n-iter + k → Again L tol k p e
   again k (closes r p s) h g = record { why = small; goes = closes k p s }
   again k (spends p s) h g = absurd (omega arith)
   again zero (stalls r p s n) h g = record { why = spent; goes = spends p s }
@@ -97,7 +97,7 @@ module _ {S : Type 0} {L : Problem S} {tol : Float} where
   again (suc k) (stays t s n m b tr) h g = let a = again k tr (omega arith) (omega arith) in record { why = a .why; goes = stays t s n m b (a .goes) }
 
   -- a limit above where it ended: the same
-  beyond : {r : ℕ} {p : Point S} {e : Ended S} (k : ℕ) → Trace L tol r p e → e .steps < p .steps + r → e .steps < p .steps + k → Trace L tol k p e
+  beyond : {r : ℕ} {p : Point S} {e : Ended S} (k : ℕ) → Trace L tol r p e → e .n-iter < p .n-iter + r → e .n-iter < p .n-iter + k → Trace L tol k p e
   beyond k (closes r p s) h g = closes k p s
   beyond k (spends p s) h g = absurd (omega arith)
   beyond zero (stalls r p s n) h g = absurd (omega arith)
@@ -110,13 +110,13 @@ module _ {S : Type 0} {L : Problem S} {tol : Float} where
   beyond (suc k) (stays t s n m b tr) h g = stays t s n m b (beyond k tr (omega arith) (omega arith))
 
 module _ {S : Type 0} (L : Problem S) (tol : Float) where
-  pub same-end : (max other : ℕ) (s : S) → searched L tol max s .steps < max → searched L tol max s .steps ≤ other → Alike (searched L tol other s) (searched L tol max s)
+  pub same-end : (max other : ℕ) (s : S) → searched L tol max s .n-iter < max → searched L tol max s .n-iter ≤ other → Alike (searched L tol other s) (searched L tol max s)
   same-end max other s h g =
       let a = again other (trace L tol max (start L s)) (omega (arith, h)) (omega (arith, g)) in
       let q : searched L tol other s ≡ retold (searched L tol max s) (a .why) = traced L tol (a .goes) in
-      record { state = ap (λ (e : Ended S). e .state) q; steps = ap (λ (e : Ended S). e .steps) q; best = ap (λ (e : Ended S). e .best) q; gains = ap (λ (e : Ended S). e .gains) q }
+      record { state = ap (λ (e : Ended S). e .state) q; n-iter = ap (λ (e : Ended S). e .n-iter) q; best = ap (λ (e : Ended S). e .best) q; improvements = ap (λ (e : Ended S). e .improvements) q }
 
-  pub same-reason : (max other : ℕ) (s : S) → searched L tol max s .steps < max → searched L tol max s .steps < other → searched L tol other s ≡ searched L tol max s
+  pub same-reason : (max other : ℕ) (s : S) → searched L tol max s .n-iter < max → searched L tol max s .n-iter < other → searched L tol other s ≡ searched L tol max s
   same-reason max other s h g = traced L tol (beyond other (trace L tol max (start L s)) (omega (arith, h)) (omega (arith, g)))
 
 -- ---- the whole

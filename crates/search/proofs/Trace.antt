@@ -13,7 +13,7 @@ use Rattle.search.specs.Search.{Turn, lost, moved, Problem, Point, Ended
 
 -- the end of an iteration that a bad pivot ends
 abbrev pub afterLoss : {S : Type 0} → Point S → Ended S
-afterLoss p = record { state = p .state; steps = suc (p .steps); best = p .best; gains = p .gains; reason = pivot }
+afterLoss p = record { state = p .state; n-iter = suc (p .n-iter); best = p .best; improvements = p .improvements; reason = pivot }
 
 -- ---- one equation for each way an iteration can go
 abbrev follow : {S : Type 0} → Problem S → Float → ℕ → Next S → Ended S
@@ -119,15 +119,15 @@ module _ {S : Type 0} (L : Problem S) (tol : Float) where
 
 -- ---- the counts
 module _ {S : Type 0} {L : Problem S} {tol : Float} where
-  pub steps-grow : {r : ℕ} {p : Point S} {e : Ended S} → Trace L tol r p e → p .steps ≤ e .steps
-  steps-grow (closes r p e) = le-refl (p .steps)
-  steps-grow (spends p e) = le-refl (p .steps)
-  steps-grow (stalls r p e f) = le-refl (p .steps)
-  steps-grow (loses r p e f m) = le-suc (p .steps)
-  steps-grow (gains {p = p} t e f m w tr) = le-trans (le-suc (p .steps)) (steps-grow tr)
-  steps-grow (stays {p = p} t e f m w tr) = le-trans (le-suc (p .steps)) (steps-grow tr)
+  pub steps-grow : {r : ℕ} {p : Point S} {e : Ended S} → Trace L tol r p e → p .n-iter ≤ e .n-iter
+  steps-grow (closes r p e) = le-refl (p .n-iter)
+  steps-grow (spends p e) = le-refl (p .n-iter)
+  steps-grow (stalls r p e f) = le-refl (p .n-iter)
+  steps-grow (loses r p e f m) = le-suc (p .n-iter)
+  steps-grow (gains {p = p} t e f m w tr) = le-trans (le-suc (p .n-iter)) (steps-grow tr)
+  steps-grow (stays {p = p} t e f m w tr) = le-trans (le-suc (p .n-iter)) (steps-grow tr)
 
-  pub steps-within : {r : ℕ} {p : Point S} {e : Ended S} → Trace L tol r p e → e .steps ≤ p .steps + r
+  pub steps-within : {r : ℕ} {p : Point S} {e : Ended S} → Trace L tol r p e → e .n-iter ≤ p .n-iter + r
   steps-within (closes r p e) = omega arith
   steps-within (spends p e) = omega arith
   steps-within (stalls r p e f) = omega arith
@@ -144,7 +144,7 @@ pub idle-room : (n : ℕ) → n ≤ 10 → eqb n 10 ≡ false → suc n ≤ 10
 idle-room n h f = let z = not-ten n h f in omega arith
 
 module _ {S : Type 0} {L : Problem S} {tol : Float} where
-  pub idle : {r : ℕ} {p : Point S} {e : Ended S} → Trace L tol r p e → p .stall ≤ 10 → p .steps ≤ 10 * p .gains + p .stall → e .steps ≤ 10 * e .gains + 10
+  pub idle : {r : ℕ} {p : Point S} {e : Ended S} → Trace L tol r p e → p .stall ≤ 10 → p .n-iter ≤ 10 * p .improvements + p .stall → e .n-iter ≤ 10 * e .improvements + 10
   idle (closes r p e) h g = omega arith
   idle (spends p e) h g = omega arith
   idle (stalls r p e f) h g = omega arith

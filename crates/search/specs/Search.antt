@@ -23,9 +23,9 @@ gap L s = L .primal s ⊖ L .dual s
 -- where the search stands before an iteration
 pub record Point (S : Type 0) : Type 0 where
   pub state : S
-  pub steps : ℕ
+  pub n-iter : ℕ
   pub best : Float
-  pub gains : ℕ
+  pub improvements : ℕ
   pub stall : ℕ
 
 -- how it ended: the gap is small enough, the limit is spent, it stalled, or a pivot was lost
@@ -38,17 +38,17 @@ pub data Reason : Type 0 where
 -- where it ended
 pub record Ended (S : Type 0) : Type 0 where
   pub state : S
-  pub steps : ℕ
+  pub n-iter : ℕ
   pub best : Float
-  pub gains : ℕ
+  pub improvements : ℕ
   pub reason : Reason
 
 -- the best gap starts as the first gap
 abbrev pub start : {S : Type 0} → Problem S → S → Point S
-start L s = record { state = s; steps = 0; best = gap L s; gains = 0; stall = 0 }
+start L s = record { state = s; n-iter = 0; best = gap L s; improvements = 0; stall = 0 }
 
 abbrev pub ended : {S : Type 0} → Point S → Reason → Ended S
-ended p r = record { state = p .state; steps = p .steps; best = p .best; gains = p .gains; reason = r }
+ended p r = record { state = p .state; n-iter = p .n-iter; best = p .best; improvements = p .improvements; reason = r }
 
 -- gap ≤ tol·P
 abbrev pub enough : {S : Type 0} → Problem S → Float → Point S → Bool
@@ -64,8 +64,8 @@ better L p t = lt (gap L t) (c0·99 ⊗ p .best)
 
 -- an improvement's gap becomes the best and ends the stall; else the stall count rises
 abbrev pub advance : {S : Type 0} → Problem S → Point S → S → Bool → Point S
-advance L p t true = record { state = t; steps = suc (p .steps); best = gap L t; gains = suc (p .gains); stall = 0 }
-advance L p t false = record { state = t; steps = suc (p .steps); best = p .best; gains = p .gains; stall = suc (p .stall) }
+advance L p t true = record { state = t; n-iter = suc (p .n-iter); best = gap L t; improvements = suc (p .improvements); stall = 0 }
+advance L p t false = record { state = t; n-iter = suc (p .n-iter); best = p .best; improvements = p .improvements; stall = suc (p .stall) }
 
 pub data Next (S : Type 0) : Type 0 where
   stop : Ended S → Next S
@@ -73,7 +73,7 @@ pub data Next (S : Type 0) : Type 0 where
 
 -- an iteration: it counts also where a bad pivot ends it
 abbrev pub turned : {S : Type 0} → Problem S → Point S → Turn S → Next S
-turned L p lost = stop (record { state = p .state; steps = suc (p .steps); best = p .best; gains = p .gains; reason = pivot })
+turned L p lost = stop (record { state = p .state; n-iter = suc (p .n-iter); best = p .best; improvements = p .improvements; reason = pivot })
 turned L p (moved t) = go (advance L p t (better L p t))
 
 -- before each iteration, while the limit allows one: is the gap small enough, and else, is the stall count 10

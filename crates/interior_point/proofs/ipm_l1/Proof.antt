@@ -33,7 +33,7 @@ iterate-requires c κs = let lc = c .before .before .before in
     let o = still (a .k) (a .y .now) (a .lam) (go .gram-offsets .result) (a .tol) (a .max-iter) (st .start .last .0) (l .work) (l .r) (l .inv) h in
     record {
       ready = record { series = p .series; room = omega (arith, p .room, l .inv .kept .size, st .start .ensures .kept .size); known = p .known };
-      counts = record { steps = omega (arith, o); gains = l .inv .fewer; stall = l .inv .idle };
+      counts = record { n-iter = omega (arith, o); improvements = l .inv .fewer; stall = l .inv .idle };
       standing = l .inv .standing;
     }
 
@@ -47,7 +47,7 @@ loop-less c = let it = c .before .before in
     let l = lc .loop in
     let h = sym (gc .going .ensures) ∙ it .before .before .if1 .taken in
     let o = still (a .k) (a .y .now) (a .lam) (go .gram-offsets .result) (a .tol) (a .max-iter) (st .start .last .0) (l .work) (l .r) (l .inv) h in
-    omega (arith, o, it .iterate .ensures .steps)
+    omega (arith, o, it .iterate .ensures .n-iter)
 
 loop-again : tie.Need-loop-again Inv-loop μ-loop
 loop-again c = let it = c .before .before in

@@ -14,7 +14,7 @@ step-at-requires c κs = c .before .before .before .before .before .pre .ready
 pivot-lost-requires : tie.Need-pivot-lost-requires
 pivot-lost-requires c κs = let sa = c .before .before .before .before in
     let nt = sa .before .before in
-    nt .before .before .before .before .pre .counts .steps
+    nt .before .before .before .before .pre .counts .n-iter
 
 returns : tie.Need-returns
 returns c = let sa = c .before .before .before .before .before in

@@ -63,8 +63,8 @@ returns c = let pl = c .before .before .before .before .before .before .before i
             converged = λ i. le (gap i) (p .tol ⊗ primal i);
             first = f .first;
             best = f .best;
-            steps = f .steps;
-            gains = f .gains;
+            n-iter = f .n-iter;
+            improvements = f .improvements;
           },
       (kept-then 0 (searchArea n) (f .kept) (g .kept) (omega arith) (omega arith) (omega arith) (omega arith), g .marks),
     )
