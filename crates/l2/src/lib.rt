@@ -26,9 +26,8 @@ fn objective(x: &[f64], y: &[f64], lam: f64, k: usize) -> f64
     requires { ⌜ Series k (length (now y)) × (length (now x) ≡ length (now y)) ⌝ }
     ensures { λ r. ⌜ r ≡ objectiveL2 k (now (y .entry)) lam (now (x .entry)) ⌝ }
 {
-    let a = sums::residual_squares(x, y);
-    let b = sums::diff_squares(x, k);
-    0.5 * a + 0.5 * lam * b
+    let s = sums::squares(x, y, k);
+    0.5 * s.residual + 0.5 * lam * s.differences
 }
 
 // G at v = lam D x.
@@ -37,9 +36,8 @@ fn dual_l2(v: &[f64], y: &[f64], lam: f64, k: usize) -> f64
     ensures { λ r. ⌜ r ≡ dualL2 k (now (y .entry)) lam (now (v .entry)) ⌝ }
 {
     let a = sums::fall_squares(v, k);
-    let b = sums::dot_diff(v, y, k);
-    let c = vectors::norm2_sq(v);
-    -0.5 * a + b - c / (2.0 * lam)
+    let p = sums::products(v, y, k);
+    -0.5 * a + p.dot - p.square / (2.0 * lam)
 }
 
 pub struct Ends {

@@ -2,19 +2,27 @@
 ghost use mathlib.Core.Path.{_≡_};
 ghost use Prim.Native.Nat.{_≤_, _<_, _-_, _+_};
 ghost use lib.ListN.{length};
-ghost use Rattle.vectors.specs.Sums.{norm2Sq, dot};
+ghost use Rattle.float64.specs.Ops.{_⊗_};
+ghost use Rattle.vectors.specs.Vec.{at};
+ghost use Rattle.vectors.specs.Sums.{sumTo, norm2Sq, dot};
 ghost use Rattle.differences.specs.Diff.{diffK, diffKT};
 ghost use Rattle.differences.specs.Series.{Order, Series};
 ghost use Rattle.certificate.specs.Certificate.{minus};
 ghost use Rattle.l2.specs.Solved.{Scaled};
 
-// Σ(y - x)²
-pub fn residual_squares(x: &[f64], y: &[f64]) -> f64
-    requires { ⌜ length (now y) ≤ length (now x) ⌝ }
-    ensures { λ r. ⌜ r ≡ norm2Sq (minus (now (y .entry)) (now (x .entry))) ⌝ }
+// Σ(y - x)² and Σ(D x)².
+pub struct PrimalSums {
+    pub residual: f64,
+    pub differences: f64,
+}
+
+// Σ(y - x)², where sum is that of the places below from.
+fn residual_rest(x: &[f64], y: &[f64], from: usize, sum: f64) -> f64
+    requires { ⌜ (length (now y) ≤ length (now x)) × (from ≤ length (now y)) ⌝ }
+    ensures { λ r. ⌜ (sum ≡ sumTo (λ j. at (minus (now (y .entry)) (now (x .entry))) j ⊗ at (minus (now (y .entry)) (now (x .entry))) j) from → r ≡ norm2Sq (minus (now (y .entry)) (now (x .entry)))) ⌝ }
 {
-    let mut sum = 0.0;
-    let mut i = 0;
+    let mut sum = sum;
+    let mut i = from;
     while i < y.len() {
         let d = y[i] - x[i];
         sum = sum + d * d;
@@ -23,20 +31,27 @@ pub fn residual_squares(x: &[f64], y: &[f64]) -> f64
     sum
 }
 
-// Σ(D x)²
-pub fn diff_squares(x: &[f64], k: usize) -> f64
-    requires { ⌜ Series k (length (now x)) ⌝ }
-    ensures { λ r. ⌜ r ≡ norm2Sq (diffK k (now (x .entry))) ⌝ }
+// Both, side by side as far as D x goes.
+pub fn squares(x: &[f64], y: &[f64], k: usize) -> PrimalSums
+    requires { ⌜ Series k (length (now y)) × (length (now x) ≡ length (now y)) ⌝ }
+    ensures { λ r. ⌜ (r .residual ≡ norm2Sq (minus (now (y .entry)) (now (x .entry)))) × (r .differences ≡ norm2Sq (diffK k (now (x .entry)))) ⌝ }
 {
     let m = x.len() - k;
-    let mut sum = 0.0;
+    let mut a = 0.0;
+    let mut b = 0.0;
     let mut i = 0;
     while i < m {
+        let r = y[i] - x[i];
+        a = a + r * r;
         let d = differences::diff_at(x, k, i);
-        sum = sum + d * d;
+        b = b + d * d;
         i += 1;
     }
-    sum
+    let r = residual_rest(x, y, m, a);
+    PrimalSums {
+        residual: r,
+        differences: b,
+    }
 }
 
 // Σ(D'v)²
@@ -55,19 +70,28 @@ pub fn fall_squares(v: &[f64], k: usize) -> f64
     sum
 }
 
-// Σ v·D y
-pub fn dot_diff(v: &[f64], y: &[f64], k: usize) -> f64
+// Σ v·D y and Σ v².
+pub struct DualSums {
+    pub dot: f64,
+    pub square: f64,
+}
+
+// Both, side by side.
+pub fn products(v: &[f64], y: &[f64], k: usize) -> DualSums
     requires { ⌜ Order k × (length (now v) + k ≤ length (now y)) ⌝ }
-    ensures { λ r. ⌜ r ≡ dot (now (v .entry)) (diffK k (now (y .entry))) ⌝ }
+    ensures { λ r. ⌜ (r .dot ≡ dot (now (v .entry)) (diffK k (now (y .entry)))) × (r .square ≡ norm2Sq (now (v .entry))) ⌝ }
 {
-    let mut sum = 0.0;
+    let mut a = 0.0;
+    let mut b = 0.0;
     let mut i = 0;
     while i < v.len() {
+        let x = v[i];
         let d = differences::diff_at(y, k, i);
-        sum = sum + v[i] * d;
+        a = a + x * d;
+        b = b + x * x;
         i += 1;
     }
-    sum
+    DualSums { dot: a, square: b }
 }
 
 // lam D x, x the first n places of s, in the places after them.
