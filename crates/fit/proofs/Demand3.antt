@@ -88,7 +88,7 @@ bounds a l f e =
 
 -- an end with the same state, best gap and counts
 abbrev endWith : State → ℕ → Float → ℕ → Ended State
-endWith s steps best improvements = record { state = s; n-iter = steps; best = best; improvements = gains; reason = small }
+endWith s n-iter best improvements = record { state = s; n-iter = n-iter; best = best; improvements = improvements; reason = small }
 
 -- the reason does not reach the fit
 end-from : (a : Asked) (e : Ended State) → pathEnd a e ≡ pathEnd a (endWith (e .state) (e .n-iter) (e .best) (e .improvements))
