@@ -14,10 +14,8 @@ use lib.Seq.{getD-at, getD-set-same, getD-set-other}
 use lib.Ieee.{Float, lt}
 use Rattle.float64.specs.Ops.{_⊕_, _⊖_}
 use Rattle.vectors.specs.Vec.{at, KeptOf}
-use Rattle.vectors.proofs.Laws.{list-ext}
 use Rattle.vectors.proofs.Parts.{at-part}
 use Rattle.dual_point.specs.Places.{point}
-use Rattle.banded.specs.Rows.{Matrix, matrix}
 use Rattle.active_set.specs.ActiveSet.{Hold, free, at-lam, at-minus-lam, isFree, holdAt, freeTo, compressed, lessHeld, lessTo, rightOf}
 use Rattle.active_set.specs.Marks.{markOf, holdOf, Marks}
 
@@ -174,17 +172,11 @@ module _ {h : ℕ → Hold} {n i q x : ℕ} {v : List ℕ} (w : Marks h n i v q)
 
 -- ---- the system and its right side
 
-pub matrix-ext : (k : ℕ) (a a′ : Matrix) (m : ℕ) → ((r c : ℕ) → r < m → c ≤ k → a r c ≡ a′ r c) → matrix k a m ≡ matrix k a′ m
-unfolding matrix
-matrix-ext k a a′ zero e = refl
-matrix-ext k a a′ (suc m) e =
-    rw (matrix-ext k a a′ m (λ r c l b. e r c (omega arith) b), list-ext (k + 1) (a m) (a′ m) (λ c l. e m c (omega arith) (omega arith)))
-
 -- a row reads its own place of f and places above it
 pub band-ext : (k : ℕ) (g : List Float) (f f′ : List ℕ) (q : ℕ) → ((j : ℕ) → j < q → getD f j 0 ≡ getD f′ j 0)
-    → (r c : ℕ) → r < q → c ≤ k → compressed k g f r c ≡ compressed k g f′ r c
+    → (i j : ℕ) → i < q → j ≤ i → compressed k g f i j ≡ compressed k g f′ i j
 unfolding compressed
-band-ext k g f f′ q e r c l b = rw (e r l, e (r + c - k) (omega arith))
+band-ext k g f f′ q e i j l b = rw (e i l, e j (omega arith))
 
 pub less-more : (lam : Float) (g : List Float) (h : ℕ → Hold) (i lo j : ℕ) (u v r : Float) → v ≡ lessTo lam g h i lo u (j - lo) → lo ≤ j
     → r ≡ lessHeld lam g i j (h j) v → r ≡ lessTo lam g h i lo u (j + 1 - lo)

@@ -6,25 +6,27 @@ use Prim.Native.Nat.{ℕ, _+_, _-_, _*_, _≤_, _<_}
 use native.Mathlib.Omega.{arith}
 use native.Mathlib.Nat.{mul-le-mul-left, zero-add}
 use lib.ListN.{length, getD}
-use lib.Ieee.{Float, nan}
+use lib.Ieee.{Float}
 use Rattle.vectors.specs.Vec.{list, partOf, part, Kept}
 use Rattle.vectors.proofs.Laws.{list-ext, kept-none, kept-then}
-use Rattle.vectors.proofs.Parts.{part-below}
 use Rattle.differences.specs.Diff.{gramRow}
-use Rattle.banded.specs.Rows.{rows, sound, matrix, concat}
+use Rattle.banded.specs.Rows.{rows, sound}
 use Rattle.banded.specs.Solve.{solve, forward, divided, back}
+use Rattle.banded.specs.Run.{Keeps}
+use Rattle.banded.specs.Layout.{Laid}
+use Rattle.banded.proofs.Filling.{laid-keeps, keeps-still}
 use Rattle.substitution.specs.Solved.{Solved}
 use Rattle.active_set.specs.ActiveSet.{Hold, freeTo, compressed, rightOf, rightSide, solved}
 use Rattle.active_set.specs.Marks.{holdOf, heldBy, Marks, Settled}
-use Rattle.active_set.proofs.Laws.{hold-mark, matrix-ext, band-ext, right-ext}
+use Rattle.active_set.proofs.Laws.{hold-mark, band-ext, right-ext}
 
 module _ {h : ℕ → Hold} {n m q : ℕ} {v : List ℕ} (w : Marks h n m v q) where
   pub held-by : (j : ℕ) → j < m → heldBy n v j ≡ h j
   held-by j l = ap holdOf (w .held j l) ∙ hold-mark (h j)
 
-  -- the rows over the first marks are those over the free places, and so is the right side
-  rows-is : (k : ℕ) (g : List Float) → concat (matrix k (compressed k g v) q) ≡ concat (matrix k (compressed k g (freeTo h m)) q)
-  rows-is k g = ap concat (matrix-ext k (compressed k g v) (compressed k g (freeTo h m)) q (band-ext k g v (freeTo h m) q (w .free)))
+  -- the rows over the first marks keep the system over the free places; and the right side is its own
+  rows-is : (k : ℕ) (g s : List Float) → Keeps k q (compressed k g v) s → Keeps k q (compressed k g (freeTo h m)) s
+  rows-is k g s o i j l b e = o i j l b e ∙ band-ext k g v (freeTo h m) q (w .free) i j l b
 
   right-is : (k : ℕ) (g dy : List Float) (lam : Float) → list q (λ r. rightOf k g dy lam (heldBy n v) m (getD v r 0)) ≡ rightSide k g dy lam h m (freeTo h m)
   right-is k g dy lam =
@@ -43,21 +45,21 @@ settled-none k n dy lam v q s e = record {
 
 -- s₀ with the rows, s₁, with the right side, s₂, solved, s₃
 pub settled-all : (k q n : ℕ) (g dy : List Float) (lam : Float) (v : List ℕ) (s₀ s₁ s₂ s₃ : List Float) (ok : Bool) → g ≡ gramRow k
-    → part 0 (q * (k + 1)) s₁ ≡ concat (matrix k (compressed k g v) q) → Kept 0 (q * (k + 1)) s₀ s₁
+    → Laid k q (compressed k g v) s₀ s₁
     → part (q * (k + 1)) q s₂ ≡ list q (λ r. rightOf k g dy lam (heldBy n v) (n - k) (getD v r 0)) → Kept (q * (k + 1)) q s₁ s₂
     → Solved 0 k q s₂ s₃ ok → Settled k n dy lam v q s₀ s₃ ok
 unfolding solved
-settled-all k q n g dy lam v s₀ s₁ s₂ s₃ ok isg bands one right two sol =
+settled-all k q n g dy lam v s₀ s₁ s₂ s₃ ok isg bands right two sol =
     let b = q * (k + 1) in
-    let holds : (h : ℕ → Hold) → Marks h n (n - k) v q → part 0 b s₂ ≡ concat (matrix k (compressed k g (freeTo h (n - k))) q) =
-    λ h w. part-below nan 0 b two (omega arith) ∙ bands ∙ rows-is w k g in
+    let holds : (h : ℕ → Hold) → Marks h n (n - k) v q → Keeps k q (compressed k g (freeTo h (n - k))) s₂ =
+    λ h w. rows-is w k g s₂ (keeps-still k q (laid-keeps bands) two (omega arith)) in
     record {
       answer = λ h w. sol .answer (compressed k g (freeTo h (n - k))) (holds h w) ∙ λ i. sound k (compressed k (isg i) (freeTo h (n - k))) q;
       solution = λ h w t. rw zero-add at (sol .solution (compressed k g (freeTo h (n - k))) (holds h w) t)
           ∙ ap (solve k (rows k (compressed k g (freeTo h (n - k))) q)) (right ∙ right-is w k g dy lam)
           ∙ (λ i. solve k (rows k (compressed k g (freeTo h (n - k))) (w .count i)) (rightSide k g dy lam h (n - k) (freeTo h (n - k))))
           ∙ λ i. solved k (isg i) dy lam h (n - k);
-      kept = kept-then 0 (b + q) (kept-then 0 (b + q) one two (omega arith) (omega arith) (omega arith) (omega arith)) (sol .kept) (omega arith) (omega arith) (omega arith) (omega arith);
+      kept = kept-then 0 (b + q) (kept-then 0 (b + q) (bands .kept) two (omega arith) (omega arith) (omega arith) (omega arith)) (sol .kept) (omega arith) (omega arith) (omega arith) (omega arith);
     }
 
 -- the rows and the right side of a system of q among n places

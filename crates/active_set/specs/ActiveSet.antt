@@ -2,13 +2,13 @@
 use mathlib.Core.Bool.{Bool, true, false, cond}
 use mathlib.Core.List.{List, [], _∷_, _++_}
 use Prim.Native.Nat.{ℕ, zero, suc, _+_, _-_, min}
-use lib.Dec.{ltb, leb}
 use lib.ListN.{length, getD}
 use lib.Ieee.{Float, neg, lt}
 use Rattle.float64.specs.Ops.{_⊕_, _⊖_, _⊗_, c0}
 use Rattle.vectors.specs.Vec.{at, apart, list}
 use Rattle.banded.specs.Rows.{Matrix, rows}
 use Rattle.banded.specs.Solve.{solve}
+use Rattle.gram.specs.Gram.{gram}
 use Rattle.dual_point.specs.Dual.{Dual}
 
 -- how a place is held
@@ -21,6 +21,7 @@ pub data Hold : Type 0 where
 unfoldable pub holdAt : Float → Dual → ℕ → Hold
 holdAt lam p i = cond (lt (lam ⊖ at (p .z) i) (at (p .mu1) i)) at-lam (cond (lt (lam ⊕ at (p .z) i) (at (p .mu2) i)) at-minus-lam free)
 
+-- whether it is free
 abbrev pub isFree : Hold → Bool
 isFree free = true
 isFree at-lam = false
@@ -39,28 +40,27 @@ unfoldable pub freeTo : (ℕ → Hold) → ℕ → List ℕ
 freeTo h zero = []
 freeTo h (suc n) = freeTo h n ++ cond (isFree (h n)) (n ∷ []) []
 
--- The compressed system, over the free places f: D D' between any two of them whose distance is at most k; +0 before its column 0.
-abbrev pub between : ℕ → List Float → ℕ → Float
-between k g d = cond (leb d k) (at g d) c0
-
+-- the compressed system over the free places f: D D' between any two of them, at row i and a column j up to i
 unfoldable pub compressed : ℕ → List Float → List ℕ → Matrix
-compressed k g f r c = cond (ltb (r + c) k) c0 (between k g (getD f r 0 - getD f (r + c - k) 0))
+compressed k g f i j = gram k g (getD f i 0) (getD f j 0)
 
--- v less g at |i - j| times where j is held, for each of the n places j from lo on that is held, upwards
+-- v, less g at |i - j| times where place j, held as t says, is held; v itself where j is free
 abbrev pub lessHeld : Float → List Float → ℕ → ℕ → Hold → Float → Float
 lessHeld lam g i j t v = cond (isFree t) v (v ⊖ at g (apart i j) ⊗ heldAt lam t)
 
+-- the same for each of the n places from lo on, upwards
 unfoldable pub lessTo : Float → List Float → (ℕ → Hold) → ℕ → ℕ → Float → ℕ → Float
 lessTo lam g h i lo v zero = v
 lessTo lam g h i lo v (suc n) = lessHeld lam g i (lo + n) (h (lo + n)) (lessTo lam g h i lo v n)
 
--- its right side at the free place i of m: D y less what the held places within the band account for
+-- the right side at the free place i of m: D y less what the held places from i - k (subtraction stops at 0) to i + k account for
 unfoldable pub rightOf : ℕ → List Float → List Float → Float → (ℕ → Hold) → ℕ → ℕ → Float
 rightOf k g dy lam h m i = let lo = i - k in lessTo lam g h i lo (at dy i) (min (i + k + 1) m - lo)
 
--- its solution, by the operations of the factor and the solve
+-- at each of the free places f
 abbrev pub rightSide : ℕ → List Float → List Float → Float → (ℕ → Hold) → ℕ → List ℕ → List Float
 rightSide k g dy lam h m f = list (length f) (λ r. rightOf k g dy lam h m (getD f r 0))
 
+-- the solution, by the operations of the factor and the solve
 unfoldable pub solved : ℕ → List Float → List Float → Float → (ℕ → Hold) → ℕ → List Float
 solved k g dy lam h m = let f = freeTo h m in solve k (rows k (compressed k g f) (length f)) (rightSide k g dy lam h m f)

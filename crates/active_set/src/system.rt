@@ -3,7 +3,8 @@ ghost use mathlib.Core.Path.{_≡_};
 ghost use Prim.Native.Nat.{_≤_, _-_, _+_, _*_};
 ghost use lib.ListN.{length, getD};
 ghost use Rattle.vectors.specs.Vec.{list, part, Written, Kept};
-ghost use Rattle.banded.specs.Rows.{matrix, concat};
+ghost use Rattle.banded.specs.Rows.{placed};
+ghost use Rattle.banded.specs.Layout.{Laid};
 ghost use Rattle.active_set.specs.ActiveSet.{compressed, lessHeld, rightOf};
 ghost use Rattle.active_set.specs.Marks.{holdOf, heldBy, Cell, Bands, Side, Freed, Settled};
 
@@ -16,7 +17,7 @@ fn wide(x: u32) -> usize
 // Place c of row p of the system.
 fn band_at(free: &[u32], g: [f64; 3], k: usize, p: usize, c: usize) -> f64
     requires { ⌜ Cell k p c (length (now free)) ⌝ }
-    ensures { λ x. ⌜ x ≡ compressed k g (now (free .entry)) p c ⌝ }
+    ensures { λ x. ⌜ x ≡ placed k (compressed k g (now (free .entry))) p c ⌝ }
 {
     if p + c < k {
         return 0.0;
@@ -33,7 +34,7 @@ fn band_at(free: &[u32], g: [f64; 3], k: usize, p: usize, c: usize) -> f64
 // Row p of it, in its place of s.
 fn fill_row(s: &mut [f64], free: &[u32], g: [f64; 3], k: usize, p: usize)
     requires { ⌜ Bands k (p + 1) (length (now free)) (length (now s)) ⌝ }
-    ensures { λ _. ⌜ Written (p * (k + 1)) (p * (k + 1) + (k + 1)) (λ j. compressed k g (now (free .entry)) p (j - p * (k + 1))) (now (s .entry)) (now (s .exit)) ⌝ }
+    ensures { λ _. ⌜ Written (p * (k + 1)) (p * (k + 1) + (k + 1)) (λ j. placed k (compressed k g (now (free .entry))) p (j - p * (k + 1))) (now (s .entry)) (now (s .exit)) ⌝ }
 {
     let a = p * (k + 1);
     let mut c = 0;
@@ -47,8 +48,7 @@ fn fill_row(s: &mut [f64], free: &[u32], g: [f64; 3], k: usize, p: usize)
 // Its q rows in the first places of s.
 fn fill_bands(s: &mut [f64], free: &[u32], g: [f64; 3], k: usize, q: usize)
     requires { ⌜ Bands k q (length (now free)) (length (now s)) ⌝ }
-    ensures { λ _. ⌜ (part 0 (q * (k + 1)) (now (s .exit)) ≡ concat (matrix k (compressed k g (now (free .entry))) q))
-        × Kept 0 (q * (k + 1)) (now (s .entry)) (now (s .exit)) ⌝ }
+    ensures { λ _. ⌜ Laid k q (compressed k g (now (free .entry))) (now (s .entry)) (now (s .exit)) ⌝ }
 {
     let mut p = 0;
     while p < q {

@@ -7,15 +7,16 @@ use native.Mathlib.Omega.{arith}
 use lib.ListN.{length, length-append}
 use lib.Ieee.{Float}
 use Rattle.vectors.specs.Vec.{at}
-use Rattle.banded.specs.Rows.{Matrix, line, look}
+use Rattle.banded.specs.Rows.{line}
 use Rattle.banded.specs.Solve.{forwardAt, forward}
-use Rattle.banded.proofs.Laws.{less-ext}
+use Rattle.banded.specs.Run.{look}
+use Rattle.banded.proofs.Laws.{from-ext}
 
--- what a place carried forward reads
-pub forward-ext : (k i : ℕ) (l l′ : Matrix) (u u′ : ℕ → Float) (v : Float) → ((c : ℕ) → c < k → l i c ≡ l′ i c) → ((j : ℕ) → j < i → u j ≡ u′ j)
-    → forwardAt k l u v i ≡ forwardAt k l′ u′ v i
+-- what a place carried forward reads, p the places of rows
+pub forward-ext : (k i : ℕ) (p p′ : ℕ → ℕ → Float) (u u′ : ℕ → Float) (v : Float) → ((c : ℕ) → c < k → p i c ≡ p′ i c) → ((j : ℕ) → j < i → u j ≡ u′ j)
+    → forwardAt k (λ r t. p r (t + k - r)) u v i ≡ forwardAt k (λ r t. p′ r (t + k - r)) u′ v i
 unfolding forwardAt
-forward-ext k i l l′ u u′ v h g = less-ext v _ _ (k - (k - i)) (λ n b. rw (h (k - i + n) (omega arith), g (i + (k - i + n) - k) (omega arith)))
+forward-ext k i p p′ u u′ v h g = from-ext v _ _ (i - k) i (λ j o b. rw (h (j + k - i) (omega arith), g j b))
 
 pub length-forward : (k : ℕ) (f : List (List Float)) (v : List Float) (n : ℕ) → length (forward k f v n) ≡ n
 unfolding forward

@@ -9,14 +9,14 @@ use native.Mathlib.Numerals.{add-one}
 use native.Mathlib.Omega.{arith}
 use lib.Dec.{ltb}
 use lib.ListN.{length, set, take, drop, length-append, length-set, length-drop, List·getD-append}
-use lib.Seq.{getD-at, getD-set-same, getD-set-other, getD-drop, getD-append-add, ext-getD}
+use lib.Seq.{getD-at, getD-set-same, getD-set-other, getD-take, getD-append-add, ext-getD}
 use lib.Ieee.{Float, nan, binary64, ofBits, sub}
-use borrow.Author.Tests.{ltb-true, ltb-false}
+use borrow.Author.Tests.{ltb-true, ltb-false, le-ltb}
 use Rattle.vectors.specs.Vec.{at, list, part}
 use Rattle.vectors.proofs.Laws.{length-list, at-list, cond-cong, kept-none}
 use Rattle.vectors.proofs.Parts.{length-part, at-part, partOf-range}
-use Rattle.banded.specs.Rows.{Matrix, line, look, less, taken, rest, entry, rowTo, row, rows, sound, matrix, concat}
-use Rattle.banded.specs.Run.{flat, Shape, Holds, Stands, Factored, HasRow}
+use Rattle.banded.specs.Rows.{Matrix, line, less, lessFrom, reduced, entry, placed, rowTo, row, rows, sound}
+use Rattle.banded.specs.Run.{concat, flat, look, ofRun, Keeps, Shape, Holds, Stands, Factored, HasRow}
 
 -- ---- places of rows
 
@@ -45,6 +45,10 @@ wide k r = omega (arith, rw (← add-one k) at (mul-suc r k))
 pub wide-row : (k m : ℕ) → 1 ≤ m → k + 1 ≤ m * (k + 1)
 wide-row k m h = let e = one-mul (k + 1) in let f : 1 * (k + 1) ≤ m * (k + 1) = mul-le-mul-right (k + 1) h in omega arith
 
+-- the column of place t of row r, in the row of the column of place c
+pub across : (k r c t : ℕ) → k ≤ r + t → t ≤ c → r + t - k + k - (r + c - k) ≡ t + k - c
+across k r c t h g = omega arith
+
 -- a row above ends before row r begins
 pub above : (k r i j : ℕ) → i < r → j ≤ k → i * (k + 1) + j < r * (k + 1)
 above k r i j h g =
@@ -63,34 +67,60 @@ pub less-more : (v : Float) (f : ℕ → Float) (n : ℕ) {n′ : ℕ} {u x : Fl
 unfolding less
 less-more v f n e h m = rw (m, e, h)
 
+-- the same from place lo on
+pub from-none : (v : Float) (f : ℕ → Float) (lo hi : ℕ) → hi ≤ lo → lessFrom v f lo hi ≡ v
+unfolding lessFrom less
+from-none v f lo hi h = let z : hi - lo ≡ 0 = omega arith in rw z
+
+pub from-more : (v : Float) (f : ℕ → Float) (lo hi : ℕ) {hi′ : ℕ} {u x : Float} → u ≡ lessFrom v f lo hi → x ≡ f hi → lo ≤ hi → hi′ ≡ hi + 1 → sub binary64 u x ≡ lessFrom v f lo hi′
+unfolding lessFrom
+from-more v f lo hi e h g m = let z : lo + (hi - lo) ≡ hi = omega arith in less-more v (λ n. f (lo + n)) (hi - lo) e (h ∙ rw z) (omega arith)
+
+pub from-ext : (v : Float) (f g : ℕ → Float) (lo hi : ℕ) → ((t : ℕ) → lo ≤ t → t < hi → f t ≡ g t) → lessFrom v f lo hi ≡ lessFrom v g lo hi
+unfolding lessFrom
+from-ext v f g lo hi h = less-ext v _ _ (hi - lo) (λ n b. h (lo + n) (omega arith) (omega arith))
+
 cond-right : (b : Bool) (x y z : Float) → (b ≡ false → x ≡ y) → cond b z x ≡ cond b z y
 cond-right true x y z h = refl
 cond-right false x y z h = h refl
 
-module _ (k r c : ℕ) (l l′ : Matrix) (v v′ : Float) (b : c ≤ k) (same : k ≤ r + c → v ≡ v′) (up : (i j : ℕ) → i < r → j ≤ k → l i j ≡ l′ i j)
-    (left : (j : ℕ) → j < c → l r j ≡ l′ r j) where
-  column : k ≤ r + c → (t : ℕ) → t < c → l (r + c - k) (t + k - c) ≡ l′ (r + c - k) (t + k - c)
-  column g t q =
-      ⊎-elim
-      (λ (e : c ≡ k). let i : r + c - k ≡ r = omega arith in let j : t + k - c ≡ t = omega arith in rw (i, j) (left t q))
-      (λ (u : c < k). up (r + c - k) (t + k - c) (omega arith) (omega arith))
-      (eq-or-lt-of-le b)
+-- a place that stands for no column does not read the matrix
+pub placed-ext : (k : ℕ) (a a′ : Matrix) (i c : ℕ) → (k ≤ i + c → a i (i + c - k) ≡ a′ i (i + c - k)) → placed k a i c ≡ placed k a′ i c
+unfolding placed
+placed-ext k a a′ i c h = cond-right (ltb (i + c) k) _ _ (ofBits binary64 0) (λ e. h (ltb-false (i + c) k e))
 
-  rest-ext : k ≤ r + c → rest k l v r c ≡ rest k l′ v′ r c
-  unfolding rest taken
-  rest-ext g =
-      rw (same g)
-      (less-ext v′ _ _ (c - (k - r))
-      (λ n h. rw (left (k - r + n) (omega arith), column g (k - r + n) (omega arith), up (r + (k - r + n) - k) k (omega arith) (omega arith))))
+-- where it stands for one
+pub placed-at : (k : ℕ) (a : Matrix) (i c j : ℕ) → j + k ≡ i + c → placed k a i c ≡ a i j
+unfolding placed
+placed-at k a i c j e = let z : i + c - k ≡ j = omega arith in rw (le-ltb (i + c) k (omega arith), z)
 
-  -- a place that stands for no column does not read the matrix
-  pub entry-ext : entry k l v r c ≡ entry k l′ v′ r c
-  unfolding entry
-  entry-ext =
-      cond-right (ltb (r + c) k) _ _ (ofBits binary64 0)
-      (λ e.
-      let g : k ≤ r + c = ltb-false (r + c) k e in
-      rw (rest-ext g) (cond-cong (ltb c k) _ _ _ (λ u. let t : c < k = ltb-true c k u in rw (up (r + c - k) k (omega arith) (omega arith)))))
+-- place c of row i of the factor reads the places of rows above, p, and the places to the left of it
+module _ (k i c : ℕ) (a a′ : Matrix) (p p′ : ℕ → ℕ → Float) (b : c ≤ k) (same : k ≤ i + c → a i (i + c - k) ≡ a′ i (i + c - k)) (up : (r n : ℕ) → r < i → n ≤ k → p r n ≡ p′ r n)
+    (left : (n : ℕ) → n < c → p i n ≡ p′ i n) where
+  abbrev l : Matrix
+  l r t = p r (t + k - r)
+
+  abbrev l′ : Matrix
+  l′ r t = p′ r (t + k - r)
+
+  module _ (j : ℕ) (is : j + k ≡ i + c) where
+    beside : (t : ℕ) → i - k ≤ t → t < j → l j t ≡ l′ j t
+    beside t o q =
+        ⊎-elim
+        (λ (e : j ≡ i). rw e (left (t + k - i) (omega arith)))
+        (λ (u : j < i). up j (t + k - j) u (omega arith))
+        (eq-or-lt-of-le (omega arith))
+
+    reduced-ext : a i j ≡ a′ i j → reduced k a l i j ≡ reduced k a′ l′ i j
+    unfolding reduced
+    reduced-ext e = rw e (from-ext (a′ i j) _ _ (i - k) j (λ t o q. rw (left (t + k - i) (omega arith), beside t o q, up t (t + k - t) (omega arith) (omega arith))))
+
+    column-ext : a i j ≡ a′ i j → entry k a l i j ≡ entry k a′ l′ i j
+    unfolding entry
+    column-ext e = rw (reduced-ext e) (cond-cong (ltb j i) _ _ _ (λ u. let t : j < i = ltb-true j i u in rw (up j (j + k - j) t (omega arith))))
+
+  pub entry-ext : placed k (entry k a l) i c ≡ placed k (entry k a′ l′) i c
+  entry-ext = placed-ext k (entry k a l) (entry k a′ l′) i c (λ g. column-ext (i + c - k) (omega arith) (same g))
 
 -- ---- one more row
 
@@ -137,7 +167,7 @@ pub row-none : {k r : ℕ} {s : List Float} → Factored k r 0 s s
 row-none {k} {r} {s} = record { kept = kept-none (r * (k + 1)) 0 s; made = λ j b. absurd (omega arith) }
 
 pub row-more : {k r c : ℕ} {s₀ s : List Float} {x : Float} (q : ℕ) → Factored k r c s₀ s → c ≤ k → q ≡ r * (k + 1) + c → q < length s
-    → x ≡ entry k (flat k s) (flat k s r c) r c → Factored k r (c + 1) s₀ (set s q x)
+    → x ≡ placed k (entry k (ofRun k s) (ofRun k s)) r c → Factored k r (c + 1) s₀ (set s q x)
 row-more {k} {r} {c} {s₀} {s} {x} q w b e fits is =
     let up : (i j : ℕ) → i < r → j ≤ k → flat k s i j ≡ flat k (set s q x) i j = λ i j u g. sym (getD-set-other s q (i * (k + 1) + j) x nan (ne-of-lt (omega (arith, above k r i j u g)))) in
     let left : (j : ℕ) → j < c → flat k s r j ≡ flat k (set s q x) r j = λ j u. sym (getD-set-other s q (r * (k + 1) + j) x nan (ne-of-lt (omega arith))) in
@@ -151,10 +181,10 @@ row-more {k} {r} {c} {s₀} {s} {x} q w b e fits is =
           ⊎-elim
           (λ (z : j ≡ c).
           rw z (ap (at (set s q x)) (sym e) ∙ getD-set-same s q x nan fits ∙ is
-          ∙ entry-ext k r c (flat k s) (flat k (set s q x)) (flat k s r c) (flat k s₀ r c) b (λ g. w .kept .above (r * (k + 1) + c) (omega arith)) up left))
+          ∙ entry-ext k r c (ofRun k s) (ofRun k s₀) (flat k s) (flat k (set s q x)) b (λ g. w .kept .above (r * (k + 1) + (r + c - k + k - r)) (omega arith)) up left))
           (λ (z : j < c).
           sym (left j z) ∙ w .made j z
-          ∙ entry-ext k r j (flat k s) (flat k (set s q x)) (flat k s₀ r j) (flat k s₀ r j) (omega arith) (λ g. refl) up (λ i h. left i (omega arith)))
+          ∙ entry-ext k r j (ofRun k s₀) (ofRun k s₀) (flat k s) (flat k (set s q x)) (omega arith) (λ g. refl) up (λ i h. left i (omega arith)))
           (eq-or-lt-of-le (omega arith));
     }
 
@@ -202,7 +232,7 @@ module _ (k m : ℕ) (f : List (List Float)) (s : List Float) where
       ∙ sym (at-concat k f full (q / (k + 1)) (q % (k + 1)) (omega arith) (omega arith))
       ∙ ap (at (concat f)) (div-add-mod' q (k + 1)))
 
--- ---- the rows of a matrix, and those of its factor
+-- ---- the rows of a factor
 
 pub shape-snoc : {k r : ℕ} {f : List (List Float)} (p : List Float) → Shape k r f → length p ≡ k + 1 → Shape k (r + 1) (f ++ (p ∷ []))
 shape-snoc {k} {r} {f} p h e =
@@ -214,20 +244,6 @@ shape-snoc {k} {r} {f} p h e =
           (λ (c : i < r). rw (line-above f p i (omega (arith, h .count))) (h .full i c))
           (eq-or-lt-of-le (omega arith));
     }
-
-pub shape-matrix : (k : ℕ) (a : Matrix) (m : ℕ) → Shape k m (matrix k a m)
-unfolding matrix
-shape-matrix k a zero = record { count = refl; full = λ i h. absurd (omega arith) }
-shape-matrix k a (suc m) = rw (← add-one m) (shape-snoc (list (k + 1) (a m)) (shape-matrix k a m) (length-list (k + 1) (a m)))
-
-pub look-matrix : (k : ℕ) (a : Matrix) (m i j : ℕ) → i < m → j ≤ k → look (matrix k a m) i j ≡ a i j
-unfolding matrix
-look-matrix k a zero i j b g = absurd (omega arith)
-look-matrix k a (suc m) i j b g =
-    ⊎-elim
-    (λ (c : i ≡ m). rw (c, line-here (matrix k a m) (list (k + 1) (a m)) m (shape-matrix k a m .count)) (at-list (k + 1) (a m) j (omega arith)))
-    (λ (c : i < m). rw (line-above (matrix k a m) (list (k + 1) (a m)) i (omega (arith, shape-matrix k a m .count))) (look-matrix k a m i j c g))
-    (eq-or-lt-of-le (le-of-suc-le-suc b))
 
 pub shape-rows : (k : ℕ) (a : Matrix) (m : ℕ) → Shape k m (rows k a m)
 unfolding rows row
@@ -244,12 +260,6 @@ unsound k a n (suc m) e h =
     (λ (c : n < suc m). rw (unsound k a n m e (le-of-suc-le-suc c)))
     (eq-or-lt-of-le h)
 
--- what stays after a place
-pub kept-after : (n : ℕ) (s s₀ : List Float) → length s ≡ length s₀ → ((q : ℕ) → n ≤ q → at s q ≡ at s₀ q) → drop n s ≡ drop n s₀
-kept-after n s s₀ e h =
-    ext-getD nan (drop n s) (drop n s₀) (length-drop n s ∙ rw e (sym (length-drop n s₀)))
-    (λ i l. getD-drop n s i nan ∙ h (n + i) (omega arith) ∙ sym (getD-drop n s₀ i nan))
-
 -- the n places from b on, as a list
 pub part-stands : (b n : ℕ) (s : List Float) → Stands b (part b n s) s
 part-stands b n s j h = sym (at-part b n s j (b + j) (omega (arith, length-part b n s)) refl)
@@ -263,10 +273,13 @@ stands-part b n x s e h =
 sub-part : (p n b l : ℕ) (s : List Float) → p + n ≤ length s → b + l ≤ n → part b l (take n (drop p s)) ≡ part (p + b) l s
 sub-part p n b l s room h = let d : p + n - p ≡ n = omega arith in rw d at (partOf-range nan b l p (p + n) s (omega arith) room (omega arith))
 
--- the m rows of a system that stands from place p on, and its right side
+-- a system that stands from place p on: its m rows, the matrix that they keep, and its right side
 module _ (k p m : ℕ) (s : List Float) (room : p + (m * (k + 1) + m) ≤ length s) where
   pub rows-part : part 0 (m * (k + 1)) (take (m * (k + 1) + m) (drop p s)) ≡ part p (m * (k + 1)) s
   rows-part = let z : p + 0 ≡ p = omega arith in rw z at (sub-part p (m * (k + 1) + m) 0 (m * (k + 1)) s room (omega arith))
+
+  pub keeps-part : {a : Matrix} → Keeps k m a (drop p s) → Keeps k m a (take (m * (k + 1) + m) (drop p s))
+  keeps-part h i j l b o = getD-take (m * (k + 1) + m) (drop p s) (i * (k + 1) + (j + k - i)) nan (omega (arith, above k m i (j + k - i) l (omega arith))) ∙ h i j l b o
 
   pub side-part : part (m * (k + 1)) m (take (m * (k + 1) + m) (drop p s)) ≡ part (p + m * (k + 1)) m s
   side-part = sub-part p (m * (k + 1) + m) (m * (k + 1)) m s room (omega arith)

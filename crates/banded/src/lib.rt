@@ -4,9 +4,9 @@ ghost use mathlib.Core.List.{[], _∷_};
 ghost use Prim.Native.Nat.{_≤_, _<_, _+_, _*_};
 ghost use lib.ListN.{length};
 ghost use Rattle.vectors.specs.Vec.{at};
-ghost use Rattle.banded.specs.Rows.{entry};
+ghost use Rattle.banded.specs.Rows.{placed, entry};
 ghost use Rattle.banded.specs.Solve.{forwardAt};
-ghost use Rattle.banded.specs.Run.{flat, Factored, HasRow, Stored};
+ghost use Rattle.banded.specs.Run.{ofRun, Factored, HasRow, Stored};
 
 // Place c of row r of rows of w numbers.
 pub fn get(s: &[f64], w: usize, r: usize, c: usize) -> f64
@@ -19,7 +19,7 @@ pub fn get(s: &[f64], w: usize, r: usize, c: usize) -> f64
 // Place c of row r of the factor, from the matrix at that place and the factor before it.
 fn factor_entry(s: &[f64], k: usize, r: usize, c: usize) -> f64
     requires { ⌜ ((r + 1) * (k + 1) ≤ length (now s)) × (c ≤ k) ⌝ }
-    ensures { λ x. ⌜ x ≡ entry k (flat k (now (s .entry))) (flat k (now (s .entry)) r c) r c ⌝ }
+    ensures { λ x. ⌜ x ≡ placed k (entry k (ofRun k (now (s .entry))) (ofRun k (now (s .entry)))) r c ⌝ }
 {
     if r + c < k {
         return 0.0;
@@ -59,7 +59,7 @@ pub fn factor_row(s: &mut [f64], k: usize, r: usize)
 // Place i of the right side, carried forward.
 pub fn forward_at(s: &[f64], k: usize, b: usize, i: usize) -> f64
     requires { ⌜ ((i + 1) * (k + 1) ≤ length (now s)) × (b + i < length (now s)) ⌝ }
-    ensures { λ x. ⌜ x ≡ forwardAt k (flat k (now (s .entry))) (λ j. at (now (s .entry)) (b + j)) (at (now (s .entry)) (b + i)) i ⌝ }
+    ensures { λ x. ⌜ x ≡ forwardAt k (ofRun k (now (s .entry))) (λ j. at (now (s .entry)) (b + j)) (at (now (s .entry)) (b + i)) i ⌝ }
 {
     let mut v = s[b + i];
     let mut t = vectors::over(k, i);

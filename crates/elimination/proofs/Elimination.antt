@@ -13,10 +13,10 @@ use lib.Ieee.{Float, nan}
 use Rattle.float64.proofs.Clash.{clash}
 use Rattle.vectors.specs.Vec.{at, part}
 use Rattle.vectors.proofs.Parts.{length-part}
-use Rattle.banded.specs.Rows.{Matrix, look, entry, rowTo, row, rows, sound, good, matrix, concat}
+use Rattle.banded.specs.Rows.{Matrix, entry, placed, rowTo, row, rows, sound, good}
 use Rattle.banded.specs.Solve.{forwardAt, forward}
-use Rattle.banded.specs.Run.{flat, Holds, Stands, Factored, HasRow, Stored, Eliminated}
-use Rattle.banded.proofs.Laws.{within, one-row, above, entry-ext, length-rowTo, line-above, line-here, holds-none, holds-snoc, holds-kept, holds-of, of-holds, shape-matrix, look-matrix, unsound, part-stands, stands-part}
+use Rattle.banded.specs.Run.{flat, look, ofRun, Keeps, Holds, Stands, Factored, HasRow, Stored, Eliminated}
+use Rattle.banded.proofs.Laws.{within, one-row, above, entry-ext, length-rowTo, line-above, line-here, holds-none, holds-snoc, holds-kept, of-holds, unsound, part-stands, stands-part}
 use Rattle.banded.proofs.Forward.{forward-ext, length-forward, forward-rows}
 use Rattle.banded.proofs.Storing.{stored}
 use Rattle.elimination.specs.Decomposed.{Decomposed}
@@ -24,14 +24,14 @@ use Rattle.elimination.specs.Decomposed.{Decomposed}
 -- ---- a row stored whole that is the factor's, and its place carried forward
 
 pub eliminated : {k m r : ℕ} {v : ℕ → Float} {x : Float} {s₀ s : List Float} {ok : Bool} → Stored k m r v x s₀ s
-    → ((c : ℕ) → c ≤ k → v c ≡ entry k (flat k s) (flat k s₀ r c) r c) → x ≡ forwardAt k (flat k s) (λ j. at s (m * (k + 1) + j)) (at s₀ (m * (k + 1) + r)) r
+    → ((c : ℕ) → c ≤ k → v c ≡ placed k (entry k (ofRun k s₀) (ofRun k s)) r c) → x ≡ forwardAt k (ofRun k s) (λ j. at s (m * (k + 1) + j)) (at s₀ (m * (k + 1) + r)) r
     → ok ≡ good (v k) → Eliminated k m r s₀ s ok
 eliminated {k} st made is g =
     record { elsewhere = st .elsewhere; made = λ c h. st .row c h ∙ made c h; carried = st .side ∙ is; pivot = g ∙ ap good (sym (st .row k (omega arith))) }
 
 -- a row in its place, and then the right side
 pub eliminated-any : {k m r : ℕ} {s₀ s : List Float} {x : Float} {ok : Bool} (q : ℕ) → Factored k r (k + 1) s₀ s → HasRow k m r (length s₀) → q ≡ m * (k + 1) + r
-    → x ≡ forwardAt k (flat k s) (λ j. at s (m * (k + 1) + j)) (at s q) r → ok ≡ good (flat k s r k) → Eliminated k m r s₀ (set s q x) ok
+    → x ≡ forwardAt k (ofRun k s) (λ j. at s (m * (k + 1) + j)) (at s q) r → ok ≡ good (flat k s r k) → Eliminated k m r s₀ (set s q x) ok
 eliminated-any {k} {m} {r} {s₀} {s} {x} {ok} q w has e is g =
     let p = r * (k + 1) in
     let h = has .row in
@@ -44,11 +44,11 @@ eliminated-any {k} {m} {r} {s₀} {s} {x} {ok} q w has e is g =
     (stored {s = s} p q refl e has (record { size = w .kept .size; inside = λ j a b. same j a; below = w .kept .below; above = w .kept .above }))
     (λ c u.
     w .made c (omega arith)
-    ∙ entry-ext k r c (flat k s) (flat k (set s q x)) (flat k s₀ r c) (flat k s₀ r c) u (λ h. refl) (λ i j h l. here i j (omega arith) l) (λ j h. here r j (omega arith) (omega arith)))
+    ∙ entry-ext k r c (ofRun k s₀) (ofRun k s₀) (flat k s) (flat k (set s q x)) u (λ h. refl) (λ i j h l. here i j (omega arith) l) (λ j h. here r j (omega arith) (omega arith)))
     (is
     ∙ forward-ext k r (flat k s) (flat k (set s q x)) (λ j. at s (m * (k + 1) + j)) (λ j. at (set s q x) (m * (k + 1) + j)) (at s q)
     (λ c h. here r c (omega arith) (omega arith)) (λ j h. sym (getD-set-other s q (m * (k + 1) + j) x nan (ne-of-lt (omega arith))))
-    ∙ ap (λ (v : Float). forwardAt k (flat k (set s q x)) (λ j. at (set s q x) (m * (k + 1) + j)) v r) (ap (at s) e ∙ w .kept .above (m * (k + 1) + r) (omega arith)))
+    ∙ ap (λ (v : Float). forwardAt k (ofRun k (set s q x)) (λ j. at (set s q x) (m * (k + 1) + j)) v r) (ap (at s) e ∙ w .kept .above (m * (k + 1) + r) (omega arith)))
     g
 
 -- ---- the first r rows of the factor of a, all pivots good, and after the m rows the first r places of v carried forward
@@ -67,9 +67,9 @@ pub reached-kept : {k m r : ℕ} {a : Matrix} {v s s′ : List Float} → Reache
     → ((j : ℕ) → j < r → at s′ (m * (k + 1) + j) ≡ at s (m * (k + 1) + j)) → Reached k m r a v s′
 reached-kept {k} {m} {r} {a} {v} h e g = record { made = holds-kept (h .made) e; firm = h .firm; side = λ j u. g j (omega (arith, length-forward k (rows k a r) v r)) ∙ h .side j u }
 
--- one more row: the run had row r of a in its place, where it stands for columns, and place r of v after the rows
+-- one more row: the run kept row r of a in its place, and had place r of v after the rows
 module _ {k m r : ℕ} {a : Matrix} {v s₀ s : List Float} {ok : Bool} (h : Reached k m r a v s₀) (e : Eliminated k m r s₀ s ok) (b : r < m)
-    (had : (c : ℕ) → c ≤ k → k ≤ r + c → flat k s₀ r c ≡ a r c) (right : at s₀ (m * (k + 1) + r) ≡ at v r) where
+    (had : (j : ℕ) → j ≤ r → r ≤ j + k → ofRun k s₀ r j ≡ a r j) (right : at s₀ (m * (k + 1) + r) ≡ at v r) where
   abbrev f : List (List Float)
   f = rows k a r
 
@@ -81,7 +81,7 @@ module _ {k m r : ℕ} {a : Matrix} {v s₀ s : List Float} {ok : Bool} (h : Rea
       ⊎-elim
       (λ (z : j ≡ n).
       rw z (e .made n (omega arith)
-      ∙ entry-ext k r n (flat k s) (look (f ++ (p ∷ []))) (flat k s₀ r n) (a r n) (omega arith) (had n (omega arith))
+      ∙ entry-ext k r n (ofRun k s₀) a (flat k s) (look (f ++ (p ∷ []))) (omega arith) (λ g. had (r + n - k) (omega arith) (omega arith))
       (λ i c x g. e .elsewhere .below (i * (k + 1) + c) (above k r i c x g) ∙ h .made .same i c x g ∙ sym (ap (λ (l : List Float). at l c) (line-above f p i (omega (arith, h .made .shape .count)))))
       (λ c x. places n (omega arith) c x ∙ sym (ap (λ (l : List Float). at l c) (line-here f p r (h .made .shape .count))))
       ∙ sym (getD-at p _ [] nan n (length-rowTo k a f r n))))
@@ -127,7 +127,7 @@ pub record Factoring (k m r : ℕ) (s₀ s : List Float) : Type 0 where
   pub size : length s ≡ length s₀
   pub lower : (q : ℕ) → r * (k + 1) ≤ q → q < m * (k + 1) → at s q ≡ at s₀ q
   pub later : (q : ℕ) → m * (k + 1) + r ≤ q → at s q ≡ at s₀ q
-  pub done : (a : Matrix) (v : List Float) → Holds k m (matrix k a m) s₀ → Stands (m * (k + 1)) v s₀ → length v ≡ m → Reached k m r a v s
+  pub done : (a : Matrix) (v : List Float) → Keeps k m a s₀ → Stands (m * (k + 1)) v s₀ → length v ≡ m → Reached k m r a v s
 
 pub factoring-none : (k m : ℕ) (s : List Float) → Factoring k m 0 s s
 factoring-none k m s = record { some = omega arith; size = refl; lower = λ q h g. refl; later = λ q h. refl; done = λ a v h st l. reached-none k m a v s }
@@ -139,9 +139,9 @@ module _ {k m r : ℕ} {s₀ s s′ : List Float} {ok : Bool} (w : Factoring k m
   size-more : length s′ ≡ length s₀
   size-more = e .elsewhere .size ∙ w .size
 
-  module _ (a : Matrix) (v : List Float) (h : Holds k m (matrix k a m) s₀) (st : Stands (m * (k + 1)) v s₀) (l : length v ≡ m) where
-    had : (c : ℕ) → c ≤ k → k ≤ r + c → flat k s r c ≡ a r c
-    had c g z = w .lower (r * (k + 1) + c) (omega arith) (above k m r c b g) ∙ h .same r c b g ∙ look-matrix k a m r c b g
+  module _ (a : Matrix) (v : List Float) (h : Keeps k m a s₀) (st : Stands (m * (k + 1)) v s₀) (l : length v ≡ m) where
+    had : (j : ℕ) → j ≤ r → r ≤ j + k → ofRun k s r j ≡ a r j
+    had j g z = w .lower (r * (k + 1) + (j + k - r)) (omega arith) (above k m r (j + k - r) b (omega arith)) ∙ h r j b g z
 
     right : at s (m * (k + 1) + r) ≡ at v r
     right = w .later (m * (k + 1) + r) (omega arith) ∙ st r (omega arith)
@@ -164,18 +164,17 @@ module _ {k m r : ℕ} {s₀ s s′ : List Float} {ok : Bool} (w : Factoring k m
         let n = m * (k + 1) in
         let v = part n m s₀ in
         let l = length-part n m s₀ in
-        let h = holds-of k m (matrix k a m) s₀ (shape-matrix k a m) g in
         let st = part-stands n m s₀ in
-        sym (reached-bad (w .done a v h st l) e b (had a v h st l) (right a v h st l) t);
+        sym (reached-bad (w .done a v g st l) e b (had a v g st l) (right a v g st l) t);
     factor = λ a g y. absurd (clash y refl);
     side = λ a g y. absurd (clash y refl);
   }
 
 module _ {k m r : ℕ} {s₀ s : List Float} (w : Factoring k m r s₀ s) (z : r ≡ m) where
-  all : (a : Matrix) → part 0 (m * (k + 1)) s₀ ≡ concat (matrix k a m) → Reached k m m a (part (m * (k + 1)) m s₀) s
+  all : (a : Matrix) → Keeps k m a s₀ → Reached k m m a (part (m * (k + 1)) m s₀) s
   all a g =
       let n = m * (k + 1) in
-      rw z at (w .done a (part n m s₀) (holds-of k m (matrix k a m) s₀ (shape-matrix k a m) g) (part-stands n m s₀) (length-part n m s₀))
+      rw z at (w .done a (part n m s₀) g (part-stands n m s₀) (length-part n m s₀))
 
   pub factoring-done : Decomposed k m s₀ s true
   factoring-done =

@@ -5,13 +5,14 @@ use mathlib.Core.List.{List}
 use Prim.Native.Nat.{ℕ, _+_, _*_}
 use lib.Ieee.{Float}
 use Rattle.vectors.specs.Vec.{part, Kept}
-use Rattle.banded.specs.Rows.{Matrix, rows, sound, matrix, concat}
+use Rattle.banded.specs.Rows.{Matrix, rows, sound}
 use Rattle.banded.specs.Solve.{forward}
+use Rattle.banded.specs.Run.{concat, Keeps}
 
--- s₀ begins with the m rows of a matrix and then a right side. ok says whether the pivots of its factor are all good. If so s holds the factor's rows in the place of the matrix's, and the right side carried forward. What comes after stays.
+-- s₀ begins with m rows that keep a matrix, and then a right side. ok says whether the pivots of its factor are all good. If so s holds the factor's rows in the place of the matrix's, and the right side carried forward. What comes after stays.
 pub record Decomposed (k m : ℕ) (s₀ s : List Float) (ok : Bool) : Type 0 where
   pub kept : Kept 0 (m * (k + 1) + m) s₀ s
-  pub answer : (a : Matrix) → part 0 (m * (k + 1)) s₀ ≡ concat (matrix k a m) → ok ≡ sound k a m
-  pub factor : (a : Matrix) → part 0 (m * (k + 1)) s₀ ≡ concat (matrix k a m) → ok ≡ true → part 0 (m * (k + 1)) s ≡ concat (rows k a m)
-  pub side : (a : Matrix) → part 0 (m * (k + 1)) s₀ ≡ concat (matrix k a m) → ok ≡ true
+  pub answer : (a : Matrix) → Keeps k m a s₀ → ok ≡ sound k a m
+  pub factor : (a : Matrix) → Keeps k m a s₀ → ok ≡ true → part 0 (m * (k + 1)) s ≡ concat (rows k a m)
+  pub side : (a : Matrix) → Keeps k m a s₀ → ok ≡ true
       → part (m * (k + 1)) m s ≡ forward k (rows k a m) (part (m * (k + 1)) m s₀) m

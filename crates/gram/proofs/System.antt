@@ -10,14 +10,14 @@ use lib.Ieee.{Float, nan}
 use Rattle.vectors.specs.Vec.{put, part, Kept}
 use Rattle.vectors.specs.Sums.{maxAbs}
 use Rattle.vectors.proofs.Laws.{kept-then}
-use Rattle.vectors.proofs.Parts.{putBack, kept-put, part-below, part-above}
+use Rattle.vectors.proofs.Parts.{putBack, kept-put, part-above}
 use Rattle.differences.specs.Diff.{diffK, gramRow}
 use Rattle.differences.specs.Series.{Series}
 use Rattle.differences.proofs.Laws.{length-diffK}
 use Rattle.banded.specs.Rows.{rows}
 use Rattle.banded.specs.Solve.{solve}
 use Rattle.banded.specs.Layout.{Laid}
-use Rattle.banded.proofs.Filling.{side-put, rows-put}
+use Rattle.banded.proofs.Filling.{laid-keeps, keeps-still, side-put}
 use Rattle.substitution.specs.Solved.{Solved}
 use Rattle.gram.specs.Gram.{gram, zstar, lamMax}
 use Rattle.gram.specs.Prepared.{starLane, diffLane, preparation, System, Prepared}
@@ -41,7 +41,7 @@ module _ (k : ℕ) (y s₁ x : List Float) (o : Series k (length y)) (room : pre
       let lane = side-put (diffLane n) m s₁ x (omega arith) l (diffK k y) (length-diffK k y) right in
       record {
         ends = fits;
-        rows = part-below nan 0 (starLane k n) kept (omega arith) ∙ rows-put (diffLane n) m s₁ x (omega arith) l w (omega arith);
+        rows = keeps-still k m (keeps-still k m (laid-keeps w) f (omega arith)) kept (omega arith);
         right = copied ∙ lane;
         differences = part-above nan (diffLane n) m kept (omega arith) ∙ lane;
         kept = kept-then 0 (preparation n) (kept-then 0 (preparation n) (w .kept) f (omega arith) (omega arith) (omega arith) (omega arith)) kept (omega arith) (omega arith) (omega arith) (omega arith);

@@ -8,7 +8,8 @@ use lib.ListN.{length}
 use lib.Ieee.{Float}
 use Rattle.vectors.specs.Vec.{part, Kept}
 use Rattle.differences.specs.Diff.{diffK, gramRow}
-use Rattle.banded.specs.Rows.{rows, sound, matrix, concat}
+use Rattle.banded.specs.Rows.{rows, sound}
+use Rattle.banded.specs.Run.{concat, Keeps}
 use Rattle.gram.specs.Gram.{gram, zstar, lamMax}
 use Rattle.gram.specs.declared.Peak.{Peak}
 
@@ -27,7 +28,7 @@ preparation n = 5 * n
 -- the system that the preparation solves: the rows of D D' and D y after them; behind it D y in its own lane
 pub record System (k : ℕ) (y s₀ s : List Float) : Type 0 where
   pub ends : starLane k (length y) + (length y - k) ≤ diffLane (length y)
-  pub rows : part 0 (starLane k (length y)) s ≡ concat (matrix k (gram k (gramRow k)) (length y - k))
+  pub rows : Keeps k (length y - k) (gram k (gramRow k)) s
   pub right : part (starLane k (length y)) (length y - k) s ≡ diffK k y
   pub differences : part (diffLane (length y)) (length y - k) s ≡ diffK k y
   pub kept : Kept 0 (preparation (length y)) s₀ s

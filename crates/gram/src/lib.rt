@@ -3,6 +3,7 @@ ghost use mathlib.Core.Path.{_≡_};
 ghost use Prim.Native.Nat.{_≤_, _<_, _-_, _+_, _*_};
 ghost use lib.ListN.{length};
 ghost use Rattle.vectors.specs.Vec.{Written};
+ghost use Rattle.banded.specs.Rows.{placed};
 ghost use Rattle.banded.specs.Layout.{Laid};
 ghost use Rattle.gram.specs.Gram.{gram, product as product_of};
 ghost use Rattle.gram.specs.Prepared.{preparation, System, Prepared};
@@ -11,7 +12,7 @@ ghost use Rattle.differences.specs.Series.{Series};
 // Place c of row r of D D'.
 fn gram_at(g: [f64; 3], k: usize, r: usize, c: usize) -> f64
     requires { ⌜ (k ≤ 2) × (c ≤ k) ⌝ }
-    ensures { λ x. ⌜ x ≡ gram k g r c ⌝ }
+    ensures { λ x. ⌜ x ≡ placed k (gram k g) r c ⌝ }
 {
     if r < k - c {
         return 0.0;
@@ -22,7 +23,7 @@ fn gram_at(g: [f64; 3], k: usize, r: usize, c: usize) -> f64
 // Row r of D D', from place p on.
 fn gram_row(s: &mut [f64], g: [f64; 3], k: usize, r: usize, p: usize)
     requires { ⌜ (k ≤ 2) × (p + (k + 1) ≤ length (now s)) ⌝ }
-    ensures { λ _. ⌜ Written p (p + (k + 1)) (λ q. gram k g r (q - p)) (now (s .entry)) (now (s .exit)) ⌝ }
+    ensures { λ _. ⌜ Written p (p + (k + 1)) (λ q. placed k (gram k g) r (q - p)) (now (s .entry)) (now (s .exit)) ⌝ }
 {
     let mut c = 0;
     while c <= k {

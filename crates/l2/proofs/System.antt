@@ -13,7 +13,7 @@ use Rattle.vectors.proofs.Parts.{putBack, kept-put}
 use Rattle.banded.specs.Rows.{rows}
 use Rattle.banded.specs.Solve.{solve}
 use Rattle.banded.specs.Layout.{Laid}
-use Rattle.banded.proofs.Filling.{side-put, rows-put}
+use Rattle.banded.proofs.Filling.{laid-keeps, keeps-still, side-put}
 use Rattle.substitution.specs.Solved.{Solved}
 use Rattle.l2.specs.L2.{systemL2, soundL2, trendL2}
 use Rattle.l2.specs.Solved.{SolvedL2}
@@ -29,7 +29,7 @@ module _ (k : ℕ) (lam : Float) (y s₁ x : List Float) (room : length y * (k +
       let b = n * (k + 1) in
       let a = systemL2 k y lam in
       let f = kept-put b n s₁ x room l nan in
-      let held = rows-put b n s₁ x room l w (omega arith) in
+      let held = keeps-still k n (laid-keeps w) f (omega arith) in
       let lane = side-put b n s₁ x room l y refl right in
       let z = zero-add b in
       record {

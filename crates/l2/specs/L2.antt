@@ -17,10 +17,11 @@ use Rattle.certificate.specs.Certificate.{minus}
 abbrev pub systemL2 : ℕ → List Float → Float → Matrix
 systemL2 k y lam = ridge k (stencil k) lam (length y)
 
--- whether every pivot is good, and then the trend
+-- whether every pivot is good
 unfoldable pub soundL2 : ℕ → List Float → Float → Bool
 soundL2 k y lam = sound k (systemL2 k y lam) (length y)
 
+-- the trend
 unfoldable pub trendL2 : ℕ → List Float → Float → List Float
 trendL2 k y lam = solve k (rows k (systemL2 k y lam) (length y)) y
 
@@ -36,6 +37,6 @@ objectiveL2 k y lam x = half ⊗ norm2Sq (minus y x) ⊕ half ⊗ lam ⊗ norm2S
 unfoldable pub dualL2 : ℕ → List Float → Float → List Float → Float
 dualL2 k y lam v = neg half ⊗ norm2Sq (diffKT k v) ⊕ dot v (diffK k y) ⊖ norm2Sq v ⊘ (c2 ⊗ lam)
 
--- 0 if lam isn't above 0
+-- the gap of a trend x; 0 if lam isn't above 0
 unfoldable pub gapL2 : ℕ → List Float → Float → List Float → Float
 gapL2 k y lam x = cond (lt c0 lam) (objectiveL2 k y lam x ⊖ dualL2 k y lam (scaled lam (diffK k x))) c0

@@ -2,8 +2,9 @@
 use mathlib.Core.Path.{_≡_}
 use mathlib.Core.List.{List}
 use Prim.Native.Nat.{ℕ, _+_, _-_, _≤_, _<_}
+use native.Mathlib.Nat.{sub-self}
 use native.Mathlib.Omega.{arith}
-use borrow.Author.Tests.{lt-ltb, le-ltb}
+use borrow.Author.Tests.{lt-ltb, le-ltb, le-leb}
 use lib.Ieee.{Float, binary64, add}
 use Rattle.vectors.specs.Vec.{at, part}
 use Rattle.vectors.proofs.Parts.{at-part}
@@ -17,13 +18,15 @@ pub square-place : (k : ℕ) (g dy : List Float) (lam u : Float) (m : ℕ) (s : 
 square-place k g dy lam u m s i q h e =
     rw (e, at-part 0 m s i i h (omega arith), at-part (0 + m) m s i (m + i) h (omega arith), at-part (0 + m + m) m s i (m + m + i) h (omega arith))
 
-pub system-band : (k : ℕ) (g : List Float) (lam : Float) (p : Dual) (r c : ℕ) → k ≤ r + c → c < k → at g (k - c) ≡ system k g lam p r c
+-- the system beside the diagonal, at place c of row i, and on it
+pub system-band : (k : ℕ) (g : List Float) (lam : Float) (p : Dual) (i j c : ℕ) → j + k ≡ i + c → c < k → at g (k - c) ≡ system k g lam p i j
 unfolding system gram
-system-band k g lam p r c h l = rw (le-ltb (r + c) k h, lt-ltb c k l)
+system-band k g lam p i j c e l =
+    let d : i - j ≡ k - c = omega arith in
+    rw (lt-ltb j i (omega arith), d, le-leb (k - c) k (omega arith))
 
-pub system-diagonal : (k : ℕ) (g : List Float) (lam : Float) (m : ℕ) (s : List Float) (r c : ℕ) (w : Float) → c ≤ k → k ≤ c → r < m
-    → w ≡ barrier lam (at s r) (at s (m + r)) (at s (m + m + r)) → add binary64 (at g 0) w ≡ system k g lam (point 0 m s) r c
+pub system-diagonal : (k : ℕ) (g : List Float) (lam : Float) (m : ℕ) (s : List Float) (i : ℕ) (w : Float) → i < m
+    → w ≡ barrier lam (at s i) (at s (m + i)) (at s (m + m + i)) → add binary64 (at g 0) w ≡ system k g lam (point 0 m s) i i
 unfolding system gram
-system-diagonal k g lam m s r c w h l o e =
-    let q : k - c ≡ 0 = omega arith in
-    rw (le-ltb (r + c) k (omega arith), le-ltb c k l, q, e, at-part 0 m s r r o (omega arith), at-part (0 + m) m s r (m + r) o (omega arith), at-part (0 + m + m) m s r (m + m + r) o (omega arith))
+system-diagonal k g lam m s i w o e =
+    rw (le-ltb i i (omega arith), sub-self, le-leb 0 k (omega arith), e, at-part 0 m s i i o (omega arith), at-part (0 + m) m s i (m + i) o (omega arith), at-part (0 + m + m) m s i (m + m + i) o (omega arith))

@@ -3,7 +3,7 @@ use mathlib.Core.Path.{_≡_, refl, sym, ap, _∙_}
 use mathlib.Core.Logic.{⊎-elim}
 use mathlib.Core.Bool.{Bool, true, false}
 use mathlib.Core.List.{List, [], _∷_}
-use Prim.Native.Nat.{ℕ, _+_, _*_, _≤_, _<_}
+use Prim.Native.Nat.{ℕ, _+_, _-_, _*_, _≤_, _<_}
 use native.Mathlib.Nat.{eq-or-lt-of-le, mul-le-mul-right}
 use native.Mathlib.Omega.{arith}
 use lib.ListN.{length, take, drop}
@@ -17,7 +17,7 @@ use Rattle.vectors.proofs.Parts.{length-part, at-part, putBack, mid-put, length
 use Rattle.vectors.proofs.Sums.{sum-more}
 use Rattle.banded.specs.Rows.{rows}
 use Rattle.banded.specs.Solve.{forward, divided, back, solve}
-use Rattle.banded.specs.Run.{flat, Stored, Eliminated}
+use Rattle.banded.specs.Run.{ofRun, Stored, Eliminated}
 use Rattle.banded.proofs.Laws.{shape-rows, of-holds, stands-part, rows-part, side-part}
 use Rattle.banded.proofs.Forward.{length-forward}
 use Rattle.banded.proofs.Storing.{stored-as, first-two, first-three}
@@ -103,12 +103,14 @@ module _ {k : ℕ} {g dy : List Float} {lam u : Float} {a m : ℕ} {s₀ s : Lis
     same : point 0 m s ≡ point 0 m s₀
     same = point-below 0 m (w .kept) (omega (arith, pre .three))
 
-    had : (c : ℕ) → c ≤ k → k ≤ r + c → flat k x₁ r c ≡ system k g lam (point 0 m s₀) r c
-    had c l o =
+    had : (j : ℕ) → j ≤ r → r ≤ j + k → ofRun k x₁ r j ≡ system k g lam (point 0 m s₀) r j
+    had j h o =
+        let c = j + k - r in
+        p .row c (omega arith) ∙
         ⊎-elim
-        (λ (z : c ≡ k). rw z (p .row k (omega arith) ∙ rw (le-ltb k k (omega arith)) (new .diagonal) ∙ ap (λ (q : Dual). system k g lam q r k) same))
-        (λ (z : c < k). p .row c l ∙ rw (lt-ltb c k z) (system-band k g lam (point 0 m s₀) r c o z))
-        (eq-or-lt-of-le l)
+        (λ (z : j ≡ r). rw (le-ltb c k (omega arith), z) (new .diagonal ∙ ap (λ (q : Dual). system k g lam q r r) same))
+        (λ (z : j < r). rw (lt-ltb c k (omega arith)) (system-band k g lam (point 0 m s₀) r j c (omega arith) (omega arith)))
+        (eq-or-lt-of-le h)
 
     before : Reached k m r (system k g lam (point 0 m s₀)) (right k g dy lam u (point 0 m s₀)) x₁
     before =

@@ -40,11 +40,11 @@ squareAt lam u q dy z mu1 mu2 =
 
 -- ---- at a point
 
--- the matrix D D' + diag(-mu1/f1 - mu2/f2), the right side
+-- the matrix D D' + diag(-mu1/f1 - mu2/f2), at row i and a column j up to i
 unfoldable pub system : ℕ → List Float → Float → Dual → Matrix
-system k g lam p r c =
-    cond (ltb c k) (gram k g r c) (gram k g r c ⊕ barrier lam (at (p .z) r) (at (p .mu1) r) (at (p .mu2) r))
+system k g lam p i j = cond (ltb j i) (gram k g i j) (gram k g i j ⊕ barrier lam (at (p .z) i) (at (p .mu1) i) (at (p .mu2) i))
 
+-- the right side
 unfoldable pub right : ℕ → List Float → List Float → Float → Float → Dual → List Float
 right k g dy lam u p = list (length (p .z)) (λ i. rightAt lam u (product k g (p .z) i) (at dy i) (at (p .z) i))
 

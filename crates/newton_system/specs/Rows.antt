@@ -7,8 +7,9 @@ use lib.Dec.{ltb}
 use lib.Ieee.{Float}
 use Rattle.vectors.specs.Vec.{at, part, Kept}
 use Rattle.differences.specs.Series.{Order}
-use Rattle.banded.specs.Rows.{rows, sound, concat}
+use Rattle.banded.specs.Rows.{rows, sound}
 use Rattle.banded.specs.Solve.{forward}
+use Rattle.banded.specs.Run.{concat}
 use Rattle.dual_point.specs.Dual.{Dual}
 use Rattle.dual_point.specs.Places.{point}
 use Rattle.newton_system.specs.Newton.{system, right, squareOf, squares, newtonZ}
@@ -36,7 +37,7 @@ besides k g d c = cond (ltb c k) (at g (k - c)) d
 
 -- v is row r of the system of p
 pub record RowMade (k : ℕ) (g dy : List Float) (lam u : Float) (p : Dual) (r : ℕ) (v : Row) : Type 0 where
-  pub diagonal : v .diagonal ≡ system k g lam p r k
+  pub diagonal : v .diagonal ≡ system k g lam p r r
   pub side : v .right ≡ at (right k g dy lam u p) r
   pub square : v .square ≡ squareOf k g dy lam u p r
 

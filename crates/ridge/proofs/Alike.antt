@@ -8,17 +8,17 @@ use native.Mathlib.Omega.{arith}
 use lib.ListN.{length, set, length-set}
 use lib.Seq.{getD-set-same, getD-set-other}
 use lib.Ieee.{Float, nan}
-use borrow.Author.Tests.{le-ltb}
+use borrow.Author.Tests.{eq-eqb, ne-eqb}
 use Rattle.float64.specs.Ops.{_⊗_}
 use Rattle.vectors.specs.Vec.{at}
 use Rattle.vectors.proofs.Laws.{kept-none}
-use Rattle.banded.specs.Rows.{Matrix}
+use Rattle.banded.specs.Rows.{Matrix, placed}
 use Rattle.banded.specs.Run.{flat}
-use Rattle.banded.proofs.Laws.{above}
+use Rattle.banded.proofs.Laws.{above, placed-at}
 use Rattle.vectors.specs.Sums.{more}
 use Rattle.banded.specs.Layout.{Laid}
 use Rattle.ridge.specs.Layout.{Repeated}
-use Rattle.ridge.specs.Ridge.{start, ridge}
+use Rattle.ridge.specs.Ridge.{identityAt, ridge}
 
 -- ---- one more place repeated
 
@@ -46,11 +46,11 @@ repeat-more {w} {b} {n} {s₀} {s} r h g fits =
 -- ---- a matrix whose rows from r up to e are alike
 
 module _ {k r e n : ℕ} {a : Matrix} {v s s′ : List Float} (w : Laid k r a v s) (h : Repeated (k + 1) (r * (k + 1)) n s s′) (some : 1 ≤ r) (o : r ≤ e) (span : r * (k + 1) + n ≡ e * (k + 1))
-    (alike : (i j : ℕ) → r ≤ i → i < e → j ≤ k → a i j ≡ a (i - 1) j) where
-  first : (i j : ℕ) → i < r → j ≤ k → flat k s′ i j ≡ a i j
+    (alike : (i j : ℕ) → r ≤ i → i < e → j ≤ k → placed k a i j ≡ placed k a (i - 1) j) where
+  first : (i j : ℕ) → i < r → j ≤ k → flat k s′ i j ≡ placed k a i j
   first i j l g = h .kept .below (i * (k + 1) + j) (above k r i j l g) ∙ w .same i j l g
 
-  all : (i : ℕ) → i < e → (j : ℕ) → j ≤ k → flat k s′ i j ≡ a i j
+  all : (i : ℕ) → i < e → (j : ℕ) → j ≤ k → flat k s′ i j ≡ placed k a i j
   all zero l j g = first 0 j (omega arith) g
   all (suc i) l j g =
       ⊎-elim
@@ -85,16 +85,24 @@ row-less i k t h g = omega arith
 column-less : (i k p t : ℕ) → k ≤ i → t ≤ p → i + p - k - (i - k + t) ≡ p - t
 column-less i k p t h g = omega arith
 
+identity-place : (k i p : ℕ) → k ≤ i → p ≤ k → identityAt i (i + p - k) ≡ identityAt k p
+identity-place k i p h g =
+    ⊎-elim
+    (λ (e : p ≡ k). rw (eq-eqb i (i + p - k) (omega arith), eq-eqb k p (sym e)))
+    (λ (l : p < k). rw (ne-eqb i (i + p - k) (ne-of-gt (omega arith)), ne-eqb k p (ne-of-gt l)))
+    (eq-or-lt-of-le g)
+
 ridge-inner : (k : ℕ) (c : List Float) (lam : Float) (n i p : ℕ) → k ≤ i → i < n - k → p ≤ k
-    → ridge k c lam n i p ≡ more (start k p) (λ t. lam ⊗ at c (k - t) ⊗ at c (p - t)) (p + 1)
+    → placed k (ridge k c lam n) i p ≡ more (identityAt k p) (λ t. lam ⊗ at c (k - t) ⊗ at c (p - t)) (p + 1)
 unfolding ridge
 ridge-inner k c lam n i p h l g =
     let z : i + p - k + 1 - (i - k) ≡ p + 1 = omega arith in
-    rw (le-ltb (i + p) k (omega arith), min-eq-left {n = i + p - k + 1} {m = n - k} (omega arith), z)
-    (more-ext (start k p) _ _ (p + 1)
+    placed-at k (ridge k c lam n) i p (i + p - k) (omega arith)
+    ∙ rw (identity-place k i p h g, min-eq-left {n = i + p - k + 1} {m = n - k} (omega arith), z)
+    (more-ext (identityAt k p) _ _ (p + 1)
     (λ t u. rw (row-less i k t h (omega arith), column-less i k p t h (omega arith))))
 
-pub ridge-alike : (k : ℕ) (c : List Float) (lam : Float) (n i p : ℕ) → k < i → i < n - k → p ≤ k → ridge k c lam n i p ≡ ridge k c lam n (i - 1) p
+pub ridge-alike : (k : ℕ) (c : List Float) (lam : Float) (n i p : ℕ) → k < i → i < n - k → p ≤ k → placed k (ridge k c lam n) i p ≡ placed k (ridge k c lam n) (i - 1) p
 ridge-alike k c lam n i p h l g = ridge-inner k c lam n i p (omega arith) l g ∙ sym (ridge-inner k c lam n (i - 1) p (omega arith) (omega arith) g)
 
 -- ---- the places of rows w up to m, of w numbers each

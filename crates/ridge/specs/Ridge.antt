@@ -2,26 +2,21 @@
 use mathlib.Core.Bool.{cond}
 use mathlib.Core.List.{List}
 use Prim.Native.Nat.{ℕ, _+_, _-_, min}
-use lib.Dec.{ltb}
+use lib.Dec.{eqb}
 use lib.Ieee.{Float}
 use Rattle.float64.specs.Ops.{_⊗_, c0, c1}
 use Rattle.vectors.specs.Vec.{at}
 use Rattle.banded.specs.Rows.{Matrix}
 use Rattle.vectors.specs.Sums.{more}
 
--- the identity at place p of a row
-abbrev pub start : ℕ → ℕ → Float
-start k p = cond (ltb p k) c0 c1
+-- the identity at row i and column j
+abbrev pub identityAt : ℕ → ℕ → Float
+identityAt i j = cond (eqb i j) c1 c0
 
--- what row r of D adds at row i and column j
+-- what row r of D adds at row i and column j: (lam·c[i - r])·c[j - r]
 abbrev pub share : List Float → Float → ℕ → ℕ → ℕ → Float
 share c lam i j r = lam ⊗ at c (i - r) ⊗ at c (j - r)
 
--- row i, column j = i + p - k: the identity, and then the shares of the rows of D that reach both, upwards; +0 before column 0
+-- row i and a column j up to i: the identity, and then the shares of the rows of D that reach both, upwards from row i - k (subtraction stops at 0)
 unfoldable pub ridge : ℕ → List Float → Float → ℕ → Matrix
-unfolding more
-ridge k c lam n i p =
-    let j = i + p - k in
-    let lo = i - k in
-    cond (ltb (i + p) k) c0
-    (more (start k p) (λ t. share c lam i j (lo + t)) (min (j + 1) (n - k) - lo))
+ridge k c lam n i j = let lo = i - k in more (identityAt i j) (λ t. share c lam i j (lo + t)) (min (j + 1) (n - k) - lo)

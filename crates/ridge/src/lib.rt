@@ -7,21 +7,22 @@ ghost use lib.Ieee.{Float};
 ghost use Rattle.vectors.specs.Vec.{Written};
 ghost use Rattle.differences.specs.Diff.{stencil};
 ghost use Rattle.differences.specs.Series.{Series};
+ghost use Rattle.banded.specs.Rows.{placed};
 ghost use Rattle.banded.specs.Layout.{Laid};
 ghost use Rattle.ridge.specs.Layout.{Row, Rows, Repeated};
-ghost use Rattle.ridge.specs.Ridge.{start, ridge};
+ghost use Rattle.ridge.specs.Ridge.{identityAt, ridge};
 
-// Place p of a row of I.
-fn start(k: usize, p: usize) -> f64
-    ensures { λ x. ⌜ x ≡ start k p ⌝ }
+// I at row i and column j.
+fn identity_at(i: usize, j: usize) -> f64
+    ensures { λ x. ⌜ x ≡ identityAt i j ⌝ }
 {
-    if p < k { 0.0 } else { 1.0 }
+    if i == j { 1.0 } else { 0.0 }
 }
 
 // Place p of row i, for a series of n.
 fn ridge_at(c: [f64; 3], lam: f64, k: usize, n: usize, i: usize, p: usize) -> f64
     requires { ⌜ Row k n i × (p ≤ k) ⌝ }
-    ensures { λ x. ⌜ x ≡ ridge k c lam n i p ⌝ }
+    ensures { λ x. ⌜ x ≡ placed k (ridge k c lam n) i p ⌝ }
 {
     if i + p < k {
         return 0.0;
@@ -29,7 +30,7 @@ fn ridge_at(c: [f64; 3], lam: f64, k: usize, n: usize, i: usize, p: usize) -> f6
     let j = i + p - k;
     let lo = vectors::over(i, k);
     let hi = vectors::smaller(j + 1, n - k);
-    let mut v = start(k, p);
+    let mut v = identity_at(i, j);
     let mut r = lo;
     while r < hi {
         v = v + lam * c[i - r] * c[j - r];
@@ -41,7 +42,7 @@ fn ridge_at(c: [f64; 3], lam: f64, k: usize, n: usize, i: usize, p: usize) -> f6
 // Row i, from place b on.
 fn ridge_row(s: &mut [f64], c: [f64; 3], lam: f64, k: usize, n: usize, i: usize, b: usize)
     requires { ⌜ Row k n i × (b + (k + 1) ≤ length (now s)) ⌝ }
-    ensures { λ _. ⌜ Written b (b + (k + 1)) (λ q. ridge k c lam n i (q - b)) (now (s .entry)) (now (s .exit)) ⌝ }
+    ensures { λ _. ⌜ Written b (b + (k + 1)) (λ q. placed k (ridge k c lam n) i (q - b)) (now (s .entry)) (now (s .exit)) ⌝ }
 {
     let mut p = 0;
     while p <= k {

@@ -4,7 +4,7 @@ use mathlib.Core.Logic.{⊎-elim}
 use mathlib.Core.List.{List, _∷_}
 use mathlib.Core.Path.{_≡_, refl, sym, ap, _∙_}
 use Prim.Native.Nat.{ℕ, zero, suc, _+_, _-_, _*_, _≤_, _<_, min}
-use native.Mathlib.Nat.{ne-of-lt, ne-of-gt, add-zero, min-le-left, min-le-right, min-eq-left, min-eq-right, eq-zero-or-pos}
+use native.Mathlib.Nat.{ne-of-lt, ne-of-gt, add-zero, min-le-right, min-eq-left, min-eq-right, eq-zero-or-pos}
 use native.Mathlib.Numerals.{add-one}
 use native.Mathlib.Omega.{arith}
 use lib.ListN.{length, set, take, drop, length-set}
@@ -15,10 +15,10 @@ use Rattle.float64.proofs.Clash.{clash}
 use Rattle.vectors.specs.Vec.{at, part, Kept}
 use Rattle.vectors.proofs.Laws.{length-list, at-list, kept-none, kept-then}
 use Rattle.vectors.proofs.Parts.{length-part, part-below, putBack, mid-put, length-put, kept-put, part-put, part-size}
-use Rattle.banded.specs.Rows.{look, rows}
+use Rattle.banded.specs.Rows.{ofRows, rows}
 use Rattle.banded.specs.Solve.{backAt, forward, divided, back, solve}
-use Rattle.banded.specs.Run.{flat, Holds, Stands}
-use Rattle.banded.proofs.Laws.{above, less-ext, holds-of, shape-rows, rows-part, side-part, part-stands, stands-part}
+use Rattle.banded.specs.Run.{ofRun, Holds, Stands}
+use Rattle.banded.proofs.Laws.{above, less-ext, holds-of, shape-rows, keeps-part, side-part, part-stands, stands-part}
 use Rattle.banded.proofs.Forward.{length-forward}
 use Rattle.elimination.specs.Decomposed.{Decomposed}
 use Rattle.substitution.specs.Solved.{Backed, Carried, Substituted, Solved}
@@ -40,7 +40,7 @@ pub length-divided : (k : ℕ) (f : List (List Float)) (u : List Float) → leng
 unfolding divided
 length-divided k f u = length-list (length u) _
 
-pub at-divided : (k : ℕ) (f : List (List Float)) (u : List Float) (i : ℕ) → i < length u → at (divided k f u) i ≡ at u i ⊘ look f i k
+pub at-divided : (k : ℕ) (f : List (List Float)) (u : List Float) (i : ℕ) → i < length u → at (divided k f u) i ≡ at u i ⊘ ofRows k f i i
 unfolding divided
 at-divided k f u i h = at-list (length u) _ i h
 
@@ -56,7 +56,7 @@ unfolding back
 backed-none k m s = record { kept = kept-none (m * (k + 1) + (m - 0)) 0 s; made = λ f u h l st j b. absurd (omega arith) }
 
 module _ {k m t : ℕ} {s₀ s : List Float} {x : Float} (i q : ℕ) (w : Backed k m t s₀ s) (c : t < m) (is : i ≡ m - (t + 1)) (at-q : q ≡ m * (k + 1) + i) (room : m * (k + 1) + m ≤ length s)
-    (x-is : x ≡ backAt k (flat k s) (λ n. at s (m * (k + 1) + (i + 1 + n))) (at s (m * (k + 1) + i) ⊘ flat k s i k) i (m - (i + 1))) where
+    (x-is : x ≡ backAt k (ofRun k s) (λ n. at s (m * (k + 1) + (i + 1 + n))) (at s (m * (k + 1) + i) ⊘ ofRun k s i i) i (m - (i + 1))) where
   kept-more : Kept q (t + 1) s₀ (set s q x)
   kept-more =
       let v = w .kept in
@@ -77,15 +77,14 @@ module _ {k m t : ℕ} {s₀ s : List Float} {x : Float} (i q : ℕ) (w : Backed
       let j : length y - (t + 1) ≡ i = omega arith in
       let e : b + (m - t) ≡ q + 1 = omega arith in
       let hs = rows-kept h v (omega arith) in
-      let old : at s (b + i) ⊘ flat k s i k ≡ at y i = rw (v .below (b + i) (omega arith), st i (omega arith), hs .same i k (omega arith) (omega arith), at-divided k f u i (omega arith)) in
+      let old : at s (b + i) ⊘ ofRun k s i i ≡ at y i = rw (v .below (b + i) (omega arith), st i (omega arith), hs .same i (i + k - i) (omega arith) (omega arith), at-divided k f u i (omega arith)) in
       stands-cons q s (back k f y t) (w .made f u h l st) e (omega arith)
       (x-is ∙ rw (n, j, old)
       (less-ext (at y i) _ _ (min k t)
       (λ a z.
       let g : b + (i + 1 + a) ≡ b + (m - t) + a = omega arith in
       let d : a < t = omega (arith, min-le-right k t) in
-      let d′ : a < k = omega (arith, min-le-left k t) in
-      rw (hs .same (i + 1 + a) (k - (a + 1)) (omega arith) (omega arith), g, w .made f u h l st a (omega (arith, length-back k f y t))))))
+      rw (hs .same (i + 1 + a) (i + k - (i + 1 + a)) (omega arith) (omega arith), g, w .made f u h l st a (omega (arith, length-back k f y t))))))
 
   pub backed-more : {t′ : ℕ} → t′ ≡ t + 1 → Backed k m t′ s₀ (set s q x)
   backed-more z =
@@ -98,7 +97,7 @@ pub carried-none : (k m t : ℕ) (s : List Float) → Carried k m t t s s
 carried-none k m t s = record { size = refl; done = λ v h. h }
 
 pub carried-more : {k m from t t′ : ℕ} {s₀ s : List Float} {x : Float} (i q : ℕ) → Carried k m from t s₀ s → t < m → i ≡ m - (t + 1) → q ≡ m * (k + 1) + i → m * (k + 1) + m ≤ length s
-    → x ≡ backAt k (flat k s) (λ n. at s (m * (k + 1) + (i + 1 + n))) (at s (m * (k + 1) + i) ⊘ flat k s i k) i (m - (i + 1)) → t′ ≡ t + 1 → Carried k m from t′ s₀ (set s q x)
+    → x ≡ backAt k (ofRun k s) (λ n. at s (m * (k + 1) + (i + 1 + n))) (at s (m * (k + 1) + i) ⊘ ofRun k s i i) i (m - (i + 1)) → t′ ≡ t + 1 → Carried k m from t′ s₀ (set s q x)
 carried-more {s = s} {x = x} i q w c is at-q room x-is z = record { size = length-set s q x ∙ w .size; done = λ v h. backed-more i q (w .done v h) c is at-q room x-is z }
 
 pub carried-then : {k m a b c : ℕ} {s₀ s s′ : List Float} → Carried k m a b s₀ s → Carried k m b c s s′ → Carried k m a c s₀ s′
@@ -140,7 +139,7 @@ module _ (p : ℕ) (s : List Float) {k m : ℕ} {x : List Float} {ok : Bool} (ro
   pub solved-bad : ok ≡ false → Solved p k m s (putBack p (m * (k + 1) + m) s x) false
   solved-bad bad = record {
     kept = kept-put p (m * (k + 1) + m) s x room places nan;
-    answer = λ a g. sym bad ∙ d .answer a (rows-part k p m s room ∙ g);
+    answer = λ a g. sym bad ∙ d .answer a (keeps-part k p m s room g);
     factor = λ a g y. absurd (clash y refl);
     solution = λ a g y. absurd (clash y refl);
   }
@@ -157,13 +156,13 @@ module _ (p : ℕ) (s : List Float) {k m : ℕ} {x : List Float} {ok : Bool} (ro
       let z : p + 0 ≡ p = omega arith in
       record {
         kept = kept-then p (n + m) (kept-put p (n + m) s x room places nan) (kept-put p (n + m) s₁ x′ room₁ places′ nan) (omega arith) (omega arith) (omega arith) (omega arith);
-        answer = λ a g. sym good ∙ d .answer a (rows-part k p m s room ∙ g);
-        factor = λ a g y. rw z at (part-put p (n + m) s₁ x′ room₁ places′ nan 0 n (omega arith)) ∙ part-below nan 0 n (v .kept) (omega arith) ∙ d .factor a (rows-part k p m s room ∙ g) good;
+        answer = λ a g. sym good ∙ d .answer a (keeps-part k p m s room g);
+        factor = λ a g y. rw z at (part-put p (n + m) s₁ x′ room₁ places′ nan 0 n (omega arith)) ∙ part-below nan 0 n (v .kept) (omega arith) ∙ d .factor a (keeps-part k p m s room g) good;
         solution = λ a g y.
             let f = rows k a m in
             let b = part (p + n) m s in
             part-put p (n + m) s₁ x′ room₁ places′ nan n m (omega arith)
-            ∙ v .made f (shape-rows k a m) (d .factor a (rows-part k p m s room ∙ g) good)
-            ∙ ap (λ (u : List Float). back k f (divided k f u) m) (d .side a (rows-part k p m s room ∙ g) good ∙ ap (λ (u : List Float). forward k f u m) (side-part k p m s room))
+            ∙ v .made f (shape-rows k a m) (d .factor a (keeps-part k p m s room g) good)
+            ∙ ap (λ (u : List Float). back k f (divided k f u) m) (d .side a (keeps-part k p m s room g) good ∙ ap (λ (u : List Float). forward k f u m) (side-part k p m s room))
             ∙ sym (solve-is k m f b (length-part (p + n) m s));
       }

@@ -11,20 +11,20 @@ use Rattle.float64.specs.Ops.{_⊖_, _⊗_, _⊘_}
 use Rattle.vectors.specs.Vec.{at}
 use Rattle.banded.specs.Rows.{Matrix, less}
 use Rattle.banded.specs.Solve.{backAt}
-use Rattle.banded.specs.Run.{flat}
+use Rattle.banded.specs.Run.{ofRun}
 
 -- a row with k more after it, any order
-pub back-far : (k : ℕ) (l : Matrix) (v : Float) (r : ℕ) (x : ℕ → Float) (m : ℕ) → r + k < m → backAt k l x v r (m - (r + 1)) ≡ less v (λ t. l (r + 1 + t) (k - (t + 1)) ⊗ x t) k
+back-far : (k : ℕ) (l : Matrix) (v : Float) (i : ℕ) (y : ℕ → Float) (m : ℕ) → i + k < m → backAt k l y v i (m - (i + 1)) ≡ less v (λ t. l (i + 1 + t) i ⊗ y t) k
 unfolding backAt
-back-far k l v r x m h = rw (min-eq-left {n = k} {m = m - (r + 1)} (omega arith))
+back-far k l v i y m h = rw (min-eq-left {n = k} {m = m - (i + 1)} (omega arith))
 
-pub back-1 : (l : Matrix) (v : Float) (i m : ℕ) (x : ℕ → Float) → i + 1 < m → backAt 1 l x v i (m - (i + 1)) ≡ v ⊖ l (i + 1) 0 ⊗ x 0
+back-1 : (l : Matrix) (v : Float) (i m : ℕ) (y : ℕ → Float) → i + 1 < m → backAt 1 l y v i (m - (i + 1)) ≡ v ⊖ l (i + 1 + 0) i ⊗ y 0
 unfolding less
-back-1 l v i m x h = let z : i + 1 + 0 ≡ i + 1 = omega arith in back-far 1 l v i x m h ∙ rw z
+back-1 l v i m y h = back-far 1 l v i y m h
 
-pub back-2 : (l : Matrix) (v : Float) (i m : ℕ) (x : ℕ → Float) → i + 2 < m → backAt 2 l x v i (m - (i + 1)) ≡ v ⊖ l (i + 1) 1 ⊗ x 0 ⊖ l (i + 2) 0 ⊗ x 1
+back-2 : (l : Matrix) (v : Float) (i m : ℕ) (y : ℕ → Float) → i + 2 < m → backAt 2 l y v i (m - (i + 1)) ≡ v ⊖ l (i + 1 + 0) i ⊗ y 0 ⊖ l (i + 1 + 1) i ⊗ y 1
 unfolding less
-back-2 l v i m x h = let z : i + 1 + 0 ≡ i + 1 = omega arith in let o : i + 1 + 1 ≡ i + 2 = omega arith in back-far 2 l v i x m h ∙ rw (z, o)
+back-2 l v i m y h = back-far 2 l v i y m h
 
 -- ---- a place of the solution of either order, from the one or two after it
 
@@ -33,22 +33,22 @@ at-same s q i x e h = rw e (getD-set-same s q x nan h)
 
 pub step-1 : (s : List Float) (m i : ℕ) (x : Float) → 0 < i → i < m → x ≡ at s (m * 2 + i)
     → at s (m * 2 + i - 1) ⊘ at s (i * 2 - 1) ⊖ at s (i * 2) ⊗ x
-    ≡ backAt 1 (flat 1 s) (λ n. at s (m * 2 + (i - 1 + 1 + n))) (at s (m * 2 + (i - 1)) ⊘ flat 1 s (i - 1) 1) (i - 1) (m - (i - 1 + 1))
+    ≡ backAt 1 (ofRun 1 s) (λ n. at s (m * 2 + (i - 1 + 1 + n))) (at s (m * 2 + (i - 1)) ⊘ ofRun 1 s (i - 1) (i - 1)) (i - 1) (m - (i - 1 + 1))
 step-1 s m i x h g e =
     let u : at s (m * 2 + (i - 1)) ≡ at s (m * 2 + i - 1) = ap (at s) (omega arith) in
-    let d : at s ((i - 1) * 2 + 1) ≡ at s (i * 2 - 1) = ap (at s) (omega arith) in
-    let l : at s ((i - 1 + 1) * 2 + 0) ≡ at s (i * 2) = ap (at s) (omega arith) in
+    let d : ofRun 1 s (i - 1) (i - 1) ≡ at s (i * 2 - 1) = ap (at s) (omega arith) in
+    let l : ofRun 1 s (i - 1 + 1 + 0) (i - 1) ≡ at s (i * 2) = ap (at s) (omega arith) in
     let y : at s (m * 2 + (i - 1 + 1 + 0)) ≡ x = ap (at s) (omega arith) ∙ sym e in
-    sym (back-1 (flat 1 s) (at s (m * 2 + (i - 1)) ⊘ flat 1 s (i - 1) 1) (i - 1) m (λ n. at s (m * 2 + (i - 1 + 1 + n))) (omega arith) ∙ rw (u, d, l, y))
+    sym (back-1 (ofRun 1 s) (at s (m * 2 + (i - 1)) ⊘ ofRun 1 s (i - 1) (i - 1)) (i - 1) m (λ n. at s (m * 2 + (i - 1 + 1 + n))) (omega arith) ∙ rw (u, d, l, y))
 
 pub step-2 : (s : List Float) (m i : ℕ) (x1 x2 : Float) → 0 < i → i + 1 < m → x1 ≡ at s (m * 3 + i) → x2 ≡ at s (m * 3 + i + 1)
     → at s (m * 3 + i - 1) ⊘ at s (i * 3 - 1) ⊖ at s (i * 3 + 1) ⊗ x1 ⊖ at s (i * 3 + 3) ⊗ x2
-    ≡ backAt 2 (flat 2 s) (λ n. at s (m * 3 + (i - 1 + 1 + n))) (at s (m * 3 + (i - 1)) ⊘ flat 2 s (i - 1) 2) (i - 1) (m - (i - 1 + 1))
+    ≡ backAt 2 (ofRun 2 s) (λ n. at s (m * 3 + (i - 1 + 1 + n))) (at s (m * 3 + (i - 1)) ⊘ ofRun 2 s (i - 1) (i - 1)) (i - 1) (m - (i - 1 + 1))
 step-2 s m i x1 x2 h g e1 e2 =
     let u : at s (m * 3 + (i - 1)) ≡ at s (m * 3 + i - 1) = ap (at s) (omega arith) in
-    let d : at s ((i - 1) * 3 + 2) ≡ at s (i * 3 - 1) = ap (at s) (omega arith) in
-    let l1 : at s ((i - 1 + 1) * 3 + 1) ≡ at s (i * 3 + 1) = ap (at s) (omega arith) in
-    let l2 : at s ((i - 1 + 2) * 3 + 0) ≡ at s (i * 3 + 3) = ap (at s) (omega arith) in
+    let d : ofRun 2 s (i - 1) (i - 1) ≡ at s (i * 3 - 1) = ap (at s) (omega arith) in
+    let l1 : ofRun 2 s (i - 1 + 1 + 0) (i - 1) ≡ at s (i * 3 + 1) = ap (at s) (omega arith) in
+    let l2 : ofRun 2 s (i - 1 + 1 + 1) (i - 1) ≡ at s (i * 3 + 3) = ap (at s) (omega arith) in
     let y1 : at s (m * 3 + (i - 1 + 1 + 0)) ≡ x1 = ap (at s) (omega arith) ∙ sym e1 in
     let y2 : at s (m * 3 + (i - 1 + 1 + 1)) ≡ x2 = ap (at s) (omega arith) ∙ sym e2 in
-    sym (back-2 (flat 2 s) (at s (m * 3 + (i - 1)) ⊘ flat 2 s (i - 1) 2) (i - 1) m (λ n. at s (m * 3 + (i - 1 + 1 + n))) (omega arith) ∙ rw (u, d, l1, l2, y1, y2))
+    sym (back-2 (ofRun 2 s) (at s (m * 3 + (i - 1)) ⊘ ofRun 2 s (i - 1) (i - 1)) (i - 1) m (λ n. at s (m * 3 + (i - 1 + 1 + n))) (omega arith) ∙ rw (u, d, l1, l2, y1, y2))

@@ -3,12 +3,12 @@ use mathlib.Core.Path.{_≡_}
 use mathlib.Core.Bool.{Bool, true}
 use mathlib.Core.List.{List}
 use Prim.Native.Nat.{ℕ, _+_, _-_, _*_, _≤_}
-use lib.ListN.{length}
+use lib.ListN.{length, drop}
 use lib.Ieee.{Float}
 use Rattle.vectors.specs.Vec.{part, Kept}
-use Rattle.banded.specs.Rows.{Matrix, rows, sound, matrix, concat}
+use Rattle.banded.specs.Rows.{Matrix, rows, sound}
 use Rattle.banded.specs.Solve.{divided, back, solve}
-use Rattle.banded.specs.Run.{Shape, Holds, Stands}
+use Rattle.banded.specs.Run.{concat, Keeps, Shape, Holds, Stands}
 
 -- a run of n places has the room for m rows and their right side, and there is a row
 pub record Fits (k m n : ℕ) : Type 0 where
@@ -36,10 +36,10 @@ pub record Substituted (k m : ℕ) (s₀ s : List Float) : Type 0 where
   pub kept : Kept (m * (k + 1)) m s₀ s
   pub made : (f : List (List Float)) → Shape k m f → part 0 (m * (k + 1)) s₀ ≡ concat f → part (m * (k + 1)) m s ≡ back k f (divided k f (part (m * (k + 1)) m s₀)) m
 
--- s₀ holds, from place p on, the m rows of a matrix and then a right side. ok says whether the pivots of its factor are all good. If so s holds the factor's rows in the place of the matrix's, and the solution in the place of the right side. All places but those of the system stay.
+-- s₀ has, from place p on, m rows that keep a matrix, and then a right side. ok says whether the pivots of its factor are all good. If so s holds the factor's rows in the place of the matrix's, and the solution in the place of the right side. All places but those of the system stay.
 pub record Solved (p k m : ℕ) (s₀ s : List Float) (ok : Bool) : Type 0 where
   pub kept : Kept p (m * (k + 1) + m) s₀ s
-  pub answer : (a : Matrix) → part p (m * (k + 1)) s₀ ≡ concat (matrix k a m) → ok ≡ sound k a m
-  pub factor : (a : Matrix) → part p (m * (k + 1)) s₀ ≡ concat (matrix k a m) → ok ≡ true → part p (m * (k + 1)) s ≡ concat (rows k a m)
-  pub solution : (a : Matrix) → part p (m * (k + 1)) s₀ ≡ concat (matrix k a m) → ok ≡ true
+  pub answer : (a : Matrix) → Keeps k m a (drop p s₀) → ok ≡ sound k a m
+  pub factor : (a : Matrix) → Keeps k m a (drop p s₀) → ok ≡ true → part p (m * (k + 1)) s ≡ concat (rows k a m)
+  pub solution : (a : Matrix) → Keeps k m a (drop p s₀) → ok ≡ true
       → part (p + m * (k + 1)) m s ≡ solve k (rows k a m) (part (p + m * (k + 1)) m s₀)

@@ -5,14 +5,14 @@ ghost use lib.ListN.{length};
 ghost use Rattle.float64.specs.Ops.{_⊘_};
 ghost use Rattle.vectors.specs.Vec.{at};
 ghost use Rattle.banded.specs.Solve.{backAt};
-ghost use Rattle.banded.specs.Run.{flat, HasRow};
+ghost use Rattle.banded.specs.Run.{ofRun, HasRow};
 ghost use Rattle.substitution.specs.Solved.{Fits, Stretch, Carried, Substituted, Solved};
 
 // Place i of the solution, from the places after it.
 fn back_at(s: &[f64], k: usize, m: usize, i: usize) -> f64
     requires { ⌜ HasRow k m i (length (now s)) ⌝ }
-    ensures { λ x. ⌜ x ≡ backAt k (flat k (now (s .entry))) (λ t. at (now (s .entry)) (m * (k + 1) + (i + 1 + t)))
-        (at (now (s .entry)) (m * (k + 1) + i) ⊘ flat k (now (s .entry)) i k) i (m - (i + 1)) ⌝ }
+    ensures { λ x. ⌜ x ≡ backAt k (ofRun k (now (s .entry))) (λ t. at (now (s .entry)) (m * (k + 1) + (i + 1 + t)))
+        (at (now (s .entry)) (m * (k + 1) + i) ⊘ ofRun k (now (s .entry)) i i) i (m - (i + 1)) ⌝ }
 {
     let b = m * (k + 1);
     let d = banded::get(s, k + 1, i, k);

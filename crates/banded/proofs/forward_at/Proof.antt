@@ -1,40 +1,40 @@
 use borrow.Author.Needs.{needs}
-use mathlib.Core.Path.{_≡_}
-use Prim.Native.Nat.{suc, _≤_, _-_, _+_}
+use mathlib.Core.Path.{_≡_, sym}
+use Prim.Native.Nat.{_≤_, _-_, _+_}
 use native.Mathlib.Omega.{arith}
-use native.Mathlib.Nat.{sub-self}
 use Rattle.vectors.specs.Vec.{at}
-use Rattle.banded.specs.Run.{flat}
-use lib.Ieee.{binary64, mul}
-use Rattle.banded.specs.Rows.{less}
+use Rattle.banded.specs.Run.{ofRun}
+use Rattle.float64.specs.Ops.{_⊗_}
+use Rattle.banded.specs.Rows.{lessFrom}
 use Rattle.banded.specs.Solve.{forwardAt}
+use Rattle.banded.proofs.Laws.{from-none, from-more}
 use Rattle.banded.proofs.forward_at.Statement.{statement}
 use Rattle.banded.proofs.forward_at.Tie as tie
 
 abbrev Inv-loop : tie.InvT-loop
-Inv-loop s k b i v₀ t₀ v t = (k - i ≤ t) × (t ≤ k) × (v ≡ less (at s (b + i)) (λ n. mul binary64 (flat k s i (k - i + n)) (at s (b + (i + (k - i + n) - k)))) (t - (k - i)))
+Inv-loop s k b i v₀ t₀ v t = (k - i ≤ t) × (t ≤ k) × (v ≡ lessFrom (at s (b + i)) (λ j. ofRun k s i j ⊗ at s (b + j)) (i - k) (i + t - k))
 
 abbrev μ-loop : tie.MeasureT-loop
 μ-loop s k b i v₀ t₀ v t = k - t
 
 loop-holds : tie.Need-loop-holds Inv-loop μ-loop
-unfolding less
-loop-holds c = (search needs, search needs, rw (c .over .ensures, sub-self))
+loop-holds c = (search needs, search needs, sym (from-none _ _ _ _ (omega (arith, c .over .ensures))))
 
 loop-again : tie.Need-loop-again Inv-loop μ-loop
-unfolding less
 loop-again c = let at-loop = c .before .before .before in
     let a = at-loop .before .before .before .before .args in
+    let k = a .k in
+    let i = a .i in
     let t = at-loop .loop .t in
-    let e : t + 1 - (a .k - a .i) ≡ suc (t - (a .k - a .i)) = omega arith in
-    let f : a .k - a .i + (t - (a .k - a .i)) ≡ t = omega arith in
-    (search needs, search needs, rw (e, f) (cc))
+    let x : i + t - k + k - i ≡ t = omega arith in
+    (search needs, search needs, from-more _ _ (i - k) (i + t - k) (at-loop .loop .inv .2) (rw x (cc)) (omega arith) (omega arith))
 
 returns : tie.Need-returns Inv-loop μ-loop
 unfolding forwardAt
 returns c = let at-loop = c .before in
-    let e : at-loop .loop .t ≡ at-loop .before .before .before .before .args .k = omega arith in
-    cc
+    let a = at-loop .before .before .before .before .args in
+    let e : a .i + at-loop .loop .t - a .k ≡ a .i = omega arith in
+    rw e at (at-loop .loop .inv .2)
 
 pub forward-at-spec : {M : Type 1} → statement M
 forward-at-spec =

@@ -23,7 +23,7 @@ returns c = let right = c .before in
     let q-is : q ≡ product (a .k) (a .t5) (part 0 (a .m) s) (a .r) =
     product-is .product .ensures ∙ ap (λ (v : List Float). product (a .k) (a .t5) v (a .r)) (range-part 0 (a .m) (a .m) s (omega arith) (omega (arith, st .pre))) in
     record {
-      diagonal = diagonal .diagonal-of .ensures ∙ system-diagonal (a .k) (a .t5) (a .lam) (a .m) s (a .r) (a .k) _ (omega arith) (omega arith) h refl;
+      diagonal = diagonal .diagonal-of .ensures ∙ system-diagonal (a .k) (a .t5) (a .lam) (a .m) s (a .r) _ h refl;
       side = right .right-of .ensures ∙ right-place (a .k) (a .t5) (a .dy .now) (a .lam) (a .u) (a .m) s (a .r) q h q-is;
       square = c .residual-of .ensures ∙ square-place (a .k) (a .t5) (a .dy .now) (a .lam) (a .u) (a .m) s (a .r) q h q-is;
     }

@@ -6,7 +6,8 @@ use Prim.Native.Nat.{_≤_, _-_, _+_}
 use native.Mathlib.Omega.{arith}
 use native.Mathlib.Nat.{sub-self}
 use Rattle.vectors.specs.Sums.{more}
-use Rattle.ridge.specs.Ridge.{start, share, ridge}
+use Rattle.banded.specs.Rows.{placed}
+use Rattle.ridge.specs.Ridge.{share, ridge}
 use Rattle.ridge.proofs.ridge_at.Statement.{statement}
 use Rattle.ridge.proofs.ridge_at.Tie as tie
 
@@ -17,7 +18,7 @@ abbrev μ-loop : tie.MeasureT-loop
 μ-loop lam k n i p c j lo hi v₀ r₀ v r = hi - r
 
 returns : tie.Need-returns Inv-loop μ-loop
-unfolding ridge
+unfolding placed
 returns c = simp (lt-ltb _ _ (c .if1 .taken))
 
 loop-holds : tie.Need-loop-holds Inv-loop μ-loop
@@ -32,12 +33,12 @@ loop-again c = let lp = c .before in
     (search needs, search needs, more-more _ _ (r - lo) (lp .loop .inv .2) (rw f) (omega arith))
 
 returns-2 : tie.Need-returns-2 Inv-loop μ-loop
-unfolding ridge
+unfolding placed ridge
 returns-2 c = let lp = c .before in
     let sm = lp .before .before in
     let e : lp .loop .r ≡ sm .smaller .result = omega arith in
     simp (le-ltb _ _ (sm .before .before .if1 .left))
-    (rw (e ∙ sm .smaller .ensures, sm .before .over .ensures, lp .before .start .ensures) at (lp .loop .inv .2))
+    (rw (e ∙ sm .smaller .ensures, sm .before .over .ensures, lp .before .identity-at .ensures) at (lp .loop .inv .2))
 
 pub ridge-at-spec : {M : Type 1} → statement M
 ridge-at-spec =

@@ -1,19 +1,20 @@
 use borrow.Author.Needs.{needs}
 use mathlib.Core.Path.{_≡_, ap, _∙_}
 use Prim.Native.Nat.{_≤_, _-_, _+_, _*_}
+use native.Mathlib.Nat.{add-sub-cancel-left}
 use native.Mathlib.Omega.{arith}
 use native.Mathlib.Numerals.{add-one}
 use Rattle.float64.specs.Ops.{_⊘_, _⊗_}
 use Rattle.vectors.specs.Vec.{at}
 use Rattle.banded.specs.Rows.{less}
 use Rattle.banded.specs.Solve.{backAt}
-use Rattle.banded.specs.Run.{flat, HasRow}
+use Rattle.banded.specs.Run.{ofRun, HasRow}
 use Rattle.banded.proofs.Laws.{row-fits, within, less-more}
 use Rattle.substitution.proofs.back_at.Statement.{statement}
 use Rattle.substitution.proofs.back_at.Tie as tie
 
 abbrev Inv-loop : tie.InvT-loop
-Inv-loop s k m i b d v₀ n t₀ v t = (t ≤ n) × (v ≡ less (at s (m * (k + 1) + i) ⊘ flat k s i k) (λ n. flat k s (i + 1 + n) (k - (n + 1)) ⊗ at s (m * (k + 1) + (i + 1 + n))) t)
+Inv-loop s k m i b d v₀ n t₀ v t = (t ≤ n) × (v ≡ less (at s (m * (k + 1) + i) ⊘ ofRun k s i i) (λ n. ofRun k s (i + 1 + n) i ⊗ at s (m * (k + 1) + (i + 1 + n))) t)
 
 abbrev μ-loop : tie.MeasureT-loop
 μ-loop s k m i b d v₀ n t₀ v t = n - t
@@ -30,7 +31,8 @@ get-requires c κs = let st = c .before in
 
 loop-holds : tie.Need-loop-holds Inv-loop μ-loop
 unfolding less
-loop-holds c = (search needs, rw (c .before .before .get .ensures))
+loop-holds c = let a = c .before .before .before .before .args in
+    (search needs, rw (c .before .before .get .ensures, add-sub-cancel-left (a .i) (a .k)))
 
 add-get-2 : tie.Need-add-get-2 Inv-loop μ-loop
 add-get-2 c = let n-is = c .before .before in
@@ -47,8 +49,10 @@ get-requires-2 c κs = let at-loop = c .before in
 
 loop-again : tie.Need-loop-again Inv-loop μ-loop
 loop-again c = let at-loop = c .before .before .before in
+    let a = at-loop .before .before .before .before .before .args in
     let t = at-loop .loop .t in
-    (search needs, less-more _ _ t (at-loop .loop .inv .1) (rw (c .before .get2 .ensures)) (add-one t))
+    let e : a .i + a .k - (a .i + 1 + t) ≡ a .k - (t + 1) = omega arith in
+    (search needs, less-more _ _ t (at-loop .loop .inv .1) (rw (c .before .get2 .ensures, e)) (add-one t))
 
 returns : tie.Need-returns Inv-loop μ-loop
 unfolding backAt

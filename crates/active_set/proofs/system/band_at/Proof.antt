@@ -1,5 +1,7 @@
 use borrow.Author.Needs.{needs}
 use mathlib.Core.Path.{_≡_, _∙_}
+use Rattle.banded.specs.Rows.{placed}
+use Rattle.gram.specs.Gram.{gram}
 use Rattle.active_set.specs.ActiveSet.{compressed}
 use lib.ListN.{getD}
 use Prim.Native.Nat.{_-_, _+_}
@@ -8,11 +10,11 @@ use Rattle.active_set.proofs.system.band_at.Statement.{statement}
 use Rattle.active_set.proofs.system.band_at.Tie as tie
 
 returns : tie.Need-returns
-unfolding compressed
+unfolding placed
 returns c = simp (lt-ltb _ _ (c .if1 .taken))
 
 returns-2 : tie.Need-returns-2
-unfolding compressed
+unfolding placed compressed gram
 returns-2 c = let wj = c .before .before in
     let wi = wj .before .before in
     let el = wi .before .before in
@@ -22,7 +24,7 @@ returns-2 c = let wj = c .before .before in
     rw (le-ltb _ _ (el .if1 .left), ← e, le-leb _ _ (c .if2 .taken))
 
 returns-3 : tie.Need-returns-3
-unfolding compressed
+unfolding placed compressed gram
 returns-3 c = let wj = c .before .before in
     let wi = wj .before .before in
     let el = wi .before .before in

@@ -1,10 +1,9 @@
 use borrow.Author.Needs.{needs}
-use mathlib.Core.Path.{_≡_, sym, _∙_}
+use mathlib.Core.Path.{_≡_}
 use native.Mathlib.Omega.{arith}
-use Prim.Native.Nat.{_≤_, _-_, _+_, _*_}
-use Rattle.vectors.proofs.Parts.{first-part}
+use Prim.Native.Nat.{_≤_, _-_}
 use Rattle.banded.proofs.Laws.{rows-fit}
-use Rattle.banded.proofs.Filling.{laid-none, laid-more, laid-done}
+use Rattle.banded.proofs.Filling.{laid-none, laid-more}
 use Rattle.banded.specs.Layout.{Laid}
 use Rattle.active_set.specs.ActiveSet.{compressed}
 use Rattle.active_set.proofs.system.fill_bands.Statement.{statement}
@@ -36,9 +35,7 @@ same-length c = c .before .loop .inv .1 .kept .size
 returns : tie.Need-returns Inv-loop μ-loop
 returns c = let a = c .before .before .before .before .args in
     let e : c .before .loop .p ≡ a .q = omega arith in
-    let w = rw e at (c .before .loop .inv .1) in
-    let size = w .kept .size in
-    (sym (first-part (a .q * (a .k + 1)) (c .before .loop .s) (omega arith)) ∙ laid-done w (omega arith) .0, w .kept)
+    rw e at (c .before .loop .inv .1)
 
 pub fill-bands-spec : {M : Type 1} → statement M
 fill-bands-spec =

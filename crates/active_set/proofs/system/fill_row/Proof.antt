@@ -6,12 +6,13 @@ use Prim.Native.Nat.{_≤_, _-_, _+_, _*_}
 use Rattle.vectors.specs.Vec.{Written}
 use Rattle.vectors.proofs.Laws.{none, store-more}
 use Rattle.banded.proofs.Laws.{one-row}
+use Rattle.banded.specs.Rows.{placed}
 use Rattle.active_set.specs.ActiveSet.{compressed}
 use Rattle.active_set.proofs.system.fill_row.Statement.{statement}
 use Rattle.active_set.proofs.system.fill_row.Tie as tie
 
 abbrev Inv-loop : tie.InvT-loop
-Inv-loop s₀ free g k p a c₀ s c = (c ≤ k + 1) × Written (p * (k + 1)) (p * (k + 1) + c) (λ j. compressed k g free p (j - p * (k + 1))) s₀ s
+Inv-loop s₀ free g k p a c₀ s c = (c ≤ k + 1) × Written (p * (k + 1)) (p * (k + 1) + c) (λ j. placed k (compressed k g free) p (j - p * (k + 1))) s₀ s
 
 abbrev μ-loop : tie.MeasureT-loop
 μ-loop s₀ free g k p a c₀ s c = k + 1 - c
@@ -41,7 +42,7 @@ loop-again c = let a = c .before .before .before .before .before .args in
     let l = c .before .before .loop in
     let size = l .inv .1 .size in (
       search needs,
-      store-more (a .p * (a .k + 1)) (l .c) (compressed (a .k) (a .g) (a .free .now) (a .p)) (a .s .now) (l .s) _ (l .inv .1) (omega (arith, one-row (a .k) (a .p))) (c .band-at .ensures),
+      store-more (a .p * (a .k + 1)) (l .c) (placed (a .k) (compressed (a .k) (a .g) (a .free .now)) (a .p)) (a .s .now) (l .s) _ (l .inv .1) (omega (arith, one-row (a .k) (a .p))) (c .band-at .ensures),
     )
 
 returns : tie.Need-returns Inv-loop μ-loop

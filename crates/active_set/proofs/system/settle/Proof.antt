@@ -19,7 +19,7 @@ returns-2 c = let cf = c .before .before in
     let cg = cb .before .before in
     let a = cg .before .before .before .before .before .args in
     settled-all (a .k) (a .q) (a .n) (cg .gram-offsets .result) (a .dy .now) (a .lam) (a .marks .now) (a .s .now) (cb .fill-bands .last .0) (cr .fill-right .last .0) (cf .factor-solve-at .last .0)
-    (cf .factor-solve-at .result) (cg .gram-offsets .ensures) (cb .fill-bands .ensures .0) (cb .fill-bands .ensures .1) (cr .fill-right .ensures .0) (cr .fill-right .ensures .1) (cf .factor-solve-at .ensures)
+    (cf .factor-solve-at .result) (cg .gram-offsets .ensures) (cb .fill-bands .ensures) (cr .fill-right .ensures .0) (cr .fill-right .ensures .1) (cf .factor-solve-at .ensures)
 
 pub settle-spec : {M : Type 1} → statement M
 settle-spec =
