@@ -16,7 +16,7 @@ use Rattle.float64.specs.Ops.{_⊕_, _⊖_}
 use Rattle.vectors.specs.Vec.{at, KeptOf}
 use Rattle.vectors.proofs.Parts.{at-part}
 use Rattle.dual_point.specs.Places.{point}
-use Rattle.active_set.specs.ActiveSet.{Hold, free, at-lam, at-minus-lam, isFree, holdAt, freeTo, compressed, lessHeld, lessTo, rightOf}
+use Rattle.active_set.specs.ActiveSet.{Hold, free, at-lam, at-minus-lam, isFree, holdAt, freeTo, compressed, lessHeld, lessTo, compressedRhsAt}
 use Rattle.active_set.specs.Marks.{markOf, holdOf, Marks}
 
 -- ---- marks
@@ -193,7 +193,7 @@ less-ext lam g h h′ i lo u zero e = refl
 less-ext lam g h h′ i lo u (suc n) e = rw (less-ext lam g h h′ i lo u n (λ j l. e j (omega arith)), e n (omega arith))
 
 pub right-ext : (k : ℕ) (g dy : List Float) (lam : Float) (h h′ : ℕ → Hold) (m i : ℕ) → ((j : ℕ) → j < m → h j ≡ h′ j)
-    → rightOf k g dy lam h m i ≡ rightOf k g dy lam h′ m i
-unfolding rightOf
+    → compressedRhsAt k g dy lam h m i ≡ compressedRhsAt k g dy lam h′ m i
+unfolding compressedRhsAt
 right-ext k g dy lam h h′ m i e =
     less-ext lam g h h′ i (i - k) (at dy i) (min (i + k + 1) m - (i - k)) (λ j l. e (i - k + j) (omega (arith, min-le-right (i + k + 1) m)))

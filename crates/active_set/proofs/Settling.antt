@@ -16,7 +16,7 @@ use Rattle.banded.specs.Run.{Keeps}
 use Rattle.banded.specs.Layout.{Laid}
 use Rattle.banded.proofs.Filling.{laid-keeps, keeps-still}
 use Rattle.substitution.specs.Solved.{Solved}
-use Rattle.active_set.specs.ActiveSet.{Hold, freeTo, compressed, rightOf, rightSide, solved}
+use Rattle.active_set.specs.ActiveSet.{Hold, freeTo, compressed, compressedRhsAt, compressedRhs, solved}
 use Rattle.active_set.specs.Marks.{holdOf, heldBy, Marks, Settled}
 use Rattle.active_set.proofs.Laws.{hold-mark, band-ext, right-ext}
 
@@ -28,11 +28,11 @@ module _ {h : ℕ → Hold} {n m q : ℕ} {v : List ℕ} (w : Marks h n m v q) w
   rows-is : (k : ℕ) (g s : List Float) → Keeps k q (compressed k g v) s → Keeps k q (compressed k g (freeTo h m)) s
   rows-is k g s o i j l b e = o i j l b e ∙ band-ext k g v (freeTo h m) q (w .free) i j l b
 
-  right-is : (k : ℕ) (g dy : List Float) (lam : Float) → list q (λ r. rightOf k g dy lam (heldBy n v) m (getD v r 0)) ≡ rightSide k g dy lam h m (freeTo h m)
+  right-is : (k : ℕ) (g dy : List Float) (lam : Float) → list q (λ r. compressedRhsAt k g dy lam (heldBy n v) m (getD v r 0)) ≡ compressedRhs k g dy lam h m (freeTo h m)
   right-is k g dy lam =
-      list-ext q (λ r. rightOf k g dy lam (heldBy n v) m (getD v r 0)) (λ r. rightOf k g dy lam h m (getD (freeTo h m) r 0))
-      (λ j l. right-ext k g dy lam (heldBy n v) h m (getD v j 0) held-by ∙ ap (rightOf k g dy lam h m) (w .free j l))
-      ∙ ap (λ (x : ℕ). list x (λ r. rightOf k g dy lam h m (getD (freeTo h m) r 0))) (w .count)
+      list-ext q (λ r. compressedRhsAt k g dy lam (heldBy n v) m (getD v r 0)) (λ r. compressedRhsAt k g dy lam h m (getD (freeTo h m) r 0))
+      (λ j l. right-ext k g dy lam (heldBy n v) h m (getD v j 0) held-by ∙ ap (compressedRhsAt k g dy lam h m) (w .free j l))
+      ∙ ap (λ (x : ℕ). list x (λ r. compressedRhsAt k g dy lam h m (getD (freeTo h m) r 0))) (w .count)
 
 -- with nothing to solve
 pub settled-none : (k n : ℕ) (dy : List Float) (lam : Float) (v : List ℕ) (q : ℕ) (s : List Float) → q ≡ 0 → Settled k n dy lam v q s s true
@@ -46,7 +46,7 @@ settled-none k n dy lam v q s e = record {
 -- s₀ with the rows, s₁, with the right side, s₂, solved, s₃
 pub settled-all : (k q n : ℕ) (g dy : List Float) (lam : Float) (v : List ℕ) (s₀ s₁ s₂ s₃ : List Float) (ok : Bool) → g ≡ gramRow k
     → Laid k q (compressed k g v) s₀ s₁
-    → part (q * (k + 1)) q s₂ ≡ list q (λ r. rightOf k g dy lam (heldBy n v) (n - k) (getD v r 0)) → Kept (q * (k + 1)) q s₁ s₂
+    → part (q * (k + 1)) q s₂ ≡ list q (λ r. compressedRhsAt k g dy lam (heldBy n v) (n - k) (getD v r 0)) → Kept (q * (k + 1)) q s₁ s₂
     → Solved 0 k q s₂ s₃ ok → Settled k n dy lam v q s₀ s₃ ok
 unfolding solved
 settled-all k q n g dy lam v s₀ s₁ s₂ s₃ ok isg bands right two sol =
@@ -57,7 +57,7 @@ settled-all k q n g dy lam v s₀ s₁ s₂ s₃ ok isg bands right two sol =
       answer = λ h w. sol .answer (compressed k g (freeTo h (n - k))) (holds h w) ∙ λ i. sound k (compressed k (isg i) (freeTo h (n - k))) q;
       solution = λ h w t. rw zero-add at (sol .solution (compressed k g (freeTo h (n - k))) (holds h w) t)
           ∙ ap (solve k (rows k (compressed k g (freeTo h (n - k))) q)) (right ∙ right-is w k g dy lam)
-          ∙ (λ i. solve k (rows k (compressed k g (freeTo h (n - k))) (w .count i)) (rightSide k g dy lam h (n - k) (freeTo h (n - k))))
+          ∙ (λ i. solve k (rows k (compressed k g (freeTo h (n - k))) (w .count i)) (compressedRhs k g dy lam h (n - k) (freeTo h (n - k))))
           ∙ λ i. solved k (isg i) dy lam h (n - k);
       kept = kept-then 0 (b + q) (kept-then 0 (b + q) (bands .kept) two (omega arith) (omega arith) (omega arith) (omega arith)) (sol .kept) (omega arith) (omega arith) (omega arith) (omega arith);
     }

@@ -54,13 +54,13 @@ lessTo lam g h i lo v zero = v
 lessTo lam g h i lo v (suc n) = lessHeld lam g i (lo + n) (h (lo + n)) (lessTo lam g h i lo v n)
 
 -- the right side at the free place i of m: D y less what the held places from i - k (subtraction stops at 0) to i + k account for
-unfoldable pub rightOf : ℕ → List Float → List Float → Float → (ℕ → Hold) → ℕ → ℕ → Float
-rightOf k g dy lam h m i = let lo = i - k in lessTo lam g h i lo (at dy i) (min (i + k + 1) m - lo)
+unfoldable pub compressedRhsAt : ℕ → List Float → List Float → Float → (ℕ → Hold) → ℕ → ℕ → Float
+compressedRhsAt k g dy lam h m i = let lo = i - k in lessTo lam g h i lo (at dy i) (min (i + k + 1) m - lo)
 
 -- at each of the free places f
-abbrev pub rightSide : ℕ → List Float → List Float → Float → (ℕ → Hold) → ℕ → List ℕ → List Float
-rightSide k g dy lam h m f = list (length f) (λ r. rightOf k g dy lam h m (getD f r 0))
+abbrev pub compressedRhs : ℕ → List Float → List Float → Float → (ℕ → Hold) → ℕ → List ℕ → List Float
+compressedRhs k g dy lam h m f = list (length f) (λ r. compressedRhsAt k g dy lam h m (getD f r 0))
 
 -- the solution, by the operations of the factor and the solve
 unfoldable pub solved : ℕ → List Float → List Float → Float → (ℕ → Hold) → ℕ → List Float
-solved k g dy lam h m = let f = freeTo h m in solve k (rows k (compressed k g f) (length f)) (rightSide k g dy lam h m f)
+solved k g dy lam h m = let f = freeTo h m in solve k (rows k (compressed k g f) (length f)) (compressedRhs k g dy lam h m f)

@@ -5,7 +5,7 @@ ghost use lib.ListN.{length, getD};
 ghost use Rattle.vectors.specs.Vec.{list, part, Written, Kept};
 ghost use Rattle.banded.specs.Rows.{placed};
 ghost use Rattle.banded.specs.Layout.{Laid};
-ghost use Rattle.active_set.specs.ActiveSet.{compressed, lessHeld, rightOf};
+ghost use Rattle.active_set.specs.ActiveSet.{compressed, lessHeld, compressedRhsAt};
 ghost use Rattle.active_set.specs.Marks.{holdOf, heldBy, Cell, Bands, Side, Freed, Settled};
 
 fn wide(x: u32) -> usize
@@ -82,7 +82,7 @@ fn right_at(
     i: usize,
 ) -> f64
     requires { ⌜ Side k n m i (length (now marks)) (length (now dy)) ⌝ }
-    ensures { λ r. ⌜ r ≡ rightOf k g (now (dy .entry)) lam (heldBy n (now (marks .entry))) m i ⌝ }
+    ensures { λ r. ⌜ r ≡ compressedRhsAt k g (now (dy .entry)) lam (heldBy n (now (marks .entry))) m i ⌝ }
 {
     let lo = vectors::over(i, k);
     let hi = vectors::smaller(i + k + 1, m);
@@ -109,7 +109,7 @@ fn fill_right(
     q: usize,
 )
     requires { ⌜ Freed k n (now marks) (length (now dy)) q × (b + q ≤ length (now s)) ⌝ }
-    ensures { λ _. ⌜ (part b q (now (s .exit)) ≡ list q (λ r. rightOf k g (now (dy .entry)) lam (heldBy n (now (marks .entry))) (n - k) (getD (now (marks .entry)) r 0)))
+    ensures { λ _. ⌜ (part b q (now (s .exit)) ≡ list q (λ r. compressedRhsAt k g (now (dy .entry)) lam (heldBy n (now (marks .entry))) (n - k) (getD (now (marks .entry)) r 0)))
         × Kept b q (now (s .entry)) (now (s .exit)) ⌝ }
 {
     let mut p = 0;

@@ -11,12 +11,12 @@ use Rattle.differences.specs.Diff.{gramRow}
 use Rattle.certificate.specs.Certificate.{Certificate}
 use Rattle.search.specs.Search.{Problem, Ended, small}
 use Rattle.search.specs.Demand3 as search
-use Rattle.search.proofs.Demand.{demand3, kept-closed}
+use Rattle.search.proofs.Demand.{demand3, bounded-closed}
 use Rattle.interior_point.specs.InteriorPoint.{State, problem, origin, interiorPoint}
 use Rattle.l2.specs.L2.{soundL2}
 use Rattle.questions.specs.Questions.{Asked, Lent, question}
 use Rattle.questions.proofs.Laws as questions
-use Rattle.fit.specs.Fit.{Found, Fit, Outcome, refused, fitted, places, closed, pathL2, pathZero, pathFlat, polished, searchOf, keptOf, firstGap, foundWith, pathEnd, lamZero, lamHigh, pathL1, path, written, outcome, soundDD, fit}
+use Rattle.fit.specs.Fit.{Found, Fit, Outcome, refused, fitted, places, closed, pathL2, pathZero, pathFlat, polished, searchOf, keptOf, foundWith, pathEnd, lamZero, lamHigh, pathL1, path, written, outcome, soundDD, fit}
 use Rattle.fit.specs.Demand3.{Bounds, withMaxIter, Demand3}
 use Rattle.fit.proofs.Sign.{tol-positive, lam-positive, primal-clear}
 use Rattle.fit.proofs.Passed.{same-questions, fit-passed, outcome-some, passed}
@@ -26,7 +26,7 @@ abbrev problemOf : Asked → Problem State
 problemOf a = problem (a .order) (gramRow (a .order)) (a .y) (a .lam)
 
 abbrev Searches : Asked → Type 0
-Searches a = search.Demand3 (problemOf a) (a .tol) (origin (places a))
+Searches a = search.SearchDemand3 (problemOf a) (a .tol) (origin (places a))
 
 searches : (a : Asked) (l : Lent) → questions.Passed a l → lamZero a ≡ false → Searches a
 searches a l q z =
@@ -37,35 +37,32 @@ searches a l q z =
 -- ---- the numeric bounds
 
 -- the same four bounds of what a path finds
-record Bounded (max-iter : ℕ) (f : Found) : Type 0 where
-  kept : search.Kept max-iter (f .n-iter) (f .improvements) (f .first-gap) (f .best-gap)
+abbrev FoundBounds : ℕ → Found → Type 0
+FoundBounds max-iter f = search.Bounded max-iter (f .n-iter) (f .improvements) (f .first-gap) (f .best-gap)
 
 abbrev Within : ℕ → Option Found → Type 0
 Within max none = T true
-Within max (some f) = Bounded max f
+Within max (some f) = FoundBounds max f
 
-bounded-closed : (max : ℕ) (x d : List Float) (g o : Float) → Bounded max (closed x d g o)
-bounded-closed max x d g o = record { kept = kept-closed max g }
-
-bounded-end : (a : Asked) → Searches a → Bounded (a .max-iter) (pathEnd a (searchOf a))
-unfolding pathEnd searchOf interiorPoint firstGap problem
-bounded-end a s = record { kept = s .kept (a .max-iter) }
+bounded-end : (a : Asked) → Searches a → FoundBounds (a .max-iter) (pathEnd a (searchOf a))
+unfolding pathEnd searchOf interiorPoint
+bounded-end a s = s .bounded (a .max-iter)
 
 within-l2 : (max : ℕ) (a : Asked) → Within max (pathL2 a)
 unfolding pathL2
-within-l2 max a = go (soundL2 (a .order) (a .y) (a .lam)) _ (bounded-closed max _ _ _ _)
+within-l2 max a = go (soundL2 (a .order) (a .y) (a .lam)) _ (bounded-closed max _)
   where
-    go : (b : Bool) (f : Found) → Bounded max f → Within max (cond b (some f) none)
+    go : (b : Bool) (f : Found) → FoundBounds max f → Within max (cond b (some f) none)
     go true f k = k
     go false f k = tt
 
-within-l1 : (a : Asked) (l : Lent) → questions.Passed a l → Bounded (a .max-iter) (pathL1 a)
+within-l1 : (a : Asked) (l : Lent) → questions.Passed a l → FoundBounds (a .max-iter) (pathL1 a)
 unfolding pathL1 pathZero pathFlat
 within-l1 a l q = go (lamZero a) refl (lamHigh a)
   where
-    go : (z : Bool) → lamZero a ≡ z → (m : Bool) → Bounded (a .max-iter) (cond z (pathZero a) (cond m (pathFlat a) (pathEnd a (searchOf a))))
-    go true e m = bounded-closed (a .max-iter) _ _ _ _
-    go false e true = bounded-closed (a .max-iter) _ _ _ _
+    go : (z : Bool) → lamZero a ≡ z → (m : Bool) → FoundBounds (a .max-iter) (cond z (pathZero a) (cond m (pathFlat a) (pathEnd a (searchOf a))))
+    go true e m = bounded-closed (a .max-iter) _
+    go false e true = bounded-closed (a .max-iter) _
     go false e false = bounded-end a (searches a l q e)
 
 within : (a : Asked) (l : Lent) → questions.Passed a l → Within (a .max-iter) (path a)
@@ -80,23 +77,21 @@ pub bounds : (a : Asked) (l : Lent) (f : Fit) → fit a l ≡ fitted f → Bound
 unfolding written
 bounds a l f e =
     let p = passed a l f e in
-    let w : Bounded (a .max-iter) (p .found) = subst (Within (a .max-iter)) (p .path-is) (within a l (questions.passed a l (p .asked))) in
-    let k = w .kept in
-    subst (Bounds (a .max-iter)) (sym (p .made)) (record { limit = k .limit; ten = k .ten; few = k .few; shrunk = k .shrunk })
+    subst (Bounds (a .max-iter)) (sym (p .made)) (subst (Within (a .max-iter)) (p .path-is) (within a l (questions.passed a l (p .asked))))
 
 -- ---- another limit
 
--- an end with the same state, best gap and counts
-abbrev endWith : State → ℕ → Float → ℕ → Ended State
-endWith s n-iter best improvements = record { state = s; n-iter = n-iter; best = best; improvements = improvements; reason = small }
+-- an end with the same state, gaps and counts
+abbrev endWith : State → ℕ → Float → Float → ℕ → Ended State
+endWith s n-iter first best improvements = record { state = s; n-iter = n-iter; first = first; best = best; improvements = improvements; reason = small }
 
 -- the reason does not reach the fit
-end-from : (a : Asked) (e : Ended State) → pathEnd a e ≡ pathEnd a (endWith (e .state) (e .n-iter) (e .best) (e .improvements))
+end-from : (a : Asked) (e : Ended State) → pathEnd a e ≡ pathEnd a (endWith (e .state) (e .n-iter) (e .first) (e .best) (e .improvements))
 unfolding pathEnd keptOf
 end-from a e = refl
 
 same-end : (a : Asked) (e f : Ended State) → search.Alike e f → pathEnd a e ≡ pathEnd a f
-same-end a e f h = end-from a e ∙ (λ i. pathEnd a (endWith (h .state i) (h .n-iter i) (h .best i) (h .improvements i))) ∙ sym (end-from a f)
+same-end a e f h = end-from a e ∙ (λ i. pathEnd a (endWith (h .state i) (h .n-iter i) (h .first i) (h .best i) (h .improvements i))) ∙ sym (end-from a f)
 
 polished-other : (m : ℕ) (a : Asked) (c : Certificate) (z : Option (List Float)) → polished (withMaxIter m a) c z ≡ polished a c z
 unfolding polished
@@ -104,7 +99,7 @@ polished-other m a c none = refl
 polished-other m a c (some z) = refl
 
 end-other : (m : ℕ) (a : Asked) (e : Ended State) → pathEnd (withMaxIter m a) e ≡ pathEnd a e
-unfolding pathEnd firstGap keptOf
+unfolding pathEnd keptOf
 end-other m a e = ap (λ (c : Certificate). foundWith a c e) (polished-other m a _ _)
 
 -- what the path finds, given where the search ended

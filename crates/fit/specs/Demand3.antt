@@ -1,26 +1,15 @@
 -- Demand 3, clause by clause, of the whole fit (`Rattle.fit.proofs.Demand3` proves it).
 -- The search counts the iterations and the improvements (`Rattle.search.specs.Search`): the best gap starts as the first gap, and an iteration is an
 -- improvement when its gap is below 0.99 times the best gap, the product rounded; then its gap becomes the best.
-use Prim.Native.Nat.{ℕ, _+_, _*_, _^_, _≤_, _<_}
+use Prim.Native.Nat.{ℕ, _≤_, _<_}
 use mathlib.Core.Path.{_≡_}
-use lib.IntN.{pos, _*ℤ_}
-use lib.Signed.{_≤ℤ_}
-use lib.Dec.{T}
-use lib.Ieee.Scale.{finite}
-use Rattle.search.specs.Demand3.{units}
+use Rattle.search.specs.Demand3.{Bounded}
 use Rattle.questions.specs.Questions.{Asked, Lent}
 use Rattle.fit.specs.Fit.{Fit, fitted, fit}
 
--- the numeric bounds on a fit with the step limit max_iter, J its improvements
-pub record Bounds (max-iter : ℕ) (f : Fit) : Type 0 where
-  -- n_iter is at most max_iter
-  pub limit : f .n-iter ≤ max-iter
-  -- and at most 10·J + 10,
-  pub ten : f .n-iter ≤ 10 * f .improvements + 10
-  -- and J is at most 144,763.
-  pub few : f .improvements ≤ 144763
-  -- If the first and best gaps are finite, best gap × 100^J is at most first gap × 99^J as exact numbers, each gap counted in whole units of 2^-1074.
-  pub shrunk : T (finite (f .first-gap)) → T (finite (f .best-gap)) → (units (f .best-gap) *ℤ pos (100 ^ f .improvements)) ≤ℤ (units (f .first-gap) *ℤ pos (99 ^ f .improvements))
+-- the numeric bounds on a fit with the step limit max_iter: n_iter, J, first gap and best gap are bounded as a search's are
+abbrev pub Bounds : ℕ → Fit → Type 0
+Bounds max-iter f = Bounded max-iter (f .n-iter) (f .improvements) (f .first-gap) (f .best-gap)
 
 -- all else alike: the same but for the step limit
 abbrev pub withMaxIter : ℕ → Asked → Asked

@@ -14,7 +14,7 @@ use Rattle.gram.specs.Gram.{gram, zstar, lamMax}
 use Rattle.certificate.specs.Certificate.{Certificate, certify, gapOf, minus}
 use Rattle.decomposition.specs.Knots.{knots}
 use Rattle.search.specs.Search.{Ended}
-use Rattle.interior_point.specs.InteriorPoint.{State, origin, interiorPoint}
+use Rattle.interior_point.specs.InteriorPoint.{State, interiorPoint}
 use Rattle.polish.specs.Polish.{polish}
 use Rattle.l2.specs.L2.{soundL2, trendL2, objectiveL2, gapL2}
 use Rattle.questions.specs.Questions.{Asked, Lent, question}
@@ -109,17 +109,13 @@ keptOf a e =
     let k = a .order in
     polished a (certify k (a .y) (a .lam) (e .state .point .z)) (polish k (gramRow k) (diffK k (a .y)) (a .lam) (e .state .point))
 
--- the gap at the start
-unfoldable pub firstGap : Asked → Float
-firstGap a = gapOf (certify (a .order) (a .y) (a .lam) (origin (places a) .point .z))
-
 -- L1 with 0 < lam < lam_max: the search, then the polish; c is the certificate that is kept
 abbrev pub foundWith : Asked → Certificate → Ended State → Found
 foundWith a c e = record {
   trend = c .trend;
   dx = c .jumps;
   gap = gapOf c;
-  first-gap = firstGap a;
+  first-gap = e .first;
   best-gap = e .best;
   objective = c .primal;
   n-iter = e .n-iter;

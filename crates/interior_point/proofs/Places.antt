@@ -10,7 +10,8 @@ use lib.Ieee.{Float}
 use Rattle.vectors.proofs.Parts.{putBack, kept-within}
 use Rattle.banded.specs.Rows.{sound}
 use Rattle.newton_system.specs.Newton.{system}
-use Rattle.line_search.specs.LineSearch.{searchLine, taken}
+use Rattle.newton_system.specs.Rows.{dataOf}
+use Rattle.line_search.specs.LineSearch.{searchLine, nextPoint}
 use Rattle.dual_point.specs.Lanes.{searchArea}
 use Rattle.dual_point.proofs.Points.{point-range, point-put}
 use Rattle.newton_step.specs.Stepped.{stepArea, stepOf, Stepped}
@@ -24,13 +25,13 @@ pub first-places : (m : ℕ) (s : List Float) → take (m - 0) (drop 0 s) ≡ ta
 first-places m s = let z : m - 0 ≡ m = omega arith in rw z
 
 -- a step on the places from a up to e
-pub stepped-at : (k : ℕ) (g dy : List Float) (lam u : Float) (a e m : ℕ) (s x : List Float) (r : Step) → a + stepArea k m ≤ e → e ≤ length s → length x ≡ e - a
-    → Stepped k g dy lam u 0 m (take (e - a) (drop a s)) x r → Stepped k g dy lam u a m s (putBack a (e - a) s x) r
-stepped-at k g dy lam u a e m s x r size fits l w =
+pub stepped-at : (k : ℕ) (g dy : List Float) (lam inv-t : Float) (a e m : ℕ) (s x : List Float) (r : Step) → a + stepArea k m ≤ e → e ≤ length s → length x ≡ e - a
+    → Stepped k g dy lam inv-t 0 m (take (e - a) (drop a s)) x r → Stepped k g dy lam inv-t a m s (putBack a (e - a) s x) r
+stepped-at k g dy lam inv-t a e m s x r size fits l w =
     let p = point-range m a e s (omega arith) in
     let f : a + (e - a) ≤ length s = omega arith in
     record {
-      answer = w .answer ∙ λ i. stepOf (sound k (system k g lam (p i)) m) (searchLine k g dy lam u (p i) .step);
-      moves = point-put a (e - a) m s x f l (omega arith) ∙ w .moves ∙ λ i. cond (sound k (system k g lam (p i)) m) (taken lam (p i) (searchLine k g dy lam u (p i))) (p i);
+      answer = w .answer ∙ λ i. stepOf (sound k (system k g lam (p i)) m) (searchLine (dataOf k g dy lam inv-t) (p i) .step);
+      moves = point-put a (e - a) m s x f l (omega arith) ∙ w .moves ∙ λ i. cond (sound k (system k g lam (p i)) m) (nextPoint lam (p i) (searchLine (dataOf k g dy lam inv-t) (p i))) (p i);
       kept = rw add-zero at (kept-within a (e - a) 0 (stepArea k m) s x f l (w .kept));
     }

@@ -17,11 +17,12 @@ use Rattle.vectors.proofs.Parts.{length-part, part-below, part-above}
 use Rattle.differences.specs.Diff.{diffK, gramRow}
 use Rattle.banded.specs.Rows.{sound}
 use Rattle.certificate.specs.Certificate.{certify, gapOf}
-use Rattle.search.specs.Search.{Turn, lost, moved, Problem, Point, Ended, Reason, small, spent, stalled, pivot, ended, enough, better, advance, start, run}
+use Rattle.search.specs.Search.{lost, moved, Problem, Point, Ended, Reason, small, spent, stalled, pivot, gap, ended, enough, improved, advance, startAt, run}
 use Rattle.search.proofs.Trace.{run-small, run-spent, run-stalled, run-lost, run-moved, idle-room}
 use Rattle.dual_point.specs.Dual.{Dual}
 use Rattle.newton_system.specs.Newton.{system}
-use Rattle.line_search.specs.LineSearch.{searchLine, taken}
+use Rattle.newton_system.specs.Rows.{dataOf}
+use Rattle.line_search.specs.LineSearch.{Trial, searchLine, nextPoint}
 use Rattle.dual_point.specs.Lanes.{searchArea}
 use Rattle.dual_point.specs.Places.{point}
 use Rattle.dual_point.proofs.Points.{point-above}
@@ -63,6 +64,7 @@ go-on false false true false e = record { found = refl; wide = refl; within = re
 pub record EndsAt (e : Ended State) (p : Point State) : Type 0 where
   pub state : p .state ≡ e .state
   pub n-iter : p .n-iter ≡ e .n-iter
+  pub first : p .first ≡ e .first
   pub best : p .best ≡ e .best
   pub improvements : p .improvements ≡ e .improvements
 
@@ -70,23 +72,24 @@ ended-at : (e : Ended State) (p : Point State) (r : Reason) → ended p r ≡ e 
 ended-at e p r q = record {
   state = ap (λ (x : Ended State). x .state) q;
   n-iter = ap (λ (x : Ended State). x .n-iter) q;
+  first = ap (λ (x : Ended State). x .first) q;
   best = ap (λ (x : Ended State). x .best) q;
   improvements = ap (λ (x : Ended State). x .improvements) q;
 }
 
-module _ (L : Problem State) (tol : Float) (limit : ℕ) (e : Ended State) (p : Point State) (gone : Bool) (h : p .n-iter ≤ limit) (left : leftOf L tol (limit - p .n-iter) p gone ≡ e) where
-  pub finish : (a b c d : Bool) → gone ≡ a → enough L tol p ≡ b → ltb (p .n-iter) limit ≡ c → eqb (p .stall) 10 ≡ d
+module _ (L : Problem State) (tol : Float) (max-iter : ℕ) (e : Ended State) (p : Point State) (gone : Bool) (h : p .n-iter ≤ max-iter) (left : leftOf L tol (max-iter - p .n-iter) p gone ≡ e) where
+  pub finish : (a b c d : Bool) → gone ≡ a → enough L tol p ≡ b → ltb (p .n-iter) max-iter ≡ c → eqb (p .stall) 10 ≡ d
       → cond a false (cond b false (cond c (not d) false)) ≡ false → EndsAt e p
-  finish true b c d u v w x q = ended-at e p pivot (sym (ap (leftOf L tol (limit - p .n-iter) p) u) ∙ left)
-  finish false true c d u v w x q = ended-at e p small (sym (run-small L tol (limit - p .n-iter) p v) ∙ sym (ap (leftOf L tol (limit - p .n-iter) p) u) ∙ left)
+  finish true b c d u v w x q = ended-at e p pivot (sym (ap (leftOf L tol (max-iter - p .n-iter) p) u) ∙ left)
+  finish false true c d u v w x q = ended-at e p small (sym (run-small L tol (max-iter - p .n-iter) p v) ∙ sym (ap (leftOf L tol (max-iter - p .n-iter) p) u) ∙ left)
   finish false false false d u v w x q =
-      let o : limit ≤ p .n-iter = ltb-false (p .n-iter) limit w in
-      let z : limit - p .n-iter ≡ 0 = omega arith in
-      ended-at e p spent (sym (run-spent L tol p v) ∙ sym (ap (λ (j : ℕ). run L tol j p) z) ∙ sym (ap (leftOf L tol (limit - p .n-iter) p) u) ∙ left)
+      let o : max-iter ≤ p .n-iter = ltb-false (p .n-iter) max-iter w in
+      let z : max-iter - p .n-iter ≡ 0 = omega arith in
+      ended-at e p spent (sym (run-spent L tol p v) ∙ sym (ap (λ (j : ℕ). run L tol j p) z) ∙ sym (ap (leftOf L tol (max-iter - p .n-iter) p) u) ∙ left)
   finish false false true true u v w x q =
-      let o : p .n-iter < limit = ltb-true (p .n-iter) limit w in
-      let z : limit - p .n-iter ≡ suc (limit - suc (p .n-iter)) = omega arith in
-      ended-at e p stalled (sym (run-stalled L tol (limit - suc (p .n-iter)) p v x) ∙ sym (ap (λ (j : ℕ). run L tol j p) z) ∙ sym (ap (leftOf L tol (limit - p .n-iter) p) u) ∙ left)
+      let o : p .n-iter < max-iter = ltb-true (p .n-iter) max-iter w in
+      let z : max-iter - p .n-iter ≡ suc (max-iter - suc (p .n-iter)) = omega arith in
+      ended-at e p stalled (sym (run-stalled L tol (max-iter - suc (p .n-iter)) p v x) ∙ sym (ap (λ (j : ℕ). run L tol j p) z) ∙ sym (ap (leftOf L tol (max-iter - p .n-iter) p) u) ∙ left)
   finish false false true false u v w x q = absurd (clash refl q)
 
 -- n is the length of the series and m of the dual point
@@ -110,11 +113,12 @@ module _ (k : ℕ) (y : List Float) (lam : Float) where
   }
 
   start-is : (g s : List Float) (v p : Float) → point n m s ≡ origin m .point → v ≡ gapOf (certify k y lam (part n m s))
-      → pointOf k y s (startRun v p) ≡ start (problem k g y lam) (origin m)
+      → pointOf k y s (startRun v p) ≡ startAt (problem k g y lam) (origin m)
   unfolding problem origin
   start-is g s v p e f = λ i. record {
     state = record { point = e i; t = c1e-10; step = infinity };
     n-iter = 0;
+    first = (f ∙ λ j. gapOf (certify k y lam (e j .z))) i;
     best = (f ∙ λ j. gapOf (certify k y lam (e j .z))) i;
     improvements = 0;
     stall = 0;
@@ -133,7 +137,6 @@ module _ (k : ℕ) (y : List Float) (lam : Float) where
       record {
         begins = λ g. start-is g s₃ (p ⊖ d) p (origin-stands s₀ s₁ s₂ s₃ v w q) x;
         standing = record { trend = e ∙ (λ i. certify k y lam (sym z i) .trend); primal = f ∙ (λ i. certify k y lam (sym z i) .primal); gap = x };
-        first = refl;
         lost = refl;
         kept = kept-then 0 (searchArea n) a q (omega arith) (omega arith) (omega arith) (omega arith);
       }
@@ -141,55 +144,50 @@ module _ (k : ℕ) (y : List Float) (lam : Float) where
   -- ---- one iteration
 
   -- the move of the definition, t₁ being the next t
-  move-is : (g : List Float) (p : Dual) (t step v t₁ : Float) → length (p .z) ≡ m → v ≡ gapOf (certify k y lam (p .z))
-      → t₁ ≡ nextT m v (record { point = p; t = t; step = step })
-      → move k g y lam (record { point = p; t = t; step = step })
-      ≡ cond (sound k (system k g lam p) m) (moved (landed lam (record { point = p; t = t; step = step }) t₁ (searchLine k g (diffK k y) lam (c1 ⊘ t₁) p))) lost
+  move-is : (g : List Float) (st : State) (v t₁ : Float) → length (st .point .z) ≡ m → t₁ ≡ nextT m v st
+      → move k g y lam v st ≡ cond (sound k (system k g lam (st .point)) m) (moved (landed lam st t₁ (searchLine (dataOf k g (diffK k y) lam (c1 ⊘ t₁)) (st .point)))) lost
   unfolding move
-  move-is g p t step v t₁ l e f =
-      let st : State = record { point = p; t = t; step = step } in
-      let q : nextT (length (p .z)) (gapOf (certify k y lam (p .z))) st ≡ t₁ = (λ i. nextT (l i) (sym e i) st) ∙ sym f in
-      λ i. cond (sound k (system k g lam p) (l i)) (moved (landed lam st (q i) (searchLine k g (diffK k y) lam (c1 ⊘ q i) p))) lost
+  move-is g st v t₁ l f =
+      let q : nextT (length (st .point .z)) v st ≡ t₁ = (λ i. nextT (l i) v st) ∙ sym f in
+      λ i. cond (sound k (system k g lam (st .point)) (l i)) (moved (landed lam st (q i) (searchLine (dataOf k g (diffK k y) lam (c1 ⊘ q i)) (st .point)))) lost
 
   module _ (g s₀ s₁ : List Float) (r : Run) (t₁ : Float) (w : Step)
       (room : n + stepArea k m ≤ searchArea n) (stands : Standing k y lam s₀ r)
       (next : t₁ ≡ nextT m (r .gap) (stateOf k y s₀ r)) (stepped : Stepped k g (diffK k y) lam (c1 ⊘ t₁) n m s₀ s₁ w) where
-    abbrev dy : List Float
-    dy = diffK k y
+    -- the line search of the step
+    abbrev line : Trial
+    line = searchLine (dataOf k g (diffK k y) lam (c1 ⊘ t₁)) (point n m s₀)
 
     abbrev L : Problem State
     L = problem k g y lam
 
     by-flag : (b : Bool) → sound k (system k g lam (point n m s₀)) m ≡ b
-        → move k g y lam (stateOf k y s₀ r) ≡ cond b (moved (landed lam (stateOf k y s₀ r) t₁ (searchLine k g dy lam (c1 ⊘ t₁) (point n m s₀)))) lost
+        → L .move (gap L (stateOf k y s₀ r)) (stateOf k y s₀ r) ≡ cond b (moved (landed lam (stateOf k y s₀ r) t₁ line)) lost
+    unfolding problem
     by-flag b e =
-        move-is g (point n m s₀) (r .t) (r .step) (r .gap) t₁ (length-part n m s₀) (stands .gap) next
-        ∙ λ i. cond (e i) (moved (landed lam (stateOf k y s₀ r) t₁ (searchLine k g dy lam (c1 ⊘ t₁) (point n m s₀)))) lost
+        (λ i. move k g y lam (sym (stands .gap) i) (stateOf k y s₀ r))
+        ∙ move-is g (stateOf k y s₀ r) (r .gap) t₁ (length-part n m s₀) next
+        ∙ λ i. cond (e i) (moved (landed lam (stateOf k y s₀ r) t₁ line)) lost
 
     -- the definition's test of the gap is the code's
     gap-test : (tol : Float) (b : Bool) → le (r .gap) (tol ⊗ r .primal) ≡ b → enough L tol (pointOf k y s₀ r) ≡ b
     unfolding problem
     gap-test tol b e = sym (λ i. le (stands .gap i) (tol ⊗ stands .primal i)) ∙ e
 
-    moves-as : L .move ≡ move k g y lam
-    unfolding problem
-    moves-as = refl
-
     -- a lost pivot
     pub turned-lost : w ≡ Lost → Turned k g y lam s₀ s₁ r (lostRun r)
     turned-lost e =
-        let b : sound k (system k g lam (point n m s₀)) m ≡ false = was-lost (sound k (system k g lam (point n m s₀)) m) (searchLine k g dy lam (c1 ⊘ t₁) (point n m s₀) .step) (sym (stepped .answer) ∙ e) in
+        let b : sound k (system k g lam (point n m s₀)) m ≡ false = was-lost (sound k (system k g lam (point n m s₀)) m) (line .step) (sym (stepped .answer) ∙ e) in
         let same : point n m s₁ ≡ point n m s₀ = stepped .moves ∙ rw b in
         let z : part n m s₁ ≡ part n m s₀ = ap (λ (p : Dual). p .z) same in
         record {
-          ahead = λ tol j q f. run-lost L tol j (pointOf k y s₀ r) (gap-test tol false q) f (ap (λ (h : State → Turn State). h (stateOf k y s₀ r)) moves-as ∙ by-flag false b)
-              ∙ λ i. record { state = record { point = sym same i; t = r .t; step = r .step }; n-iter = sym (add-one (r .«n_iter»)) i; best = r .best; improvements = r .improvements; reason = pivot };
+          ahead = λ tol j q f. run-lost L tol j (pointOf k y s₀ r) (gap-test tol false q) f (by-flag false b)
+              ∙ λ i. record { state = record { point = sym same i; t = r .t; step = r .step }; n-iter = sym (add-one (r .«n_iter»)) i; first = r .first; best = r .best; improvements = r .improvements; reason = pivot };
           standing = record {
             trend = part-below nan 0 n (stepped .kept) (omega arith) ∙ stands .trend ∙ λ i. certify k y lam (sym z i) .trend;
             primal = stands .primal ∙ λ i. certify k y lam (sym z i) .primal;
             gap = stands .gap ∙ λ i. gapOf (certify k y lam (sym z i));
           };
-          first = refl;
           n-iter = refl;
           improvements = omega arith;
           stall = omega arith;
@@ -208,9 +206,9 @@ module _ (k : ℕ) (y : List Float) (lam : Float) where
       gap-s : p ⊖ d ≡ gapOf (certify k y lam (part n m s))
       gap-s = λ i. (primal ∙ λ j. certify k y lam (sym z-s j) .primal) i ⊖ (dual ∙ λ j. certify k y lam (sym z-s j) .dual) i
 
-      better-is : better L (pointOf k y s₀ r) (stateOf k y s x) ≡ improves r p d
+      improved-is : improved L (pointOf k y s₀ r) (stateOf k y s x) ≡ improves r p d
       unfolding problem
-      better-is = λ i. lt (sym gap-s i) (c0·99 ⊗ r .best)
+      improved-is = λ i. lt (sym gap-s i) (c0·99 ⊗ r .best)
 
       gap-is : p ⊖ d ≡ L .primal (stateOf k y s x) ⊖ L .dual (stateOf k y s x)
       unfolding problem
@@ -220,6 +218,7 @@ module _ (k : ℕ) (y : List Float) (lam : Float) where
       advanced true e = λ i. record {
         state = stateOf k y s x;
         n-iter = (new .n-iter ∙ add-one (r .«n_iter»)) i;
+        first = new .first i;
         best = (new .best ∙ (λ j. cond (e j) (p ⊖ d) (r .best)) ∙ gap-is) i;
         improvements = (new .improvements ∙ (λ j. cond (e j) (r .improvements + 1) (r .improvements)) ∙ add-one (r .improvements)) i;
         stall = (new .stall ∙ λ j. cond (e j) 0 (r .stalled + 1)) i;
@@ -227,6 +226,7 @@ module _ (k : ℕ) (y : List Float) (lam : Float) where
       advanced false e = λ i. record {
         state = stateOf k y s x;
         n-iter = (new .n-iter ∙ add-one (r .«n_iter»)) i;
+        first = new .first i;
         best = (new .best ∙ λ j. cond (e j) (p ⊖ d) (r .best)) i;
         improvements = (new .improvements ∙ λ j. cond (e j) (r .improvements + 1) (r .improvements)) i;
         stall = (new .stall ∙ (λ j. cond (e j) 0 (r .stalled + 1)) ∙ add-one (r .stalled)) i;
@@ -236,16 +236,16 @@ module _ (k : ℕ) (y : List Float) (lam : Float) where
       at-most true a c h = omega arith
       at-most false a c h = h
 
-      landed-at : w ≡ Moved step → move k g y lam (stateOf k y s₀ r) ≡ moved (stateOf k y s x)
+      landed-at : w ≡ Moved step → L .move (gap L (stateOf k y s₀ r)) (stateOf k y s₀ r) ≡ moved (stateOf k y s x)
       landed-at e =
-          let b = was-moved (sound k (system k g lam (point n m s₀)) m) (searchLine k g dy lam (c1 ⊘ t₁) (point n m s₀) .step) step (sym (stepped .answer) ∙ e) in
-          let there : point n m s ≡ taken lam (point n m s₀) (searchLine k g dy lam (c1 ⊘ t₁) (point n m s₀)) = at-s ∙ stepped .moves ∙ rw (b .0) in
+          let b = was-moved (sound k (system k g lam (point n m s₀)) m) (line .step) step (sym (stepped .answer) ∙ e) in
+          let there : point n m s ≡ nextPoint lam (point n m s₀) line = at-s ∙ stepped .moves ∙ rw (b .0) in
           by-flag true (b .0) ∙ λ i. moved (record { point = sym there i; t = sym (new .t) i; step = (b .1 ∙ sym (new .step)) i })
 
       pub turned-moved : w ≡ Moved step → Turned k g y lam s₀ s r x
       turned-moved e = record {
         ahead = λ tol j q f. run-moved L tol j (pointOf k y s₀ r) (stateOf k y s x) (improves r p d) (gap-test tol false q) f
-            (ap (λ (h : State → Turn State). h (stateOf k y s₀ r)) moves-as ∙ landed-at e) better-is
+            (landed-at e) improved-is
             ∙ sym (ap (run L tol j) (advanced (improves r p d) refl))
             ∙ sym (ap (leftOf L tol j (pointOf k y s x)) (new .lost));
         standing = record {
@@ -253,7 +253,6 @@ module _ (k : ℕ) (y : List Float) (lam : Float) where
           primal = new .primal ∙ primal ∙ λ i. certify k y lam (sym z-s i) .primal;
           gap = new .gap ∙ gap-s;
         };
-        first = new .first;
         n-iter = new .n-iter;
         improvements = rw (new .improvements) (at-most (improves r p d) (r .improvements + 1) (r .improvements) (omega arith));
         stall = rw (new .stall) (no-more (improves r p d));
@@ -273,83 +272,80 @@ module _ (k : ℕ) (y : List Float) (lam : Float) where
   enough-is g tol s r w = sym (λ i. le (w .gap i) (tol ⊗ w .primal i))
 
   -- what holds before each iteration: what is left of the search is the whole
-  pub record Looping (g : List Float) (tol : Float) (limit : ℕ) (s₀ s : List Float) (r : Run) : Type 0 where
-    pub left : leftOf (problem k g y lam) tol (limit - r .«n_iter») (pointOf k y s r) (r .lost) ≡ run (problem k g y lam) tol limit (start (problem k g y lam) (origin m))
+  pub record Looping (g : List Float) (tol : Float) (max-iter : ℕ) (s₀ s : List Float) (r : Run) : Type 0 where
+    pub left : leftOf (problem k g y lam) tol (max-iter - r .«n_iter») (pointOf k y s r) (r .lost) ≡ run (problem k g y lam) tol max-iter (startAt (problem k g y lam) (origin m))
     pub standing : Standing k y lam s r
-    pub first : r .first ≡ gapOf (certify k y lam (origin m .point .z))
-    pub within : r .«n_iter» ≤ limit
+    pub within : r .«n_iter» ≤ max-iter
     pub fewer : r .improvements ≤ r .«n_iter»
     pub idle : r .stalled ≤ 10
     pub kept : Kept 0 (searchArea n) s₀ s
 
-  module _ (g : List Float) (tol : Float) (limit : ℕ) (s₀ s : List Float) (r : Run) where
+  module _ (g : List Float) (tol : Float) (max-iter : ℕ) (s₀ s : List Float) (r : Run) where
     abbrev P : Problem State
     P = problem k g y lam
 
-    pub loop-starts : Started k y lam s₀ s r → Looping g tol limit s s r
+    pub loop-starts : Started k y lam s₀ s r → Looping g tol max-iter s s r
     loop-starts w =
         let e = w .begins g in
         let none : r .«n_iter» ≡ 0 = ap (λ (p : Point State). p .n-iter) e in
         let gains : r .improvements ≡ 0 = ap (λ (p : Point State). p .improvements) e in
         let stall : r .stalled ≡ 0 = ap (λ (p : Point State). p .stall) e in
-        let all : limit - r .«n_iter» ≡ limit = omega arith in
+        let all : max-iter - r .«n_iter» ≡ max-iter = omega arith in
         record {
-          left = ap (leftOf P tol (limit - r .«n_iter») (pointOf k y s r)) (w .lost) ∙ λ i. run P tol (all i) (e i);
+          left = ap (leftOf P tol (max-iter - r .«n_iter») (pointOf k y s r)) (w .lost) ∙ λ i. run P tol (all i) (e i);
           standing = w .standing;
-          first = w .first ∙ w .standing .gap ∙ λ i. gapOf (certify k y lam (e i .state .point .z));
           within = omega arith;
           fewer = omega arith;
           idle = omega arith;
           kept = kept-none 0 (searchArea n) s;
         }
 
-    module _ (w : Looping g tol limit s₀ s r) where
-      goes-on : goes r tol limit ≡ true → GoesOn (r .lost) (le (r .gap) (tol ⊗ r .primal)) (ltb (r .«n_iter») limit) (eqb (r .stalled) 10)
-      goes-on h = go-on (r .lost) (le (r .gap) (tol ⊗ r .primal)) (ltb (r .«n_iter») limit) (eqb (r .stalled) 10) h
+    module _ (w : Looping g tol max-iter s₀ s r) where
+      goes-on : goes r tol max-iter ≡ true → GoesOn (r .lost) (le (r .gap) (tol ⊗ r .primal)) (ltb (r .«n_iter») max-iter) (eqb (r .stalled) 10)
+      goes-on h = go-on (r .lost) (le (r .gap) (tol ⊗ r .primal)) (ltb (r .«n_iter») max-iter) (eqb (r .stalled) 10) h
 
-      pub still : goes r tol limit ≡ true → r .«n_iter» < limit
-      still h = ltb-true (r .«n_iter») limit (goes-on h .within)
+      pub still : goes r tol max-iter ≡ true → r .«n_iter» < max-iter
+      still h = ltb-true (r .«n_iter») max-iter (goes-on h .within)
 
-      pub loop-goes : goes r tol limit ≡ true → (s′ : List Float) (x : Run) → Turned k g y lam s s′ r x → Looping g tol limit s₀ s′ x
+      pub loop-goes : goes r tol max-iter ≡ true → (s′ : List Float) (x : Run) → Turned k g y lam s s′ r x → Looping g tol max-iter s₀ s′ x
       loop-goes h s′ x t =
           let o = goes-on h in
           let b = still h in
           let c = t .n-iter in
-          let one : limit - r .«n_iter» ≡ suc (limit - x .«n_iter») = omega arith in
+          let one : max-iter - r .«n_iter» ≡ suc (max-iter - x .«n_iter») = omega arith in
           let d : suc (r .stalled) ≤ 10 = idle-room (r .stalled) (w .idle) (o .lively) in
           record {
-            left = sym (t .ahead tol (limit - x .«n_iter») (o .wide) (o .lively))
+            left = sym (t .ahead tol (max-iter - x .«n_iter») (o .wide) (o .lively))
                 ∙ sym (ap (λ (j : ℕ). run P tol j (pointOf k y s r)) one)
-                ∙ sym (ap (leftOf P tol (limit - r .«n_iter») (pointOf k y s r)) (o .found))
+                ∙ sym (ap (leftOf P tol (max-iter - r .«n_iter») (pointOf k y s r)) (o .found))
                 ∙ w .left;
             standing = t .standing;
-            first = t .first ∙ w .first;
             within = omega arith;
             fewer = omega (arith, t .improvements, w .fewer);
             idle = omega (arith, t .stall);
             kept = kept-then 0 (searchArea n) (w .kept) (t .kept) (omega arith) (omega arith) (omega arith) (omega arith);
           }
 
-      loop-ends : goes r tol limit ≡ false → EndsAt (run P tol limit (start P (origin m))) (pointOf k y s r)
+      loop-ends : goes r tol max-iter ≡ false → EndsAt (run P tol max-iter (startAt P (origin m))) (pointOf k y s r)
       loop-ends h =
-          finish P tol limit (run P tol limit (start P (origin m))) (pointOf k y s r) (r .lost) (w .within) (w .left)
-          (r .lost) (le (r .gap) (tol ⊗ r .primal)) (ltb (r .«n_iter») limit) (eqb (r .stalled) 10) refl (enough-is g tol s r (w .standing)) refl refl h
+          finish P tol max-iter (run P tol max-iter (startAt P (origin m))) (pointOf k y s r) (r .lost) (w .within) (w .left)
+          (r .lost) (le (r .gap) (tol ⊗ r .primal)) (ltb (r .«n_iter») max-iter) (eqb (r .stalled) 10) refl (enough-is g tol s r (w .standing)) refl refl h
 
   -- the whole search
-  pub all-found : (g : List Float) (tol : Float) (limit : ℕ) (s₀ s₁ s : List Float) (r : Run) → g ≡ gramRow k → Kept 0 (searchArea (length y)) s₀ s₁
-      → Looping g tol limit s₁ s r → goes r tol limit ≡ false → Found k y lam tol limit s₀ s r
+  pub all-found : (g : List Float) (tol : Float) (max-iter : ℕ) (s₀ s₁ s : List Float) (r : Run) → g ≡ gramRow k → Kept 0 (searchArea (length y)) s₀ s₁
+      → Looping g tol max-iter s₁ s r → goes r tol max-iter ≡ false → Found k y lam tol max-iter s₀ s r
   unfolding interiorPoint
-  all-found g tol limit s₀ s₁ s r isg v w h =
-      let e = loop-ends g tol limit s₁ s r w h in
-      let q : run (problem k g y lam) tol limit (start (problem k g y lam) (origin m)) ≡ searchOf k y lam tol limit =
-      λ i. run (problem k (isg i) y lam) tol limit (start (problem k (isg i) y lam) (origin m)) in
-      let p : point n m s ≡ searchOf k y lam tol limit .state .point = ap (λ (x : State). x .point) (e .state) ∙ ap (λ (x : Ended State). x .state .point) q in
+  all-found g tol max-iter s₀ s₁ s r isg v w h =
+      let e = loop-ends g tol max-iter s₁ s r w h in
+      let q : run (problem k g y lam) tol max-iter (startAt (problem k g y lam) (origin m)) ≡ searchOf k y lam tol max-iter =
+      λ i. run (problem k (isg i) y lam) tol max-iter (startAt (problem k (isg i) y lam) (origin m)) in
+      let p : point n m s ≡ searchOf k y lam tol max-iter .state .point = ap (λ (x : State). x .point) (e .state) ∙ ap (λ (x : Ended State). x .state .point) q in
       record {
         ends = p;
         trend = w .standing .trend ∙ λ i. certify k y lam (p i .z) .trend;
         gap = w .standing .gap ∙ λ i. gapOf (certify k y lam (p i .z));
         primal = w .standing .primal ∙ λ i. certify k y lam (p i .z) .primal;
-        first = w .first;
+        first = e .first ∙ ap (λ (x : Ended State). x .first) q;
         best = e .best ∙ ap (λ (x : Ended State). x .best) q;
         n-iter = e .n-iter ∙ ap (λ (x : Ended State). x .n-iter) q;
         improvements = e .improvements ∙ ap (λ (x : Ended State). x .improvements) q;

@@ -11,7 +11,7 @@ use Rattle.vectors.specs.Vec.{part, Kept}
 use Rattle.differences.specs.Diff.{gramRow}
 use Rattle.certificate.specs.Certificate.{Certificate, certify, gapOf}
 use Rattle.certificate.specs.Ready.{Ready}
-use Rattle.search.specs.Search.{Problem, Point, Ended, ended, pivot, start, run}
+use Rattle.search.specs.Search.{Problem, Point, Ended, ended, pivot, startAt, run}
 use Rattle.dual_point.specs.Dual.{Dual}
 use Rattle.dual_point.specs.Lanes.{searchArea}
 use Rattle.dual_point.specs.Places.{point}
@@ -26,8 +26,9 @@ pointIn k y s = point (length y) (length y - k) s
 abbrev pub stateOf : ℕ → List Float → List Float → Run → State
 stateOf k y s r = record { point = pointIn k y s; t = r .t; step = r .step }
 
+-- and its counts and gaps
 abbrev pub pointOf : ℕ → List Float → List Float → Run → Point State
-pointOf k y s r = record { state = stateOf k y s r; n-iter = r .«n_iter»; best = r .best; improvements = r .improvements; stall = r .stalled }
+pointOf k y s r = record { state = stateOf k y s r; n-iter = r .«n_iter»; first = r .first; best = r .best; improvements = r .improvements; stall = r .stalled }
 
 -- the trend in s, and P and the gap of r, are those of the point in s
 pub record Standing (k : ℕ) (y : List Float) (lam : Float) (s : List Float) (r : Run) : Type 0 where
@@ -35,11 +36,10 @@ pub record Standing (k : ℕ) (y : List Float) (lam : Float) (s : List Float) (r
   pub primal : r .primal ≡ certify k y lam (pointIn k y s .z) .primal
   pub gap : r .gap ≡ gapOf (certify k y lam (pointIn k y s .z))
 
--- the start: the definition's, its trend and certificate, and the first gap
+-- the start: the definition's, its trend and certificate
 pub record Started (k : ℕ) (y : List Float) (lam : Float) (s₀ s : List Float) (r : Run) : Type 0 where
-  pub begins : (g : List Float) → pointOf k y s r ≡ start (problem k g y lam) (origin (length y - k))
+  pub begins : (g : List Float) → pointOf k y s r ≡ startAt (problem k g y lam) (origin (length y - k))
   pub standing : Standing k y lam s r
-  pub first : r .first ≡ r .gap
   pub lost : r .lost ≡ false
   pub kept : Kept 0 (searchArea (length y)) s₀ s
 
@@ -50,7 +50,7 @@ leftOf L tol j p false = run L tol j p
 
 -- whether the next iteration is made
 abbrev pub goes : Run → Float → ℕ → Bool
-goes r tol limit = cond (r .lost) false (cond (le (r .gap) (tol ⊗ r .primal)) false (cond (ltb (r .«n_iter») limit) (not (eqb (r .stalled) 10)) false))
+goes r tol max-iter = cond (r .lost) false (cond (le (r .gap) (tol ⊗ r .primal)) false (cond (ltb (r .«n_iter») max-iter) (not (eqb (r .stalled) 10)) false))
 
 -- one more iteration can be counted
 pub record Countable (r : Run) : Type 0 where
@@ -58,10 +58,11 @@ pub record Countable (r : Run) : Type 0 where
   pub improvements : r .improvements ≤ r .«n_iter»
   pub stall : r .stalled ≤ 10
 
--- what an iteration adds to r, where it ends with P and G and is an improvement or not
+-- an iteration that ends with P and G is an improvement
 abbrev pub improves : Run → Float → Float → Bool
 improves r p d = lt (p ⊖ d) (c0·99 ⊗ r .best)
 
+-- what such an iteration adds to r
 pub record Settled (r : Run) (t₁ step₁ p d : Float) (x : Run) : Type 0 where
   pub t : x .t ≡ t₁
   pub step : x .step ≡ step₁
@@ -100,26 +101,27 @@ pub record Turned (k : ℕ) (g y : List Float) (lam : Float) (s₀ s : List Floa
   pub ahead : (tol : Float) (j : ℕ) → le (r .gap) (tol ⊗ r .primal) ≡ false → eqb (r .stalled) 10 ≡ false
       → run (problem k g y lam) tol (suc j) (pointOf k y s₀ r) ≡ leftOf (problem k g y lam) tol j (pointOf k y s x) (x .lost)
   pub standing : Standing k y lam s x
-  pub first : x .first ≡ r .first
   pub n-iter : x .«n_iter» ≡ r .«n_iter» + 1
   pub improvements : x .improvements ≤ r .improvements + 1
   pub stall : x .stalled ≤ r .stalled + 1
   pub kept : Kept 0 (searchArea (length y)) s₀ s
 
--- the whole search: the point that it ended at stands in s after its trend; r has its gaps and counts
+-- where the definition's search ends
 abbrev pub searchOf : ℕ → List Float → Float → Float → ℕ → Ended State
-searchOf k y lam tol limit = interiorPoint k (gramRow k) (length y - k) y lam tol limit
+searchOf k y lam tol max-iter = interiorPoint k (gramRow k) (length y - k) y lam tol max-iter
 
+-- its certificate
 abbrev pub endOf : ℕ → List Float → Float → Float → ℕ → Certificate
-endOf k y lam tol limit = certify k y lam (searchOf k y lam tol limit .state .point .z)
+endOf k y lam tol max-iter = certify k y lam (searchOf k y lam tol max-iter .state .point .z)
 
-pub record Found (k : ℕ) (y : List Float) (lam tol : Float) (limit : ℕ) (s₀ s : List Float) (r : Run) : Type 0 where
-  pub ends : pointIn k y s ≡ searchOf k y lam tol limit .state .point
-  pub trend : part 0 (length y) s ≡ endOf k y lam tol limit .trend
-  pub gap : r .gap ≡ gapOf (endOf k y lam tol limit)
-  pub primal : r .primal ≡ endOf k y lam tol limit .primal
-  pub first : r .first ≡ gapOf (certify k y lam (origin (length y - k) .point .z))
-  pub best : r .best ≡ searchOf k y lam tol limit .best
-  pub n-iter : r .«n_iter» ≡ searchOf k y lam tol limit .n-iter
-  pub improvements : r .improvements ≡ searchOf k y lam tol limit .improvements
+-- the whole search: the point that it ended at stands in s after its trend; r has its gaps and counts
+pub record Found (k : ℕ) (y : List Float) (lam tol : Float) (max-iter : ℕ) (s₀ s : List Float) (r : Run) : Type 0 where
+  pub ends : pointIn k y s ≡ searchOf k y lam tol max-iter .state .point
+  pub trend : part 0 (length y) s ≡ endOf k y lam tol max-iter .trend
+  pub gap : r .gap ≡ gapOf (endOf k y lam tol max-iter)
+  pub primal : r .primal ≡ endOf k y lam tol max-iter .primal
+  pub first : r .first ≡ searchOf k y lam tol max-iter .first
+  pub best : r .best ≡ searchOf k y lam tol max-iter .best
+  pub n-iter : r .«n_iter» ≡ searchOf k y lam tol max-iter .n-iter
+  pub improvements : r .improvements ≡ searchOf k y lam tol max-iter .improvements
   pub kept : Kept 0 (searchArea (length y)) s₀ s

@@ -10,37 +10,40 @@ use Rattle.float64.specs.Ops.{_⊗_, _⊘_, c0, c1, c2, c0·2, c1·2, c1e-10, i
 use Rattle.vectors.specs.Vec.{list}
 use Rattle.differences.specs.Diff.{diffK}
 use Rattle.banded.specs.Rows.{sound}
-use Rattle.certificate.specs.Certificate.{certify, gapOf}
+use Rattle.certificate.specs.Certificate.{certify}
 use Rattle.search.specs.Search.{Turn, lost, moved, Problem, Ended, searched}
 use Rattle.dual_point.specs.Dual.{Dual}
-use Rattle.newton_system.specs.Newton.{system}
-use Rattle.line_search.specs.LineSearch.{Trial, searchLine, taken}
+use Rattle.newton_system.specs.Newton.{NewtonData, system}
+use Rattle.line_search.specs.LineSearch.{Trial, searchLine, nextPoint}
 
+-- where the search stands: the dual point, t, and the last step
 pub record State : Type 0 where
   pub point : Dual
   pub t : Float
   pub step : Float
 
--- if step ≥ 0.2, t becomes max(2·m·2/gap, 1.2·t)
+-- if step ≥ 0.2, t becomes max(((2·m)·2) / gap, 1.2·t)
 unfoldable pub nextT : ℕ → Float → State → Float
 nextT m gap s = cond (le c0·2 (s .step)) (maxOf (c2 ⊗ ofInt binary64 (pos m) ⊗ c2 ⊘ gap) (c1·2 ⊗ s .t)) (s .t)
 
+-- the state after an iteration with t, whose line search ended as e
 abbrev pub landed : Float → State → Float → Trial → State
-landed lam s t e = record { point = taken lam (s .point) e; t = t; step = e .step }
+landed lam s t e = record { point = nextPoint lam (s .point) e; t = t; step = e .step }
 
--- one iteration: a bad pivot loses it
-unfoldable pub move : ℕ → List Float → List Float → Float → State → Turn State
-move k g y lam s =
+-- one iteration from s, where the gap is known: a bad pivot loses it
+unfoldable pub move : ℕ → List Float → List Float → Float → Float → State → Turn State
+move k g y lam gap s =
     let m = length (s .point .z) in
-    let t = nextT m (gapOf (certify k y lam (s .point .z))) s in
-    cond (sound k (system k g lam (s .point)) m) (moved (landed lam s t (searchLine k g (diffK k y) lam (c1 ⊘ t) (s .point)))) lost
+    let t = nextT m gap s in
+    let c : NewtonData = record { k = k; g = g; dy = diffK k y; lam = lam; inv-t = c1 ⊘ t } in
+    cond (sound k (system k g lam (s .point)) m) (moved (landed lam s t (searchLine c (s .point)))) lost
 
 -- the problem whose search it is: P and G of the certificate at z
 unfoldable pub problem : ℕ → List Float → List Float → Float → Problem State
 problem k g y lam = record {
-  move = move k g y lam;
   primal = λ s. certify k y lam (s .point .z) .primal;
   dual = λ s. certify k y lam (s .point .z) .dual;
+  move = move k g y lam;
 }
 
 -- z = 0, mu1 = mu2 = 1, t = 1e-10, step infinite
@@ -49,4 +52,4 @@ origin m = record { point = record { z = list m (λ i. c0); mu1 = list m (λ i. 
 
 -- the whole search, for a series whose D y has m places
 unfoldable pub interiorPoint : ℕ → List Float → ℕ → List Float → Float → Float → ℕ → Ended State
-interiorPoint k g m y lam tol limit = searched (problem k g y lam) tol limit (origin m)
+interiorPoint k g m y lam tol max-iter = searched (problem k g y lam) tol max-iter (origin m)

@@ -94,14 +94,22 @@ fn next_t(t: f64, step: f64, gap: f64, m: usize) -> f64
 }
 
 // The Newton step on the point that stands after the n places of the trend.
-fn step_at(work: &mut [f64], y: &[f64], dy: &[f64], lam: f64, u: f64, g: [f64; 3], k: usize) -> Step
+fn step_at(
+    work: &mut [f64],
+    y: &[f64],
+    dy: &[f64],
+    lam: f64,
+    inv_t: f64,
+    g: [f64; 3],
+    k: usize,
+) -> Step
     requires { ⌜ Ready k (now y) (now dy) (searchArea (length (now y))) (length (now work)) ⌝ }
-    ensures { λ r. ⌜ Stepped k g (diffK k (now (y .entry))) lam u (length (now (y .entry))) (length (now (y .entry)) - k) (now (work .entry)) (now (work .exit)) r ⌝ }
+    ensures { λ r. ⌜ Stepped k g (diffK k (now (y .entry))) lam «inv_t» (length (now (y .entry))) (length (now (y .entry)) - k) (now (work .entry)) (now (work .exit)) r ⌝ }
 {
     let n = y.len();
     let m = n - k;
     let e = work.len();
-    newton_step::newton_step(&mut work[n..e], &dy[0..m], lam, u, g, k, m)
+    newton_step::newton_step(&mut work[n..e], &dy[0..m], lam, inv_t, g, k, m)
 }
 
 // The account after a step that ended with the pair p.

@@ -10,12 +10,12 @@ use lib.Ieee.{Float, nan, inf, fin, binary64, add, mul, lt, isNan, ofBits}
 use Rattle.vectors.specs.Vec.{at, list, Written, partOf, part, Kept}
 use Rattle.vectors.proofs.Laws.{list-ext, up}
 use Rattle.vectors.proofs.Parts.{length-part, at-part}
-use Rattle.line_search.specs.LineSearch.{capped, capTo, stepped, along}
+use Rattle.line_search.specs.LineSearch.{stepCapBy, stepCapTo, stepped, along}
 use Rattle.dual_point.specs.Places.{point}
 
-pub cap-more : (b m : ℕ) (s : List Float) (i : ℕ) (x y : Float) → i < m → x ≡ capTo (point 0 m s) (point b m s) i
-    → y ≡ capped x (at s (m + i)) (at s (b + m + i)) → capped y (at s (m + m + i)) (at s (b + m + m + i)) ≡ capTo (point 0 m s) (point b m s) (i + 1)
-unfolding capTo
+pub cap-more : (b m : ℕ) (s : List Float) (i : ℕ) (x y : Float) → i < m → x ≡ stepCapTo (point 0 m s) (point b m s) i
+    → y ≡ stepCapBy x (at s (m + i)) (at s (b + m + i)) → stepCapBy y (at s (m + m + i)) (at s (b + m + m + i)) ≡ stepCapTo (point 0 m s) (point b m s) (i + 1)
+unfolding stepCapTo
 cap-more b m s i x y h e f =
     rw (
       add-one i,

@@ -10,8 +10,8 @@ use lib.Ieee.{Float, nan, binary64, mul, ofBits}
 use Rattle.vectors.specs.Vec.{at, list, part, Kept}
 use Rattle.vectors.proofs.Laws.{list-ext, kept-then}
 use Rattle.dual_point.specs.Dual.{Dual}
-use Rattle.newton_system.specs.Newton.{norm}
-use Rattle.line_search.specs.LineSearch.{direction, capTo, along, lower, accepted, trials}
+use Rattle.newton_system.specs.Newton.{NewtonData, residualNorm}
+use Rattle.line_search.specs.LineSearch.{dmu1At, dmu2At, direction, stepCapTo, along, sufficientDecrease, accepted, trials}
 use Rattle.dual_point.specs.Places.{point}
 use Rattle.line_search.specs.Places.{dmuAt, Directed, searchedFrom, Attempted, Searched}
 use Rattle.vectors.specs.Sums.{inside}
@@ -21,57 +21,57 @@ use Rattle.vectors.proofs.Parts.{length-part, at-part, part-below}
 -- ---- directions
 
 -- a multiplier's lane, as a part
-dmu-done : (lower : Bool) (b c x m : ℕ) (lam u : Float) (s : List Float) → x ≡ c
-    → list m (λ i. dmuAt lower lam u (at s i) (at s (c + i)) (at s (b + i))) ≡ list (length (part 0 m s)) (λ i. dmuAt lower lam u (at (part 0 m s) i) (at (part x m s) i) (at (part b m s) i))
-dmu-done lower b c x m lam u s e =
-    list-ext m (λ i. dmuAt lower lam u (at s i) (at s (c + i)) (at s (b + i))) (λ i. dmuAt lower lam u (at (part 0 m s) i) (at (part x m s) i) (at (part b m s) i))
+dmu-done : (lower : Bool) (b c x m : ℕ) (lam inv-t : Float) (s : List Float) → x ≡ c
+    → list m (λ i. dmuAt lower lam inv-t (at s i) (at s (c + i)) (at s (b + i))) ≡ list (length (part 0 m s)) (λ i. dmuAt lower lam inv-t (at (part 0 m s) i) (at (part x m s) i) (at (part b m s) i))
+dmu-done lower b c x m lam inv-t s e =
+    list-ext m (λ i. dmuAt lower lam inv-t (at s i) (at s (c + i)) (at s (b + i))) (λ i. dmuAt lower lam inv-t (at (part 0 m s) i) (at (part x m s) i) (at (part b m s) i))
     (λ j l. rw (at-part 0 m s j j l (omega arith), at-part x m s j (c + j) l (omega arith), at-part b m s j (b + j) l refl))
-    ∙ ap (λ (n : ℕ). list n (λ i. dmuAt lower lam u (at (part 0 m s) i) (at (part x m s) i) (at (part b m s) i))) (sym (length-part 0 m s))
+    ∙ ap (λ (n : ℕ). list n (λ i. dmuAt lower lam inv-t (at (part 0 m s) i) (at (part x m s) i) (at (part b m s) i))) (sym (length-part 0 m s))
 
 -- dmu1 and then dmu2 written after dz
-pub directed : (b m : ℕ) (lam u : Float) (s₀ s s′ : List Float) (cap : Float) → m + m + m ≤ b
-    → part (b + m) m s ≡ list m (λ i. dmuAt false lam u (at s₀ i) (at s₀ (m + i)) (at s₀ (b + i))) → Kept (b + m) m s₀ s
-    → part (b + (m + m)) m s′ ≡ list m (λ i. dmuAt true lam u (at s i) (at s (m + m + i)) (at s (b + i))) → Kept (b + (m + m)) m s s′
-    → cap ≡ capTo (point 0 m s′) (point b m s′) m → Directed lam u b m s₀ s′ cap
-unfolding direction
-directed b m lam u s₀ s s′ cap o e v f w t =
+pub directed : (b m : ℕ) (lam inv-t : Float) (s₀ s s′ : List Float) (cap : Float) → m + m + m ≤ b
+    → part (b + m) m s ≡ list m (λ i. dmuAt false lam inv-t (at s₀ i) (at s₀ (m + i)) (at s₀ (b + i))) → Kept (b + m) m s₀ s
+    → part (b + (m + m)) m s′ ≡ list m (λ i. dmuAt true lam inv-t (at s i) (at s (m + m + i)) (at s (b + i))) → Kept (b + (m + m)) m s s′
+    → cap ≡ stepCapTo (point 0 m s′) (point b m s′) m → Directed lam inv-t b m s₀ s′ cap
+unfolding direction dmu1At dmu2At
+directed b m lam inv-t s₀ s s′ cap o e v f w t =
     let x : b + (m + m) ≡ b + m + m = omega arith in
-    let ways : point b m s′ ≡ direction lam u (point 0 m s₀) (part b m s₀) = λ i. record {
+    let ways : point b m s′ ≡ direction lam inv-t (point 0 m s₀) (part b m s₀) = λ i. record {
       z = (part-below nan b m w (omega arith) ∙ part-below nan b m v (omega arith)) i;
-      mu1 = (part-below nan (b + m) m w (omega arith) ∙ e ∙ dmu-done false b m (0 + m) m lam u s₀ (omega arith)) i;
-      mu2 = (ap (λ (q : ℕ). part q m s′) (sym x) ∙ f ∙ dmu-done true b (m + m) (0 + m + m) m lam u s (omega arith)
-          ∙ λ j. direction lam u (point-below 0 m v (omega arith) j) (part-below nan b m v (omega arith) j) .mu2) i;
+      mu1 = (part-below nan (b + m) m w (omega arith) ∙ e ∙ dmu-done false b m (0 + m) m lam inv-t s₀ (omega arith)) i;
+      mu2 = (ap (λ (q : ℕ). part q m s′) (sym x) ∙ f ∙ dmu-done true b (m + m) (0 + m + m) m lam inv-t s (omega arith)
+          ∙ λ j. direction lam inv-t (point-below 0 m v (omega arith) j) (part-below nan b m v (omega arith) j) .mu2) i;
     } in
     let both = kept-then (b + m) (m + m) v w (omega arith) (omega arith) (omega arith) (omega arith) in
-    record { ways = ways; cap-is = t ∙ (λ i. capTo (point-below 0 m both (omega arith) i) (ways i) m); kept = both }
+    record { ways = ways; cap-is = t ∙ (λ i. stepCapTo (point-below 0 m both (omega arith) i) (ways i) m); kept = both }
 
 -- ---- the line search
 
-module _ (k : ℕ) (g dy : List Float) (lam u : Float) where
-  pub accept-yes : (old step : Float) (q : Dual) (low : Bool) → true ≡ inside lam (q .z) → low ≡ lower (norm k g dy lam u q) step old → low ≡ accepted k g dy lam u old q step
+module _ (c : NewtonData) where
+  pub accept-yes : (old step : Float) (q : Dual) (low : Bool) → true ≡ inside (c .lam) (q .z) → low ≡ sufficientDecrease (residualNorm c q) step old → low ≡ accepted c old q step
   unfolding accepted
   accept-yes old step q low e h = h ∙ rw (← e)
 
-  pub accept-no : (old step : Float) (q : Dual) → false ≡ inside lam (q .z) → false ≡ accepted k g dy lam u old q step
+  pub accept-no : (old step : Float) (q : Dual) → false ≡ inside (c .lam) (q .z) → false ≡ accepted c old q step
   unfolding accepted
   accept-no old step q e = rw (← e)
 
   -- what is accepted is inside
-  accepted-inside : (old step : Float) (q : Dual) → accepted k g dy lam u old q step ≡ true → true ≡ inside lam (q .z)
+  accepted-inside : (old step : Float) (q : Dual) → accepted c old q step ≡ true → true ≡ inside (c .lam) (q .z)
   unfolding accepted
-  accepted-inside old step q h = both (inside lam (q .z)) (lower (norm k g dy lam u q) step old) h
+  accepted-inside old step q h = both (inside (c .lam) (q .z)) (sufficientDecrease (residualNorm c q) step old) h
     where
       both : (x y : Bool) → x && y ≡ true → true ≡ x
       both true y t = refl
       both false y t = sym t
 
-  trial-stop : (p d : Dual) (old : Float) (n : ℕ) (step : Float) (last q : Dual) → q ≡ along p d step → accepted k g dy lam u old q step ≡ true
-      → trials k g dy lam u p d old (suc n) step last ≡ record { point = q; step = step }
+  trial-stop : (p d : Dual) (old : Float) (n : ℕ) (step : Float) (last q : Dual) → q ≡ along p d step → accepted c old q step ≡ true
+      → trials c p d old (suc n) step last ≡ record { point = q; step = step }
   unfolding trials
   trial-stop p d old n step last q e h = rw (← e, h)
 
-  trial-go : (p d : Dual) (old : Float) (n : ℕ) (step : Float) (last q : Dual) → q ≡ along p d step → accepted k g dy lam u old q step ≡ false
-      → trials k g dy lam u p d old (suc n) step last ≡ trials k g dy lam u p d old n (mul binary64 step (ofBits binary64 0x3fe0_0000_0000_0000)) q
+  trial-go : (p d : Dual) (old : Float) (n : ℕ) (step : Float) (last q : Dual) → q ≡ along p d step → accepted c old q step ≡ false
+      → trials c p d old (suc n) step last ≡ trials c p d old n (mul binary64 step (ofBits binary64 0x3fe0_0000_0000_0000)) q
   unfolding trials
   trial-go p d old n step last q e h = rw (← e, h)
 
@@ -83,14 +83,14 @@ module _ (k : ℕ) (g dy : List Float) (lam u : Float) where
   pub record Searching (m b : ℕ) (cap old : Float) (s₀ s : List Float) (step : Float) (last : Bool) (i : ℕ) : Type 0 where
     pub some : i ≤ 20
     pub kept : Kept (3 * m) (3 * m) s₀ s
-    pub left : searchedFrom k g dy lam u m b old s₀ 20 cap (point 0 m s₀) ≡ searchedFrom k g dy lam u m b old s₀ (20 - i) step (lastOf i (point 0 m s₀) (point (3 * m) m s))
-    pub flag : 0 < i → last ≡ inside lam (part (3 * m) m s)
+    pub left : searchedFrom c m b old s₀ 20 cap (point 0 m s₀) ≡ searchedFrom c m b old s₀ (20 - i) step (lastOf i (point 0 m s₀) (point (3 * m) m s))
+    pub flag : 0 < i → last ≡ inside (c .lam) (part (3 * m) m s)
 
   pub begins : (m b : ℕ) (cap old : Float) (s : List Float) → Searching m b cap old s s cap false 0
   begins m b cap old s = record { some = omega arith; kept = record { size = refl; below = λ j h. refl; above = λ j h. refl }; left = refl; flag = λ h. absurd (omega arith) }
 
   module _ (m b : ℕ) (cap old : Float) (s₀ s s′ : List Float) (step : Float) (last : Bool) (i : ℕ) (w : Searching m b cap old s₀ s step last i)
-      (within good : Bool) (room : 6 * m ≤ b) (h : i < 20) (t : Attempted k g dy lam u m b step old s s′ within good) where
+      (within good : Bool) (room : 6 * m ≤ b) (h : i < 20) (t : Attempted c m b step old s s′ within good) where
     moved-from : point (3 * m) m s′ ≡ along (point 0 m s₀) (point b m s₀) step
     moved-from = t .moves ∙ λ j. along (point-below 0 m (w .kept) (omega arith) j) (point-above b m (w .kept) (omega arith) j) step
 
@@ -105,22 +105,22 @@ module _ (k : ℕ) (g dy : List Float) (lam u : Float) where
       some = omega arith;
       kept = more-kept;
       left = w .left
-          ∙ ap (λ (n : ℕ). searchedFrom k g dy lam u m b old s₀ n step (lastOf i (point 0 m s₀) (point (3 * m) m s))) one-left
+          ∙ ap (λ (n : ℕ). searchedFrom c m b old s₀ n step (lastOf i (point 0 m s₀) (point (3 * m) m s))) one-left
           ∙ trial-go (point 0 m s₀) (point b m s₀) old (20 - (i + 1)) step (lastOf i (point 0 m s₀) (point (3 * m) m s)) (point (3 * m) m s′) moved-from (sym (t .accepts) ∙ f)
-          ∙ ap (λ (n : ℕ). searchedFrom k g dy lam u m b old s₀ (20 - (i + 1)) (mul binary64 step (ofBits binary64 0x3fe0_0000_0000_0000)) (lastOf n (point 0 m s₀) (point (3 * m) m s′))) (sym (add-one i));
+          ∙ ap (λ (n : ℕ). searchedFrom c m b old s₀ (20 - (i + 1)) (mul binary64 step (ofBits binary64 0x3fe0_0000_0000_0000)) (lastOf n (point 0 m s₀) (point (3 * m) m s′))) (sym (add-one i));
       flag = λ _. t .in-bounds;
     }
 
-    pub stops : good ≡ true → Searched k g dy lam u m b cap old s₀ s′ step true
+    pub stops : good ≡ true → Searched c m b cap old s₀ s′ step true
     stops f = record {
       ends = w .left
-          ∙ ap (λ (n : ℕ). searchedFrom k g dy lam u m b old s₀ n step (lastOf i (point 0 m s₀) (point (3 * m) m s))) one-left
+          ∙ ap (λ (n : ℕ). searchedFrom c m b old s₀ n step (lastOf i (point 0 m s₀) (point (3 * m) m s))) one-left
           ∙ trial-stop (point 0 m s₀) (point b m s₀) old (20 - (i + 1)) step (lastOf i (point 0 m s₀) (point (3 * m) m s)) (point (3 * m) m s′) moved-from (sym (t .accepts) ∙ f);
       in-bounds = accepted-inside old step (point (3 * m) m s′) (sym (t .accepts) ∙ f);
       kept = more-kept;
     }
 
   pub exhausted : (m b : ℕ) (cap old : Float) (s₀ s : List Float) (step : Float) (last : Bool) → Searching m b cap old s₀ s step last 20
-      → Searched k g dy lam u m b cap old s₀ s step last
+      → Searched c m b cap old s₀ s step last
   unfolding trials
   exhausted m b cap old s₀ s step last w = record { ends = w .left; in-bounds = w .flag (omega arith); kept = w .kept }

@@ -1,4 +1,4 @@
--- Document 01, "Interior point": the direction of a Newton step, the step cap and the line search. k is the order, g the Gram row, dy is D y, u is 1 / t.
+-- Document 01, "Interior point": the direction of a Newton step, the step cap and the line search. inv-t is 1 / t.
 use mathlib.Core.Bool.{Bool, cond, _&&_}
 use mathlib.Core.List.{List}
 use Prim.Native.Nat.{ℕ, zero, suc}
@@ -8,38 +8,45 @@ use Rattle.float64.specs.Helpers.{minOf}
 use Rattle.float64.specs.Ops.{_⊕_, _⊖_, _⊗_, _⊘_, c0, c1, half, c0·99, c0·01}
 use Rattle.vectors.specs.Sums.{inside}
 use Rattle.vectors.specs.Vec.{at, list}
-use Rattle.dual_point.specs.Dual.{Dual}
-use Rattle.newton_system.specs.Newton.{f1, f2, norm, newtonZ}
+use Rattle.dual_point.specs.Dual.{Dual, Values, valuesAt}
+use Rattle.newton_system.specs.Newton.{NewtonData, f1, f2, residualNorm, newtonZ}
 
--- how mu1 and mu2 move at a place where z moves by dz
-unfoldable pub dmu1At : Float → Float → Float → Float → Float → Float
-dmu1At lam u z mu1 dz = neg (mu1 ⊕ (u ⊕ dz ⊗ mu1) ⊘ f1 lam z)
+-- ---- the direction
 
-unfoldable pub dmu2At : Float → Float → Float → Float → Float → Float
-dmu2At lam u z mu2 dz = neg (mu2 ⊕ (u ⊖ dz ⊗ mu2) ⊘ f2 lam z)
+-- how mu1 moves at a place where z moves by dz: -(mu1 + (inv-t + dz·mu1) / f1)
+unfoldable pub dmu1At : Float → Float → Values → Float → Float
+dmu1At lam inv-t v dz = neg (v .mu1 ⊕ (inv-t ⊕ dz ⊗ v .mu1) ⊘ f1 lam (v .z))
 
--- the step that leaves a hundredth of a multiplier that falls, if it is smaller
-unfoldable pub capped : Float → Float → Float → Float
-capped step mu dmu = cond (lt dmu c0) (minOf step (c0·99 ⊗ (neg mu ⊘ dmu))) step
+-- how mu2 moves there: -(mu2 + (inv-t - dz·mu2) / f2)
+unfoldable pub dmu2At : Float → Float → Values → Float → Float
+dmu2At lam inv-t v dz = neg (v .mu2 ⊕ (inv-t ⊖ dz ⊗ v .mu2) ⊘ f2 lam (v .z))
 
--- the whole direction, where z moves by dz
+-- the whole direction from p, where z moves by dz
 unfoldable pub direction : Float → Float → Dual → List Float → Dual
-direction lam u p dz = record {
+direction lam inv-t p dz = record {
   z = dz;
-  mu1 = list (length (p .z)) (λ i. dmu1At lam u (at (p .z) i) (at (p .mu1) i) (at dz i));
-  mu2 = list (length (p .z)) (λ i. dmu2At lam u (at (p .z) i) (at (p .mu2) i) (at dz i));
+  mu1 = list (length (p .z)) (λ i. dmu1At lam inv-t (valuesAt p i) (at dz i));
+  mu2 = list (length (p .z)) (λ i. dmu2At lam inv-t (valuesAt p i) (at dz i));
 }
 
--- 1, capped by the first n places, mu1 before mu2
-unfoldable pub capTo : Dual → Dual → ℕ → Float
-capTo p d zero = c1
-capTo p d (suc i) = capped (capped (capTo p d i) (at (p .mu1) i) (at (d .mu1) i)) (at (p .mu2) i) (at (d .mu2) i)
+-- ---- the step cap
+
+-- a multiplier mu that falls caps the step at 0.99·(-mu / dmu)
+unfoldable pub stepCapBy : Float → Float → Float → Float
+stepCapBy step mu dmu = cond (lt dmu c0) (minOf step (c0·99 ⊗ (neg mu ⊘ dmu))) step
+
+-- 1, capped by the first n places of p and its direction d in turn, at each by mu1 and then by mu2
+unfoldable pub stepCapTo : Dual → Dual → ℕ → Float
+stepCapTo p d zero = c1
+stepCapTo p d (suc i) = stepCapBy (stepCapBy (stepCapTo p d i) (at (p .mu1) i) (at (d .mu1) i)) (at (p .mu2) i) (at (d .mu2) i)
 
 -- ---- the line search
 
+-- v + step·d, place by place
 unfoldable pub stepped : Float → List Float → List Float → List Float
 stepped step v d = list (length v) (λ i. at v i ⊕ step ⊗ at d i)
 
+-- the point at a step from p in the direction d
 unfoldable pub along : Dual → Dual → Float → Dual
 along p d step = record { z = stepped step (p .z) (d .z); mu1 = stepped step (p .mu1) (d .mu1); mu2 = stepped step (p .mu2) (d .mu2) }
 
@@ -48,26 +55,27 @@ pub record Trial : Type 0 where
   pub point : Dual
   pub step : Float
 
--- the norm at a trial is at most 1 - 0.01 · step of the old
-abbrev pub lower : Float → Float → Float → Bool
-lower new step old = le new ((c1 ⊖ c0·01 ⊗ step) ⊗ old)
+-- the residual norm at a trial, new, is at most (1 - 0.01·step)·old
+abbrev pub sufficientDecrease : Float → Float → Float → Bool
+sufficientDecrease new step old = le new ((c1 ⊖ c0·01 ⊗ step) ⊗ old)
 
-unfoldable pub accepted : ℕ → List Float → List Float → Float → Float → Float → Dual → Float → Bool
-accepted k g dy lam u old q step = inside lam (q .z) && lower (norm k g dy lam u q) step old
+-- the trial q at a step is accepted; old is the residual norm before
+unfoldable pub accepted : NewtonData → Float → Dual → Float → Bool
+accepted c old q step = inside (c .lam) (q .z) && sufficientDecrease (residualNorm c q) step old
 
--- n trials left; from p in the direction d; old is the norm at p, last the trial before
-unfoldable pub trials : ℕ → List Float → List Float → Float → Float → Dual → Dual → Float → ℕ → Float → Dual → Trial
-trials k g dy lam u p d old zero step last = record { point = last; step = step }
-trials k g dy lam u p d old (suc n) step last =
+-- n trials left; from p in the direction d; old is the residual norm at p, last the trial before
+unfoldable pub trials : NewtonData → Dual → Dual → Float → ℕ → Float → Dual → Trial
+trials c p d old zero step last = record { point = last; step = step }
+trials c p d old (suc n) step last =
     let q = along p d step in
-    cond (accepted k g dy lam u old q step) (record { point = q; step = step }) (trials k g dy lam u p d old n (step ⊗ half) q)
+    cond (accepted c old q step) (record { point = q; step = step }) (trials c p d old n (step ⊗ half) q)
 
--- the last trial is taken only inside the bounds
-abbrev pub taken : Float → Dual → Trial → Dual
-taken lam p e = cond (inside lam (e .point .z)) (e .point) p
+-- the line search from p, 20 trials at most
+unfoldable pub searchLine : NewtonData → Dual → Trial
+searchLine c p =
+    let d = direction (c .lam) (c .inv-t) p (newtonZ c p) in
+    trials c p d (residualNorm c p) 20 (stepCapTo p d (length (p .z))) p
 
--- the line search from p with the residual's u = 1 / t, 20 trials at most
-unfoldable pub searchLine : ℕ → List Float → List Float → Float → Float → Dual → Trial
-searchLine k g dy lam u p =
-    let d = direction lam u p (newtonZ k g dy lam u p) in
-    trials k g dy lam u p d (norm k g dy lam u p) 20 (capTo p d (length (p .z))) p
+-- the last trial is taken only inside the bounds; otherwise the point p stays
+abbrev pub nextPoint : Float → Dual → Trial → Dual
+nextPoint lam p e = cond (inside lam (e .point .z)) (e .point) p

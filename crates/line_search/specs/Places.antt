@@ -6,15 +6,16 @@ use Prim.Native.Nat.{ℕ, _+_, _*_, _≤_}
 use lib.Ieee.{Float}
 use Rattle.vectors.specs.Vec.{part, Kept}
 use Rattle.vectors.specs.Sums.{inside}
-use Rattle.dual_point.specs.Dual.{Dual}
+use Rattle.dual_point.specs.Dual.{Dual, Values}
 use Rattle.dual_point.specs.Places.{point}
-use Rattle.line_search.specs.LineSearch.{dmu1At, dmu2At, direction, capTo, along, accepted, Trial, trials}
+use Rattle.newton_system.specs.Newton.{NewtonData}
+use Rattle.line_search.specs.LineSearch.{dmu1At, dmu2At, direction, stepCapTo, along, accepted, Trial, trials}
 
 -- ---- the direction, whose dz stands from b on, after the point in the first places
 
--- how the multiplier of the lower bound, or of the upper one, moves
+-- how the multiplier mu of the lower bound, or of the upper one, moves
 abbrev pub dmuAt : Bool → Float → Float → Float → Float → Float → Float
-dmuAt lower lam u z mu dz = cond lower (dmu2At lam u z mu dz) (dmu1At lam u z mu dz)
+dmuAt lower lam inv-t z mu dz = let v : Values = record { z = z; mu1 = mu; mu2 = mu } in cond lower (dmu2At lam inv-t v dz) (dmu1At lam inv-t v dz)
 
 -- multipliers from c on, and dz from b on; how they move stands from b + c on
 pub record Lane (m c b places : ℕ) : Type 0 where
@@ -23,18 +24,20 @@ pub record Lane (m c b places : ℕ) : Type 0 where
   pub room : b + c + m ≤ places
 
 -- the whole direction from b on, and the step cap
-pub record Directed (lam u : Float) (b m : ℕ) (s₀ s : List Float) (cap : Float) : Type 0 where
-  pub ways : point b m s ≡ direction lam u (point 0 m s₀) (part b m s₀)
-  pub cap-is : cap ≡ capTo (point 0 m s₀) (direction lam u (point 0 m s₀) (part b m s₀)) m
+pub record Directed (lam inv-t : Float) (b m : ℕ) (s₀ s : List Float) (cap : Float) : Type 0 where
+  pub ways : point b m s ≡ direction lam inv-t (point 0 m s₀) (part b m s₀)
+  pub cap-is : cap ≡ stepCapTo (point 0 m s₀) (direction lam inv-t (point 0 m s₀) (part b m s₀)) m
   pub kept : Kept (b + m) (m + m) s₀ s
 
 -- ---- the line search: the point, the trial after it, the direction from b on
 
+-- a point in the first places, and as many of D y
 pub record PointRoom (k m places known : ℕ) : Type 0 where
   pub order : k ≤ 2
   pub room : m + m + m ≤ places
   pub dy : m ≤ known
 
+-- the room of a line search
 pub record LineRoom (k m b places known : ℕ) : Type 0 where
   pub order : k ≤ 2
   pub after : 6 * m ≤ b
@@ -42,18 +45,18 @@ pub record LineRoom (k m b places known : ℕ) : Type 0 where
   pub dy : m ≤ known
 
 -- one trial: the point at a step stands after the point
-pub record Attempted (k : ℕ) (g dy : List Float) (lam u : Float) (m b : ℕ) (step old : Float) (s₀ s : List Float) (within good : Bool) : Type 0 where
+pub record Attempted (c : NewtonData) (m b : ℕ) (step old : Float) (s₀ s : List Float) (within good : Bool) : Type 0 where
   pub moves : point (3 * m) m s ≡ along (point 0 m s₀) (point b m s₀) step
   pub kept : Kept (3 * m) (3 * m) s₀ s
-  pub in-bounds : within ≡ inside lam (part (3 * m) m s)
-  pub accepts : good ≡ accepted k g dy lam u old (point (3 * m) m s) step
+  pub in-bounds : within ≡ inside (c .lam) (part (3 * m) m s)
+  pub accepts : good ≡ accepted c old (point (3 * m) m s) step
 
 -- n trials from s₀ on
-abbrev pub searchedFrom : ℕ → List Float → List Float → Float → Float → ℕ → ℕ → Float → List Float → ℕ → Float → Dual → Trial
-searchedFrom k g dy lam u m b old s n step last = trials k g dy lam u (point 0 m s) (point b m s) old n step last
+abbrev pub searchedFrom : NewtonData → ℕ → ℕ → Float → List Float → ℕ → Float → Dual → Trial
+searchedFrom c m b old s n step last = trials c (point 0 m s) (point b m s) old n step last
 
 -- what a line search leaves: its last trial after the point, and whether it is inside
-pub record Searched (k : ℕ) (g dy : List Float) (lam u : Float) (m b : ℕ) (cap old : Float) (s₀ s : List Float) (step : Float) (within : Bool) : Type 0 where
-  pub ends : searchedFrom k g dy lam u m b old s₀ 20 cap (point 0 m s₀) ≡ record { point = point (3 * m) m s; step = step }
-  pub in-bounds : within ≡ inside lam (part (3 * m) m s)
+pub record Searched (c : NewtonData) (m b : ℕ) (cap old : Float) (s₀ s : List Float) (step : Float) (within : Bool) : Type 0 where
+  pub ends : searchedFrom c m b old s₀ 20 cap (point 0 m s₀) ≡ record { point = point (3 * m) m s; step = step }
+  pub in-bounds : within ≡ inside (c .lam) (part (3 * m) m s)
   pub kept : Kept (3 * m) (3 * m) s₀ s

@@ -5,21 +5,22 @@ ghost use Prim.Native.Nat.{_≤_, _+_, _*_};
 ghost use lib.ListN.{length};
 ghost use lib.Ieee.{isNan};
 ghost use Rattle.vectors.specs.Vec.{at, list, part, Kept};
-ghost use Rattle.newton_system.specs.Newton.{squares, norm};
+ghost use Rattle.newton_system.specs.Newton.{residualSquare, residualNorm};
+ghost use Rattle.newton_system.specs.Rows.{dataOf};
 ghost use Rattle.dual_point.specs.Places.{point};
-ghost use Rattle.line_search.specs.LineSearch.{capped, capTo, along, lower};
+ghost use Rattle.line_search.specs.LineSearch.{stepCapBy, stepCapTo, along, sufficientDecrease};
 ghost use Rattle.line_search.specs.Places.{dmuAt, Lane, Directed, PointRoom, LineRoom, Attempted, Searched};
 
 // The square of the residual at the point in the first places of s.
-fn residual(s: &[f64], dy: &[f64], lam: f64, u: f64, g: [f64; 3], k: usize, m: usize) -> f64
+fn residual(s: &[f64], dy: &[f64], lam: f64, inv_t: f64, g: [f64; 3], k: usize, m: usize) -> f64
     requires { ⌜ PointRoom k m (length (now s)) (length (now dy)) ⌝ }
-    ensures { λ r. ⌜ r ≡ squares k g (now (dy .entry)) lam u (point 0 m (now (s .entry))) ⌝ }
+    ensures { λ r. ⌜ r ≡ residualSquare (dataOf k g (now (dy .entry)) lam «inv_t») (point 0 m (now (s .entry))) ⌝ }
 {
     let mut a = 0.0;
     let mut i = 0;
     while i < m {
         let q = gram::product(&s[0..m], g, k, i);
-        let e = newton_system::residual_of(q, dy[i], s[i], s[m + i], s[m + m + i], lam, u);
+        let e = newton_system::residual_of(q, dy[i], s[i], s[m + i], s[m + m + i], lam, inv_t);
         a = a + e;
         i += 1;
     }
@@ -27,21 +28,21 @@ fn residual(s: &[f64], dy: &[f64], lam: f64, u: f64, g: [f64; 3], k: usize, m: u
 }
 
 // How the multiplier of the upper bound, or of the lower one, moves at a place where z moves by dz.
-fn dmu_at(z: f64, mu: f64, dz: f64, lam: f64, u: f64, lower: bool) -> f64
-    ensures { λ r. ⌜ r ≡ dmuAt lower lam u z mu dz ⌝ }
+fn dmu_at(z: f64, mu: f64, dz: f64, lam: f64, inv_t: f64, lower: bool) -> f64
+    ensures { λ r. ⌜ r ≡ dmuAt lower lam «inv_t» z mu dz ⌝ }
 {
     if lower {
         let f2 = -z - lam;
-        return -(mu + (u - dz * mu) / f2);
+        return -(mu + (inv_t - dz * mu) / f2);
     }
     let f1 = z - lam;
-    -(mu + (u + dz * mu) / f1)
+    -(mu + (inv_t + dz * mu) / f1)
 }
 
 // The lesser of step and the step at which mu is left at a hundredth, if it falls: document 01's min, of which a number on the left leaves one comparison.
 fn cap_of(step: f64, mu: f64, dmu: f64) -> f64
     requires { ⌜ isNan step ≡ false ⌝ }
-    ensures { λ r. ⌜ (r ≡ capped step mu dmu) × (isNan r ≡ false) ⌝ }
+    ensures { λ r. ⌜ (r ≡ stepCapBy step mu dmu) × (isNan r ≡ false) ⌝ }
 {
     if dmu < 0.0 {
         let q = 0.99 * (-mu / dmu);
@@ -56,7 +57,7 @@ fn cap_of(step: f64, mu: f64, dmu: f64) -> f64
 // The greatest step, for the point in s and the direction from b on.
 fn cap(s: &[f64], b: usize, m: usize) -> f64
     requires { ⌜ (m + m + m ≤ b) × (b + m + m + m ≤ length (now s)) ⌝ }
-    ensures { λ r. ⌜ r ≡ capTo (point 0 m (now (s .entry))) (point b m (now (s .entry))) m ⌝ }
+    ensures { λ r. ⌜ r ≡ stepCapTo (point 0 m (now (s .entry))) (point b m (now (s .entry))) m ⌝ }
 {
     let mut step = 1.0;
     let mut i = 0;
@@ -83,26 +84,26 @@ fn move_to(s: &mut [f64], b: usize, step: f64, m: usize)
 }
 
 // How the multipliers that stand from c on move, m places from b + c on. From b on stands dz.
-fn fill_dmu(s: &mut [f64], b: usize, c: usize, lam: f64, u: f64, m: usize, lower: bool)
+fn fill_dmu(s: &mut [f64], b: usize, c: usize, lam: f64, inv_t: f64, m: usize, lower: bool)
     requires { ⌜ Lane m c b (length (now s)) ⌝ }
-    ensures { λ _. ⌜ (part (b + c) m (now (s .exit)) ≡ list m (λ i. dmuAt lower lam u (at (now (s .entry)) i) (at (now (s .entry)) (c + i)) (at (now (s .entry)) (b + i))))
+    ensures { λ _. ⌜ (part (b + c) m (now (s .exit)) ≡ list m (λ i. dmuAt lower lam «inv_t» (at (now (s .entry)) i) (at (now (s .entry)) (c + i)) (at (now (s .entry)) (b + i))))
         × Kept (b + c) m (now (s .entry)) (now (s .exit)) ⌝ }
 {
     let mut i = 0;
     while i < m {
-        let x = dmu_at(s[i], s[c + i], s[b + i], lam, u, lower);
+        let x = dmu_at(s[i], s[c + i], s[b + i], lam, inv_t, lower);
         s[b + c + i] = x;
         i += 1;
     }
 }
 
 // The whole direction, whose dz stands from b on, and the greatest step.
-pub fn directions(s: &mut [f64], b: usize, lam: f64, u: f64, m: usize) -> f64
+pub fn directions(s: &mut [f64], b: usize, lam: f64, inv_t: f64, m: usize) -> f64
     requires { ⌜ (m + m + m ≤ b) × (b + m + m + m ≤ length (now s)) ⌝ }
-    ensures { λ r. ⌜ Directed lam u b m (now (s .entry)) (now (s .exit)) r ⌝ }
+    ensures { λ r. ⌜ Directed lam «inv_t» b m (now (s .entry)) (now (s .exit)) r ⌝ }
 {
-    fill_dmu(s, b, m, lam, u, m, false);
-    fill_dmu(s, b, m + m, lam, u, m, true);
+    fill_dmu(s, b, m, lam, inv_t, m, false);
+    fill_dmu(s, b, m + m, lam, inv_t, m, true);
     cap(s, b, m)
 }
 
@@ -111,7 +112,7 @@ fn low_enough(
     s: &[f64],
     dy: &[f64],
     lam: f64,
-    u: f64,
+    inv_t: f64,
     g: [f64; 3],
     k: usize,
     m: usize,
@@ -119,9 +120,9 @@ fn low_enough(
     old: f64,
 ) -> bool
     requires { ⌜ PointRoom k m (length (now s)) (length (now dy)) ⌝ }
-    ensures { λ r. ⌜ r ≡ lower (norm k g (now (dy .entry)) lam u (point 0 m (now (s .entry)))) step old ⌝ }
+    ensures { λ r. ⌜ r ≡ sufficientDecrease (residualNorm (dataOf k g (now (dy .entry)) lam «inv_t») (point 0 m (now (s .entry)))) step old ⌝ }
 {
-    let a = residual(s, dy, lam, u, g, k, m);
+    let a = residual(s, dy, lam, inv_t, g, k, m);
     square_root::sqrt(a) <= (1.0 - 0.01 * step) * old
 }
 
@@ -136,7 +137,7 @@ fn attempt(
     b: usize,
     dy: &[f64],
     lam: f64,
-    u: f64,
+    inv_t: f64,
     g: [f64; 3],
     k: usize,
     m: usize,
@@ -144,7 +145,7 @@ fn attempt(
     old: f64,
 ) -> Tried
     requires { ⌜ LineRoom k m b (length (now s)) (length (now dy)) ⌝ }
-    ensures { λ r. ⌜ Attempted k g (now (dy .entry)) lam u m b step old (now (s .entry)) (now (s .exit)) (r .inside) (r .good) ⌝ }
+    ensures { λ r. ⌜ Attempted (dataOf k g (now (dy .entry)) lam «inv_t») m b step old (now (s .entry)) (now (s .exit)) (r .inside) (r .good) ⌝ }
 {
     let c = 3 * m;
     let d = c + m;
@@ -152,7 +153,7 @@ fn attempt(
     move_to(s, b, step, m);
     let within = vectors::inside(&s[c..d], lam);
     if within {
-        let low = low_enough(&s[c..e], dy, lam, u, g, k, m, step, old);
+        let low = low_enough(&s[c..e], dy, lam, inv_t, g, k, m, step, old);
         return Tried {
             inside: true,
             good: low,
@@ -176,7 +177,7 @@ pub fn line_search(
     b: usize,
     dy: &[f64],
     lam: f64,
-    u: f64,
+    inv_t: f64,
     g: [f64; 3],
     k: usize,
     m: usize,
@@ -184,13 +185,13 @@ pub fn line_search(
     old: f64,
 ) -> Trial
     requires { ⌜ LineRoom k m b (length (now s)) (length (now dy)) ⌝ }
-    ensures { λ r. ⌜ Searched k g (now (dy .entry)) lam u m b cap old (now (s .entry)) (now (s .exit)) (r .step) (r .inside) ⌝ }
+    ensures { λ r. ⌜ Searched (dataOf k g (now (dy .entry)) lam «inv_t») m b cap old (now (s .entry)) (now (s .exit)) (r .step) (r .inside) ⌝ }
 {
     let mut step = cap;
     let mut last = false;
     let mut i: usize = 0;
     while i < 20 {
-        let a = attempt(s, b, dy, lam, u, g, k, m, step, old);
+        let a = attempt(s, b, dy, lam, inv_t, g, k, m, step, old);
         if a.good {
             return Trial {
                 step: step,

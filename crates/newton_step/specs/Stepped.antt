@@ -8,7 +8,8 @@ use Rattle.vectors.specs.Vec.{Kept}
 use Rattle.differences.specs.Series.{Order}
 use Rattle.banded.specs.Rows.{sound}
 use Rattle.newton_system.specs.Newton.{system}
-use Rattle.line_search.specs.LineSearch.{searchLine, taken}
+use Rattle.newton_system.specs.Rows.{dataOf}
+use Rattle.line_search.specs.LineSearch.{searchLine, nextPoint}
 use Rattle.dual_point.specs.Places.{point}
 use Rattle.newton_step.specs.declared.Step.{Step}
 use Rattle.newton_step.specs.declared.Step.the-variants.{Lost, Moved}
@@ -30,7 +31,7 @@ stepOf true x = Moved x
 stepOf false x = Lost
 
 -- from place a on s₀ holds a point of 3 m numbers, and s the one that the step leaves; nothing differs before or after the places of the step
-pub record Stepped (k : ℕ) (g dy : List Float) (lam u : Float) (a m : ℕ) (s₀ s : List Float) (r : Step) : Type 0 where
-  pub answer : r ≡ stepOf (sound k (system k g lam (point a m s₀)) m) (searchLine k g dy lam u (point a m s₀) .step)
-  pub moves : point a m s ≡ cond (sound k (system k g lam (point a m s₀)) m) (taken lam (point a m s₀) (searchLine k g dy lam u (point a m s₀))) (point a m s₀)
+pub record Stepped (k : ℕ) (g dy : List Float) (lam inv-t : Float) (a m : ℕ) (s₀ s : List Float) (r : Step) : Type 0 where
+  pub answer : r ≡ stepOf (sound k (system k g lam (point a m s₀)) m) (searchLine (dataOf k g dy lam inv-t) (point a m s₀) .step)
+  pub moves : point a m s ≡ cond (sound k (system k g lam (point a m s₀)) m) (nextPoint lam (point a m s₀) (searchLine (dataOf k g dy lam inv-t) (point a m s₀))) (point a m s₀)
   pub kept : Kept a (stepArea k m) s₀ s

@@ -31,23 +31,23 @@ pub fn newton_step(
     s: &mut [f64],
     dy: &[f64],
     lam: f64,
-    u: f64,
+    inv_t: f64,
     g: [f64; 3],
     k: usize,
     m: usize,
 ) -> Step
     requires { ⌜ Steppable k m (length (now s)) (length (now dy)) ⌝ }
-    ensures { λ r. ⌜ Stepped k g (now (dy .entry)) lam u 0 m (now (s .entry)) (now (s .exit)) r ⌝ }
+    ensures { λ r. ⌜ Stepped k g (now (dy .entry)) lam «inv_t» 0 m (now (s .entry)) (now (s .exit)) r ⌝ }
 {
     let a = 6 * m;
     let b = a + m * (k + 1);
-    let w = newton_system::newton_z(s, a, dy, lam, u, g, k, m);
+    let w = newton_system::newton_z(s, a, dy, lam, inv_t, g, k, m);
     if !w.good {
         return Step::Lost;
     }
-    let cap = line_search::directions(s, b, lam, u, m);
+    let cap = line_search::directions(s, b, lam, inv_t, m);
     let norm = square_root::sqrt(w.acc);
-    let t = line_search::line_search(s, b, dy, lam, u, g, k, m, cap, norm);
+    let t = line_search::line_search(s, b, dy, lam, inv_t, g, k, m, cap, norm);
     take_trial(s, m, t.inside);
     Step::Moved(t.step)
 }

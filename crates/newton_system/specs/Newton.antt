@@ -1,4 +1,4 @@
--- Document 01, "Interior point": the Newton system of a point and the residual. k is the order, g the Gram row, dy is D y, i a place from 0 to m - 1.
+-- Document 01, "Interior point": the Newton system of a point and the residual. k is the order, g the Gram row, i a place from 0 to m - 1.
 use mathlib.Core.Bool.{cond}
 use mathlib.Core.List.{List}
 use Prim.Native.Nat.{ℕ}
@@ -12,52 +12,64 @@ use Rattle.vectors.specs.Vec.{at, list}
 use Rattle.banded.specs.Rows.{Matrix, rows}
 use Rattle.banded.specs.Solve.{solve}
 use Rattle.gram.specs.Gram.{gram, product}
-use Rattle.dual_point.specs.Dual.{Dual}
+use Rattle.dual_point.specs.Dual.{Dual, Values, valuesAt}
 
--- ---- at one place: z, mu1, mu2 there; q is (D D') z, u is 1 / t
+-- what a Newton step is told: the order k, the Gram row g, D y, lam and 1 / t
+pub record NewtonData : Type 0 where
+  pub k : ℕ
+  pub g : List Float
+  pub dy : List Float
+  pub lam : Float
+  pub inv-t : Float
 
--- how far z is from the bounds lam and -lam, below 0 inside
+-- ---- at one place: v has z, mu1 and mu2, q is (D D') z and dy is D y there
+
+-- f1 = z - lam, below 0 inside the bounds
 abbrev pub f1 : Float → Float → Float
 f1 lam z = z ⊖ lam
 
+-- f2 = -z - lam, below 0 inside the bounds
 abbrev pub f2 : Float → Float → Float
 f2 lam z = neg z ⊖ lam
 
--- what the system adds to the diagonal of D D'
-unfoldable pub barrier : Float → Float → Float → Float → Float
-barrier lam z mu1 mu2 = neg mu1 ⊘ f1 lam z ⊖ mu2 ⊘ f2 lam z
+-- what the system adds to the diagonal of D D': (-mu1 / f1) - mu2 / f2
+unfoldable pub diagonalShift : Float → Values → Float
+diagonalShift lam v = neg (v .mu1) ⊘ f1 lam (v .z) ⊖ v .mu2 ⊘ f2 lam (v .z)
 
-unfoldable pub rightAt : Float → Float → Float → Float → Float → Float
-rightAt lam u q dy z = neg q ⊕ dy ⊕ u ⊘ f1 lam z ⊖ u ⊘ f2 lam z
+-- the right side: ((-q + dy) + inv-t / f1) - inv-t / f2
+unfoldable pub rhsAt : Float → Float → Float → Float → Values → Float
+rhsAt lam inv-t q dy v = neg q ⊕ dy ⊕ inv-t ⊘ f1 lam (v .z) ⊖ inv-t ⊘ f2 lam (v .z)
 
--- the three residuals, and their squares' sum
-unfoldable pub squareAt : Float → Float → Float → Float → Float → Float → Float → Float
-squareAt lam u q dy z mu1 mu2 =
-    let d = q ⊖ dy ⊕ mu1 ⊖ mu2 in
-    let c = neg mu1 ⊗ f1 lam z ⊖ u in
-    let e = neg mu2 ⊗ f2 lam z ⊖ u in
-    d ⊗ d ⊕ c ⊗ c ⊕ e ⊗ e
+-- the residuals rd = ((q - dy) + mu1) - mu2, rc1 = ((-mu1)·f1) - inv-t and rc2 = ((-mu2)·f2) - inv-t, and their square (rd² + rc1²) + rc2²
+unfoldable pub residualSquareAt : Float → Float → Float → Float → Values → Float
+residualSquareAt lam inv-t q dy v =
+    let rd = q ⊖ dy ⊕ v .mu1 ⊖ v .mu2 in
+    let rc1 = neg (v .mu1) ⊗ f1 lam (v .z) ⊖ inv-t in
+    let rc2 = neg (v .mu2) ⊗ f2 lam (v .z) ⊖ inv-t in
+    rd ⊗ rd ⊕ rc1 ⊗ rc1 ⊕ rc2 ⊗ rc2
 
 -- ---- at a point
 
 -- the matrix D D' + diag(-mu1/f1 - mu2/f2), at row i and a column j up to i
 unfoldable pub system : ℕ → List Float → Float → Dual → Matrix
-system k g lam p i j = cond (ltb j i) (gram k g i j) (gram k g i j ⊕ barrier lam (at (p .z) i) (at (p .mu1) i) (at (p .mu2) i))
+system k g lam p i j = cond (ltb j i) (gram k g i j) (gram k g i j ⊕ diagonalShift lam (valuesAt p i))
 
 -- the right side
-unfoldable pub right : ℕ → List Float → List Float → Float → Float → Dual → List Float
-right k g dy lam u p = list (length (p .z)) (λ i. rightAt lam u (product k g (p .z) i) (at dy i) (at (p .z) i))
+unfoldable pub rhs : NewtonData → Dual → List Float
+rhs c p = list (length (p .z)) (λ i. rhsAt (c .lam) (c .inv-t) (product (c .k) (c .g) (p .z) i) (at (c .dy) i) (valuesAt p i))
 
--- the residual's square at place i, over all places, and its norm
-abbrev pub squareOf : ℕ → List Float → List Float → Float → Float → Dual → ℕ → Float
-squareOf k g dy lam u p i = squareAt lam u (product k g (p .z) i) (at dy i) (at (p .z) i) (at (p .mu1) i) (at (p .mu2) i)
+-- the residual's square at place i
+abbrev pub residualSquareOf : NewtonData → Dual → ℕ → Float
+residualSquareOf c p i = residualSquareAt (c .lam) (c .inv-t) (product (c .k) (c .g) (p .z) i) (at (c .dy) i) (valuesAt p i)
 
-unfoldable pub squares : ℕ → List Float → List Float → Float → Float → Dual → Float
-squares k g dy lam u p = sumTo (squareOf k g dy lam u p) (length (p .z))
+-- over all places
+unfoldable pub residualSquare : NewtonData → Dual → Float
+residualSquare c p = sumTo (residualSquareOf c p) (length (p .z))
 
-unfoldable pub norm : ℕ → List Float → List Float → Float → Float → Dual → Float
-norm k g dy lam u p = sqrtOf (squares k g dy lam u p)
+-- the residual norm, its root
+unfoldable pub residualNorm : NewtonData → Dual → Float
+residualNorm c p = sqrtOf (residualSquare c p)
 
--- dz from the system
-unfoldable pub newtonZ : ℕ → List Float → List Float → Float → Float → Dual → List Float
-newtonZ k g dy lam u p = solve k (rows k (system k g lam p) (length (p .z))) (right k g dy lam u p)
+-- dz, the solution of the system
+unfoldable pub newtonZ : NewtonData → Dual → List Float
+newtonZ c p = solve (c .k) (rows (c .k) (system (c .k) (c .g) (c .lam) p) (length (p .z))) (rhs c p)

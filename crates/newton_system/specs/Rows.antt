@@ -12,9 +12,13 @@ use Rattle.banded.specs.Solve.{forward}
 use Rattle.banded.specs.Run.{concat}
 use Rattle.dual_point.specs.Dual.{Dual}
 use Rattle.dual_point.specs.Places.{point}
-use Rattle.newton_system.specs.Newton.{system, right, squareOf, squares, newtonZ}
+use Rattle.newton_system.specs.Newton.{NewtonData, system, rhs, residualSquareOf, residualSquare, newtonZ}
 use Rattle.newton_system.specs.declared.Row.{Row}
 use Rattle.newton_system.specs.declared.Solved.{Solved}
+
+-- the data of a step, from the arguments that its functions take
+abbrev pub dataOf : ℕ → List Float → List Float → Float → Float → NewtonData
+dataOf k g dy lam inv-t = record { k = k; g = g; dy = dy; lam = lam; inv-t = inv-t }
 
 -- place r of a point of m places, in a run of n places, with D y in l places
 pub record AtRow (k m r n l : ℕ) : Type 0 where
@@ -36,22 +40,22 @@ abbrev pub besides : ℕ → List Float → Float → ℕ → Float
 besides k g d c = cond (ltb c k) (at g (k - c)) d
 
 -- v is row r of the system of p
-pub record RowMade (k : ℕ) (g dy : List Float) (lam u : Float) (p : Dual) (r : ℕ) (v : Row) : Type 0 where
+pub record RowMade (k : ℕ) (g dy : List Float) (lam inv-t : Float) (p : Dual) (r : ℕ) (v : Row) : Type 0 where
   pub diagonal : v .diagonal ≡ system k g lam p r r
-  pub side : v .right ≡ at (right k g dy lam u p) r
-  pub square : v .square ≡ squareOf k g dy lam u p r
+  pub side : v .right ≡ at (rhs (dataOf k g dy lam inv-t) p) r
+  pub square : v .square ≡ residualSquareOf (dataOf k g dy lam inv-t) p r
 
 -- from place a on, s holds the factor of the system of the point in s₀, and its right side carried forward, if all pivots are good
-pub record Swept (k : ℕ) (g dy : List Float) (lam u : Float) (a m : ℕ) (s₀ s : List Float) (w : Solved) : Type 0 where
+pub record Swept (k : ℕ) (g dy : List Float) (lam inv-t : Float) (a m : ℕ) (s₀ s : List Float) (w : Solved) : Type 0 where
   pub answer : w .good ≡ sound k (system k g lam (point 0 m s₀)) m
-  pub norm : w .good ≡ true → w .acc ≡ squares k g dy lam u (point 0 m s₀)
+  pub square : w .good ≡ true → w .acc ≡ residualSquare (dataOf k g dy lam inv-t) (point 0 m s₀)
   pub factor : w .good ≡ true → part a (m * (k + 1)) s ≡ concat (rows k (system k g lam (point 0 m s₀)) m)
-  pub side : w .good ≡ true → part (a + m * (k + 1)) m s ≡ forward k (rows k (system k g lam (point 0 m s₀)) m) (right k g dy lam u (point 0 m s₀)) m
+  pub side : w .good ≡ true → part (a + m * (k + 1)) m s ≡ forward k (rows k (system k g lam (point 0 m s₀)) m) (rhs (dataOf k g dy lam inv-t) (point 0 m s₀)) m
   pub kept : Kept a (m * (k + 1) + m) s₀ s
 
 -- and once it is solved: dz stands after the rows
-pub record NewtonSolved (k : ℕ) (g dy : List Float) (lam u : Float) (a m : ℕ) (s₀ s : List Float) (w : Solved) : Type 0 where
+pub record NewtonSolved (k : ℕ) (g dy : List Float) (lam inv-t : Float) (a m : ℕ) (s₀ s : List Float) (w : Solved) : Type 0 where
   pub answer : w .good ≡ sound k (system k g lam (point 0 m s₀)) m
-  pub norm : w .good ≡ true → w .acc ≡ squares k g dy lam u (point 0 m s₀)
-  pub dz : w .good ≡ true → part (a + m * (k + 1)) m s ≡ newtonZ k g dy lam u (point 0 m s₀)
+  pub square : w .good ≡ true → w .acc ≡ residualSquare (dataOf k g dy lam inv-t) (point 0 m s₀)
+  pub dz : w .good ≡ true → part (a + m * (k + 1)) m s ≡ newtonZ (dataOf k g dy lam inv-t) (point 0 m s₀)
   pub kept : Kept a (m * (k + 1) + m) s₀ s

@@ -1,11 +1,12 @@
 // The Newton system of a dual point: made, factored and carried forward a row at a time, and then solved. And what a place adds to the residual.
 ghost use mathlib.Core.Path.{_≡_};
 ghost use lib.ListN.{length};
+ghost use lib.Ieee.{Float};
 ghost use Rattle.float64.specs.Ops.{_⊕_};
 ghost use Rattle.differences.specs.Series.{Order};
 ghost use Rattle.banded.specs.Run.{HasRow, Stored};
 ghost use Rattle.dual_point.specs.Places.{point};
-ghost use Rattle.newton_system.specs.Newton.{barrier, rightAt, squareAt};
+ghost use Rattle.newton_system.specs.Newton.{diagonalShift, rhsAt, residualSquareAt};
 ghost use Rattle.newton_system.specs.Rows.{besides, AtRow, RowMade, AtSystem, Swept, NewtonSolved};
 
 // A row of the system: its diagonal, its right side, and what its place adds to the square of the residual.
@@ -21,21 +22,21 @@ pub struct Solved {
     pub good: bool,
 }
 
-// What a place adds to the square of the residual: q is (D D') z there, u is 1 / t.
-pub fn residual_of(q: f64, dy: f64, z: f64, mu1: f64, mu2: f64, lam: f64, u: f64) -> f64
-    ensures { λ r. ⌜ r ≡ squareAt lam u q dy z mu1 mu2 ⌝ }
+// What a place adds to the square of the residual: q is (D D') z there, inv_t is 1 / t.
+pub fn residual_of(q: f64, dy: f64, z: f64, mu1: f64, mu2: f64, lam: f64, inv_t: f64) -> f64
+    ensures { λ r. ⌜ r ≡ residualSquareAt lam «inv_t» q dy (record { z = z; mu1 = mu1; mu2 = mu2 }) ⌝ }
 {
     let f1 = z - lam;
     let f2 = -z - lam;
     let rd = q - dy + mu1 - mu2;
-    let rc1 = -mu1 * f1 - u;
-    let rc2 = -mu2 * f2 - u;
+    let rc1 = -mu1 * f1 - inv_t;
+    let rc2 = -mu2 * f2 - inv_t;
     rd * rd + rc1 * rc1 + rc2 * rc2
 }
 
 // The diagonal at a place, where g0 is that of D D'.
 fn diagonal_of(z: f64, mu1: f64, mu2: f64, lam: f64, g0: f64) -> f64
-    ensures { λ r. ⌜ r ≡ g0 ⊕ barrier lam z mu1 mu2 ⌝ }
+    ensures { λ r. ⌜ r ≡ g0 ⊕ diagonalShift lam (record { z = z; mu1 = mu1; mu2 = mu2 }) ⌝ }
 {
     let f1 = z - lam;
     let f2 = -z - lam;
@@ -43,18 +44,27 @@ fn diagonal_of(z: f64, mu1: f64, mu2: f64, lam: f64, g0: f64) -> f64
 }
 
 // The right side at a place.
-fn right_of(q: f64, dy: f64, z: f64, lam: f64, u: f64) -> f64
-    ensures { λ r. ⌜ r ≡ rightAt lam u q dy z ⌝ }
+fn rhs_of(q: f64, dy: f64, z: f64, lam: f64, inv_t: f64) -> f64
+    ensures { λ r. ⌜ ((mu1 mu2 : Float) → r ≡ rhsAt lam «inv_t» q dy (record { z = z; mu1 = mu1; mu2 = mu2 })) ⌝ }
 {
     let f1 = z - lam;
     let f2 = -z - lam;
-    -q + dy + u / f1 - u / f2
+    -q + dy + inv_t / f1 - inv_t / f2
 }
 
 // Row r for the point in the first 3 m places of s.
-fn row_at(s: &[f64], dy: &[f64], lam: f64, u: f64, g: [f64; 3], k: usize, m: usize, r: usize) -> Row
+fn row_at(
+    s: &[f64],
+    dy: &[f64],
+    lam: f64,
+    inv_t: f64,
+    g: [f64; 3],
+    k: usize,
+    m: usize,
+    r: usize,
+) -> Row
     requires { ⌜ AtRow k m r (length (now s)) (length (now dy)) ⌝ }
-    ensures { λ v. ⌜ RowMade k g (now (dy .entry)) lam u (point 0 m (now (s .entry))) r v ⌝ }
+    ensures { λ v. ⌜ RowMade k g (now (dy .entry)) lam «inv_t» (point 0 m (now (s .entry))) r v ⌝ }
 {
     let q = gram::product(&s[0..m], g, k, r);
     let y = dy[r];
@@ -62,8 +72,8 @@ fn row_at(s: &[f64], dy: &[f64], lam: f64, u: f64, g: [f64; 3], k: usize, m: usi
     let mu1 = s[m + r];
     let mu2 = s[m + m + r];
     let diagonal = diagonal_of(z, mu1, mu2, lam, g[0]);
-    let right = right_of(q, y, z, lam, u);
-    let square = residual_of(q, y, z, mu1, mu2, lam, u);
+    let right = rhs_of(q, y, z, lam, inv_t);
+    let square = residual_of(q, y, z, mu1, mu2, lam, inv_t);
     Row {
         diagonal,
         right,
@@ -89,19 +99,19 @@ fn sweep(
     a: usize,
     dy: &[f64],
     lam: f64,
-    u: f64,
+    inv_t: f64,
     g: [f64; 3],
     k: usize,
     m: usize,
 ) -> Solved
     requires { ⌜ AtSystem k a m (length (now s)) (length (now dy)) ⌝ }
-    ensures { λ w. ⌜ Swept k g (now (dy .entry)) lam u a m (now (s .entry)) (now (s .exit)) w ⌝ }
+    ensures { λ w. ⌜ Swept k g (now (dy .entry)) lam «inv_t» a m (now (s .entry)) (now (s .exit)) w ⌝ }
 {
     let e = a + (m * (k + 1) + m);
     let mut acc = 0.0;
     let mut r = 0;
     while r < m {
-        let v = row_at(s, dy, lam, u, g, k, m, r);
+        let v = row_at(s, dy, lam, inv_t, g, k, m, r);
         put_row(&mut s[a..e], g, k, m, r, v.diagonal, v.right);
         if !elimination::eliminate(&mut s[a..e], k, m, r) {
             return Solved { acc, good: false };
@@ -118,15 +128,15 @@ pub fn newton_z(
     a: usize,
     dy: &[f64],
     lam: f64,
-    u: f64,
+    inv_t: f64,
     g: [f64; 3],
     k: usize,
     m: usize,
 ) -> Solved
     requires { ⌜ AtSystem k a m (length (now s)) (length (now dy)) ⌝ }
-    ensures { λ r. ⌜ NewtonSolved k g (now (dy .entry)) lam u a m (now (s .entry)) (now (s .exit)) r ⌝ }
+    ensures { λ r. ⌜ NewtonSolved k g (now (dy .entry)) lam «inv_t» a m (now (s .entry)) (now (s .exit)) r ⌝ }
 {
-    let w = sweep(s, a, dy, lam, u, g, k, m);
+    let w = sweep(s, a, dy, lam, inv_t, g, k, m);
     if !w.good {
         return w;
     }

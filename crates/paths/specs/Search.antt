@@ -9,7 +9,7 @@ use Rattle.vectors.specs.Vec.{part}
 use Rattle.certificate.specs.Certificate.{Certificate, gapOf}
 use Rattle.dual_point.specs.Lanes.{candidateTrend}
 use Rattle.questions.specs.Questions.{Asked}
-use Rattle.fit.specs.Fit.{searchOf, keptOf, firstGap}
+use Rattle.fit.specs.Fit.{searchOf, keptOf}
 use Rattle.closed_paths.specs.declared.Trend.the-variants.{Won}
 use Rattle.closed_paths.specs.declared.Found.{Found}
 
@@ -25,7 +25,7 @@ pub record Reached (a : Asked) (s : List Float) (r : Found) : Type 0 where
   pub gap : r .gap ≡ gapOf (wonOf a)
   pub objective : r .objective ≡ wonOf a .primal
   pub converged : r .converged ≡ le (gapOf (wonOf a)) (a .tol ⊗ wonOf a .primal)
-  pub first : r .«first_gap» ≡ firstGap a
+  pub first : r .«first_gap» ≡ searchOf a .first
   pub best : r .«best_gap» ≡ searchOf a .best
   pub n-iter : r .«n_iter» ≡ searchOf a .n-iter
   pub improvements : r .improvements ≡ searchOf a .improvements

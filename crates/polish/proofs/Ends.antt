@@ -16,7 +16,7 @@ use Rattle.vectors.proofs.Parts.{length-part, partOf-range, putBack, part-put}
 use Rattle.differences.specs.Diff.{diffK, gramRow}
 use Rattle.dual_point.specs.Places.{point}
 use Rattle.dual_point.specs.Lanes.{settleLane, candidateTrend, candidateLane, polishArea, searchArea}
-use Rattle.active_set.specs.ActiveSet.{Hold, holdAt, freeTo, rightOf, solved}
+use Rattle.active_set.specs.ActiveSet.{Hold, holdAt, freeTo, compressedRhsAt, solved}
 use Rattle.polish.specs.Polish.{candidate, polish}
 use Rattle.active_set.specs.Marks.{Marks, Freed}
 use Rattle.polish.specs.Places.{polishFrom, Polished}
@@ -30,15 +30,15 @@ module _ (k : ℕ) (y dy : List Float) (is : take (length y - k) dy ≡ diffK k 
   dy-at : (i : ℕ) → i < length y - k → at dy i ≡ at (diffK k y) i
   dy-at i l = sym (getD-take (length y - k) dy i nan l) ∙ ap (λ (v : List Float). at v i) is
 
-  right-dy : (g : List Float) (lam : Float) (h : ℕ → Hold) (i : ℕ) → i < length y - k → rightOf k g dy lam h (length y - k) i ≡ rightOf k g (diffK k y) lam h (length y - k) i
-  unfolding rightOf
+  right-dy : (g : List Float) (lam : Float) (h : ℕ → Hold) (i : ℕ) → i < length y - k → compressedRhsAt k g dy lam h (length y - k) i ≡ compressedRhsAt k g (diffK k y) lam h (length y - k) i
+  unfolding compressedRhsAt
   right-dy g lam h i l = rw (dy-at i l)
 
   solved-dy : (g : List Float) (lam : Float) (h : ℕ → Hold) → solved k g dy lam h (length y - k) ≡ solved k g (diffK k y) lam h (length y - k)
   unfolding solved
   solved-dy g lam h =
       let f = freeTo h (length y - k) in
-      rw (list-ext (length f) (λ r. rightOf k g dy lam h (length y - k) (getD f r 0)) (λ r. rightOf k g (diffK k y) lam h (length y - k) (getD f r 0))
+      rw (list-ext (length f) (λ r. compressedRhsAt k g dy lam h (length y - k) (getD f r 0)) (λ r. compressedRhsAt k g (diffK k y) lam h (length y - k) (getD f r 0))
       (λ r l. right-dy g lam h (getD f r 0) (free-lt h (length y - k) r l)))
 
   candidate-dy : (g : List Float) (lam : Float) (h : ℕ → Hold) → candidate k g dy lam h (length y - k) ≡ candidate k g (diffK k y) lam h (length y - k)

@@ -11,10 +11,10 @@ use lib.Ieee.{Float, nan, inf, fin, binary64, mul, lt, isNan, ofBits}
 use lib.Ieee.Fits.{sub-fits}
 use lib.Ieee.Positive.{positive, above}
 use Rattle.float64.specs.Ops.{c0·99}
-use Rattle.search.specs.Search.{Problem, Point, Ended, Reason, small, spent, stalled, pivot, gap, start, enough, better, searched}
-use Rattle.search.specs.Demand3.{units, Kept, Alike, Demand3, clear}
-use Rattle.search.proofs.Trace.{Trace, closes, spends, stalls, loses, gains, stays, trace, traced, steps-grow, steps-within, idle}
-use Rattle.search.proofs.Falls.{Falls, here, lower, falls-whole, few-improvements}
+use Rattle.search.specs.Search.{Problem, Point, Ended, Reason, small, spent, stalled, pivot, gap, startAt, enough, improved, searched}
+use Rattle.search.specs.Demand3.{units, Bounded, BoundedEnd, Alike, SearchDemand3, clear}
+use Rattle.search.proofs.Trace.{Trace, closes, spends, stalls, loses, gains, stays, trace, traced, steps-grow, steps-within, first-stays, idle}
+use Rattle.search.proofs.Falls.{Falls, here, lower, finite-of, falls-whole, few-improvements}
 use Rattle.search.proofs.Clear.{goes-on}
 
 is-on : (b : Bool) → b ≡ true → T b
@@ -53,30 +53,38 @@ module _ {S : Type 0} (L : Problem S) (tol : Float) (tol-pos : T (positive tol))
   falls (stalls r p s n) v f = f
   falls (loses r p s n m) v f = f
   falls (gains {p = p} t s n m b tr) v f =
-      let l = is-on (better L p t) b in falls tr (inr refl) (lower (gap L t) f (above-of (gap L t) (p .best) (awake p v s) l) l (sub-fits binary64 (L .primal t) (L .dual t)))
+      let l = is-on (improved L p t) b in falls tr (inr refl) (lower (gap L t) f (above-of (gap L t) (p .best) (awake p v s) l) l (sub-fits binary64 (L .primal t) (L .dual t)))
   falls (stays {p = p} t s n m b tr) v f = falls tr (inl (awake p v s)) f
 
-  improvements : (max : ℕ) (s : S) → Falls (gap L s) (searched L tol max s .improvements) (searched L tol max s .best)
-  improvements max s = falls (trace L tol max (start L s)) (inr refl) (here (sub-fits binary64 (L .primal s) (L .dual s)))
+  improvements : (max-iter : ℕ) (s : S) → Falls (searched L tol max-iter s .first) (searched L tol max-iter s .improvements) (searched L tol max-iter s .best)
+  improvements max-iter s =
+      let t = trace L tol max-iter (startAt L s) in
+      subst (λ (a : Float). Falls a (searched L tol max-iter s .improvements) (searched L tol max-iter s .best)) (sym (first-stays t))
+      (falls t (inr refl) (here (sub-fits binary64 (L .primal s) (L .dual s))))
 
-  within-limit : (max : ℕ) (s : S) → searched L tol max s .n-iter ≤ max
-  within-limit max s = let h = steps-within (trace L tol max (start L s)) in omega arith
+  within-limit : (max-iter : ℕ) (s : S) → searched L tol max-iter s .n-iter ≤ max-iter
+  within-limit max-iter s = let h = steps-within (trace L tol max-iter (startAt L s)) in omega arith
 
-  within-ten : (max : ℕ) (s : S) → searched L tol max s .n-iter ≤ 10 * searched L tol max s .improvements + 10
-  within-ten max s = idle (trace L tol max (start L s)) zero-le zero-le
+  within-ten : (max-iter : ℕ) (s : S) → searched L tol max-iter s .n-iter ≤ 10 * searched L tol max-iter s .improvements + 10
+  within-ten max-iter s = idle (trace L tol max-iter (startAt L s)) zero-le zero-le
 
-  gains-few : (max : ℕ) (s : S) → searched L tol max s .improvements ≤ 144763
-  gains-few max s = few-improvements (improvements max s)
+  gains-few : (max-iter : ℕ) (s : S) → searched L tol max-iter s .improvements ≤ 144763
+  gains-few max-iter s = few-improvements (improvements max-iter s)
 
-  pub kept : (max : ℕ) (s : S) → Kept max (searched L tol max s .n-iter) (searched L tol max s .improvements) (gap L s) (searched L tol max s .best)
-  kept max s = record { limit = within-limit max s; ten = within-ten max s; few = gains-few max s; shrunk = falls-whole (improvements max s) }
+  pub bounded : (max-iter : ℕ) (s : S) → BoundedEnd max-iter (searched L tol max-iter s)
+  bounded max-iter s = record {
+    limit = within-limit max-iter s;
+    ten = within-ten max-iter s;
+    few = gains-few max-iter s;
+    shrunk = λ p q. falls-whole (improvements max-iter s) (finite-of (searched L tol max-iter s .first) p) (finite-of (searched L tol max-iter s .best) q);
+  }
 
-  steps-few : (max : ℕ) (s : S) → searched L tol max s .n-iter ≤ 1447640
-  steps-few max s = let h = within-ten max s in let g = gains-few max s in omega arith
+  steps-few : (max-iter : ℕ) (s : S) → searched L tol max-iter s .n-iter ≤ 1447640
+  steps-few max-iter s = let h = within-ten max-iter s in let g = gains-few max-iter s in omega arith
 
 -- ---- the same search under another limit
 abbrev retold : {S : Type 0} → Ended S → Reason → Ended S
-retold e r = record { state = e .state; n-iter = e .n-iter; best = e .best; improvements = e .improvements; reason = r }
+retold e r = record { state = e .state; n-iter = e .n-iter; first = e .first; best = e .best; improvements = e .improvements; reason = r }
 
 record Again {S : Type 0} (L : Problem S) (tol : Float) (k : ℕ) (p : Point S) (e : Ended S) : Type 0 where
   why : Reason
@@ -110,24 +118,24 @@ module _ {S : Type 0} {L : Problem S} {tol : Float} where
   beyond (suc k) (stays t s n m b tr) h g = stays t s n m b (beyond k tr (omega arith) (omega arith))
 
 module _ {S : Type 0} (L : Problem S) (tol : Float) where
-  pub same-end : (max other : ℕ) (s : S) → searched L tol max s .n-iter < max → searched L tol max s .n-iter ≤ other → Alike (searched L tol other s) (searched L tol max s)
-  same-end max other s h g =
-      let a = again other (trace L tol max (start L s)) (omega (arith, h)) (omega (arith, g)) in
-      let q : searched L tol other s ≡ retold (searched L tol max s) (a .why) = traced L tol (a .goes) in
-      record { state = ap (λ (e : Ended S). e .state) q; n-iter = ap (λ (e : Ended S). e .n-iter) q; best = ap (λ (e : Ended S). e .best) q; improvements = ap (λ (e : Ended S). e .improvements) q }
+  pub same-end : (max-iter other : ℕ) (s : S) → searched L tol max-iter s .n-iter < max-iter → searched L tol max-iter s .n-iter ≤ other → Alike (searched L tol other s) (searched L tol max-iter s)
+  same-end max-iter other s h g =
+      let a = again other (trace L tol max-iter (startAt L s)) (omega (arith, h)) (omega (arith, g)) in
+      let q : searched L tol other s ≡ retold (searched L tol max-iter s) (a .why) = traced L tol (a .goes) in
+      record { state = ap (λ (e : Ended S). e .state) q; n-iter = ap (λ (e : Ended S). e .n-iter) q; first = ap (λ (e : Ended S). e .first) q; best = ap (λ (e : Ended S). e .best) q; improvements = ap (λ (e : Ended S). e .improvements) q }
 
-  pub same-reason : (max other : ℕ) (s : S) → searched L tol max s .n-iter < max → searched L tol max s .n-iter < other → searched L tol other s ≡ searched L tol max s
-  same-reason max other s h g = traced L tol (beyond other (trace L tol max (start L s)) (omega (arith, h)) (omega (arith, g)))
+  pub same-reason : (max-iter other : ℕ) (s : S) → searched L tol max-iter s .n-iter < max-iter → searched L tol max-iter s .n-iter < other → searched L tol other s ≡ searched L tol max-iter s
+  same-reason max-iter other s h g = traced L tol (beyond other (trace L tol max-iter (startAt L s)) (omega (arith, h)) (omega (arith, g)))
 
 -- ---- the whole
-pub demand3 : {S : Type 0} (L : Problem S) (tol : Float) → T (positive tol) → ((s : S) → T (clear (L .primal s))) → (s : S) → Demand3 L tol s
+pub demand3 : {S : Type 0} (L : Problem S) (tol : Float) → T (positive tol) → ((s : S) → T (clear (L .primal s))) → (s : S) → SearchDemand3 L tol s
 demand3 L tol p q s = record {
-  kept = λ max. kept L tol p q max s;
-  alike = λ max other. same-end L tol max other s;
-  reason = λ max other. same-reason L tol max other s;
-  settled = λ max other h g. let k = steps-few L tol p q max s in same-reason L tol max other s (omega arith) (omega arith);
+  bounded = λ max-iter. bounded L tol p q max-iter s;
+  alike = λ max-iter other. same-end L tol max-iter other s;
+  reason = λ max-iter other. same-reason L tol max-iter other s;
+  settled = λ max-iter other h g. let k = steps-few L tol p q max-iter s in same-reason L tol max-iter other s (omega arith) (omega arith);
 }
 
 -- the closed paths: no iteration, no improvement, and the first and best gap are the gap, whatever it is
-pub kept-closed : (max : ℕ) (g : Float) → Kept max 0 0 g g
-kept-closed max g = record { limit = zero-le; ten = zero-le; few = zero-le; shrunk = λ p q. ≤ℤ-refl (units g *ℤ pos 1) }
+pub bounded-closed : (max-iter : ℕ) (g : Float) → Bounded max-iter 0 0 g g
+bounded-closed max-iter g = record { limit = zero-le; ten = zero-le; few = zero-le; shrunk = λ p q. ≤ℤ-refl (units g *ℤ pos 1) }

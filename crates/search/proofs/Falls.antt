@@ -13,6 +13,7 @@ use lib.Ieee.Scale.{finite}
 use lib.Ieee.Positive.{above, positive}
 use lib.Ieee.Digits.{back}
 use Rattle.float64.specs.Ops.{c0·99}
+use Rattle.float64.specs.Helpers.{isFinite}
 use Rattle.float64.specs.Units.{inUnits}
 use Rattle.float64.proofs.Doubles.{fit-of, units-under, units-pos}
 use Rattle.search.specs.Demand3.{units}
@@ -22,6 +23,16 @@ use Rattle.search.proofs.Shrink.{shrinks}
 pub data Falls (a : Float) : ℕ → Float → Type 0 where
   here : T (fits binary64 a) → Falls a 0 a
   lower : {j : ℕ} {b : Float} (g : Float) → Falls a j b → T (above b) → T (lt g (mul binary64 c0·99 b)) → T (fits binary64 g) → Falls a (suc j) g
+
+-- the kit's word and ours for a finite double
+pub finite-is : (x : Float) → isFinite x ≡ finite x
+unfolding isFinite
+finite-is nan = refl
+finite-is (inf s) = refl
+finite-is (fin s m e) = refl
+
+pub finite-of : (x : Float) → isFinite x ≡ true → T (finite x)
+finite-of x e = subst T (sym e ∙ finite-is x) tt
 
 -- finite, and the sign is clear
 abbrev pub plain : Float → Bool

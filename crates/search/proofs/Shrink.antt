@@ -21,7 +21,7 @@ or-split : (a b : Bool) → T (a || b) → T a ⊎ T b
 or-split true b t = inl tt
 or-split false b t = inr t
 
-pub lt-or-eq : (a b : ℕ) → T (ltb a b || (eqb a b && true)) → a ≤ b
+lt-or-eq : (a b : ℕ) → T (ltb a b || (eqb a b && true)) → a ≤ b
 lt-or-eq a b t = elim (or-split (ltb a b) (eqb a b && true) t) [ inl u ↦ le-of-lt (ltb→lt a b u) | inr u ↦ le-of-eq (eqb→eq a b (and-l (eqb a b) true u)) ]
 
 never-below : (n : ℕ) (d : ℤ) (x y : Float) → T (lt (fin false n d) x) → T (le x y) → HasValue y false (n * up d) (down d) → ⊥
@@ -41,7 +41,7 @@ never-below n d (fin false m e) (fin false k j) p q v =
     (lt-or-eq (m * up e * down j) (k * up j * down e) q))
 
 -- ---- THE LEMMA: a value below the rounded a / c is below a / c
-pub below-rounded : (f : Format) (n : ℕ) (d : ℤ) (a c : ℕ) → Fit f n d → 0 < c → T (lt (fin false n d) (round f false a c)) → n * up d * c < a * down d
+below-rounded : (f : Format) (n : ℕ) (d : ℤ) (a c : ℕ) → Fit f n d → 0 < c → T (lt (fin false n d) (round f false a c)) → n * up d * c < a * down d
 below-rounded f n d a c h C t =
     lt-of-not-le (λ (g : a * down d ≤ n * up d * c).
     never-below n d (round f false a c) (round f false (n * up d) (down d)) t (round-mono f a c (n * up d) (down d) C (down-pos d) g) (own-round f false n d h))
@@ -54,7 +54,7 @@ mul-opened f m e = refl
 hundred : (x y : ℕ) → x * 4503599627370496 < 4458563631096791 * y → 100 * x ≤ 99 * y
 hundred x y h = omega arith
 
-pub shrinks-fraction : (f : Format) (n : ℕ) (d : ℤ) (m : ℕ) (e : ℤ) → Fit f n d → T (lt (fin false n d) (mul f c0·99 (fin false m e))) → 100 * (n * up d * down e) ≤ 99 * (m * up e * down d)
+shrinks-fraction : (f : Format) (n : ℕ) (d : ℤ) (m : ℕ) (e : ℤ) → Fit f n d → T (lt (fin false n d) (mul f c0·99 (fin false m e))) → 100 * (n * up d * down e) ≤ 99 * (m * up e * down d)
 shrinks-fraction f n d m e h t =
     let r : n * up d * (4503599627370496 * down e) < 4458563631096791 * (m * up e) * down d =
     below-rounded f n d (4458563631096791 * (m * up e)) (4503599627370496 * down e) h (mul-pos (lit≤ tt) (down-pos e)) (subst (λ (z : Float). T (lt (fin false n d) z)) (mul-opened f m e) t) in

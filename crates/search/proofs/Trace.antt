@@ -9,11 +9,11 @@ use lib.Dec.{T, T-not, eqb, lit≤}
 use lib.Arith.{le-of-le-suc-ne}
 use lib.Ieee.Fits.{eq→eqb}
 use lib.Ieee.{Float}
-use Rattle.search.specs.Search.{Turn, lost, moved, Problem, Point, Ended, small, spent, stalled, pivot, Next, stop, go, ended, enough, stuck, better, advance, turned, iterate, run}
+use Rattle.search.specs.Search.{Turn, lost, moved, Problem, Point, Ended, small, spent, stalled, pivot, Next, stop, go, gap, ended, enough, stuck, improved, advance, turned, iterate, run}
 
 -- the end of an iteration that a bad pivot ends
 abbrev pub afterLoss : {S : Type 0} → Point S → Ended S
-afterLoss p = record { state = p .state; n-iter = suc (p .n-iter); best = p .best; improvements = p .improvements; reason = pivot }
+afterLoss p = record { state = p .state; n-iter = suc (p .n-iter); first = p .first; best = p .best; improvements = p .improvements; reason = pivot }
 
 -- ---- one equation for each way an iteration can go
 abbrev follow : {S : Type 0} → Problem S → Float → ℕ → Next S → Ended S
@@ -35,15 +35,15 @@ module _ {S : Type 0} (L : Problem S) (tol : Float) where
 
   small-next : (p : Point S) → enough L tol p ≡ true → iterate L tol p ≡ stop (ended p small)
   unfolding iterate
-  small-next p e = ap (λ (b : Bool). cond b (stop (ended p small)) (cond (stuck p) (stop (ended p stalled)) (turned L p (L .move (p .state))))) e
+  small-next p e = ap (λ (b : Bool). cond b (stop (ended p small)) (cond (stuck p) (stop (ended p stalled)) (turned L p (L .move (gap L (p .state)) (p .state))))) e
 
-  wide-next : (p : Point S) (b : Bool) → enough L tol p ≡ false → stuck p ≡ b → iterate L tol p ≡ cond b (stop (ended p stalled)) (turned L p (L .move (p .state)))
+  wide-next : (p : Point S) (b : Bool) → enough L tol p ≡ false → stuck p ≡ b → iterate L tol p ≡ cond b (stop (ended p stalled)) (turned L p (L .move (gap L (p .state)) (p .state)))
   unfolding iterate
   wide-next p b e f =
-      ap (λ (x : Bool). cond x (stop (ended p small)) (cond (stuck p) (stop (ended p stalled)) (turned L p (L .move (p .state))))) e
-      ∙ ap (λ (x : Bool). cond x (stop (ended p stalled)) (turned L p (L .move (p .state)))) f
+      ap (λ (x : Bool). cond x (stop (ended p small)) (cond (stuck p) (stop (ended p stalled)) (turned L p (L .move (gap L (p .state)) (p .state))))) e
+      ∙ ap (λ (x : Bool). cond x (stop (ended p stalled)) (turned L p (L .move (gap L (p .state)) (p .state)))) f
 
-  turn-next : (r : ℕ) (p : Point S) (x : Turn S) → enough L tol p ≡ false → stuck p ≡ false → L .move (p .state) ≡ x → run L tol (suc r) p ≡ follow L tol r (turned L p x)
+  turn-next : (r : ℕ) (p : Point S) (x : Turn S) → enough L tol p ≡ false → stuck p ≡ false → L .move (gap L (p .state)) (p .state) ≡ x → run L tol (suc r) p ≡ follow L tol r (turned L p x)
   turn-next r p x e f m = run-next r p ∙ ap (follow L tol r) (wide-next p false e f) ∙ ap (λ (y : Turn S). follow L tol r (turned L p y)) m
 
   -- the gap is small enough: whatever the limit allows
@@ -60,11 +60,11 @@ module _ {S : Type 0} (L : Problem S) (tol : Float) where
   run-stalled r p e f = run-next r p ∙ ap (follow L tol r) (wide-next p true e f)
 
   -- a bad pivot
-  pub run-lost : (r : ℕ) (p : Point S) → enough L tol p ≡ false → stuck p ≡ false → L .move (p .state) ≡ lost → run L tol (suc r) p ≡ afterLoss p
+  pub run-lost : (r : ℕ) (p : Point S) → enough L tol p ≡ false → stuck p ≡ false → L .move (gap L (p .state)) (p .state) ≡ lost → run L tol (suc r) p ≡ afterLoss p
   run-lost r p e f m = turn-next r p lost e f m
 
   -- a step, b says whether it is an improvement
-  pub run-moved : (r : ℕ) (p : Point S) (t : S) (b : Bool) → enough L tol p ≡ false → stuck p ≡ false → L .move (p .state) ≡ moved t → better L p t ≡ b → run L tol (suc r) p ≡ run L tol r (advance L p t b)
+  pub run-moved : (r : ℕ) (p : Point S) (t : S) (b : Bool) → enough L tol p ≡ false → stuck p ≡ false → L .move (gap L (p .state)) (p .state) ≡ moved t → improved L p t ≡ b → run L tol (suc r) p ≡ run L tol r (advance L p t b)
   run-moved r p t b e f m w = turn-next r p (moved t) e f m ∙ ap (λ (x : Bool). run L tol r (advance L p t x)) w
 
 -- ---- the trace
@@ -72,26 +72,26 @@ pub data Trace {S : Type 0} (L : Problem S) (tol : Float) : ℕ → Point S → 
   closes : (r : ℕ) (p : Point S) → enough L tol p ≡ true → Trace L tol r p (ended p small)
   spends : (p : Point S) → enough L tol p ≡ false → Trace L tol zero p (ended p spent)
   stalls : (r : ℕ) (p : Point S) → enough L tol p ≡ false → stuck p ≡ true → Trace L tol (suc r) p (ended p stalled)
-  loses : (r : ℕ) (p : Point S) → enough L tol p ≡ false → stuck p ≡ false → L .move (p .state) ≡ lost → Trace L tol (suc r) p (afterLoss p)
-  gains : {r : ℕ} {p : Point S} {e : Ended S} (t : S) → enough L tol p ≡ false → stuck p ≡ false → L .move (p .state) ≡ moved t → better L p t ≡ true → Trace L tol r (advance L p t true) e → Trace L tol (suc r) p e
-  stays : {r : ℕ} {p : Point S} {e : Ended S} (t : S) → enough L tol p ≡ false → stuck p ≡ false → L .move (p .state) ≡ moved t → better L p t ≡ false → Trace L tol r (advance L p t false) e → Trace L tol (suc r) p e
+  loses : (r : ℕ) (p : Point S) → enough L tol p ≡ false → stuck p ≡ false → L .move (gap L (p .state)) (p .state) ≡ lost → Trace L tol (suc r) p (afterLoss p)
+  gains : {r : ℕ} {p : Point S} {e : Ended S} (t : S) → enough L tol p ≡ false → stuck p ≡ false → L .move (gap L (p .state)) (p .state) ≡ moved t → improved L p t ≡ true → Trace L tol r (advance L p t true) e → Trace L tol (suc r) p e
+  stays : {r : ℕ} {p : Point S} {e : Ended S} (t : S) → enough L tol p ≡ false → stuck p ≡ false → L .move (gap L (p .state)) (p .state) ≡ moved t → improved L p t ≡ false → Trace L tol r (advance L p t false) e → Trace L tol (suc r) p e
 
 module _ {S : Type 0} (L : Problem S) (tol : Float) where
   -- every run has its trace
-  by-better : (r : ℕ) (p : Point S) (t : S) (b : Bool) → enough L tol p ≡ false → stuck p ≡ false → L .move (p .state) ≡ moved t → better L p t ≡ b
+  by-improved : (r : ℕ) (p : Point S) (t : S) (b : Bool) → enough L tol p ≡ false → stuck p ≡ false → L .move (gap L (p .state)) (p .state) ≡ moved t → improved L p t ≡ b
       → Trace L tol r (advance L p t b) (run L tol r (advance L p t b)) → Trace L tol (suc r) p (run L tol r (advance L p t b))
-  by-better r p t true e f m w tr = gains t e f m w tr
-  by-better r p t false e f m w tr = stays t e f m w tr
+  by-improved r p t true e f m w tr = gains t e f m w tr
+  by-improved r p t false e f m w tr = stays t e f m w tr
 
-  by-turn : (r : ℕ) (p : Point S) (x : Turn S) → enough L tol p ≡ false → stuck p ≡ false → L .move (p .state) ≡ x
+  by-turn : (r : ℕ) (p : Point S) (x : Turn S) → enough L tol p ≡ false → stuck p ≡ false → L .move (gap L (p .state)) (p .state) ≡ x
       → ((q : Point S) → Trace L tol r q (run L tol r q)) → Trace L tol (suc r) p (follow L tol r (turned L p x))
   by-turn r p lost e f m ih = loses r p e f m
-  by-turn r p (moved t) e f m ih = by-better r p t (better L p t) e f m refl (ih (advance L p t (better L p t)))
+  by-turn r p (moved t) e f m ih = by-improved r p t (improved L p t) e f m refl (ih (advance L p t (improved L p t)))
 
   by-stall : (r : ℕ) (p : Point S) (b : Bool) → enough L tol p ≡ false → stuck p ≡ b
-      → ((q : Point S) → Trace L tol r q (run L tol r q)) → Trace L tol (suc r) p (follow L tol r (cond b (stop (ended p stalled)) (turned L p (L .move (p .state)))))
+      → ((q : Point S) → Trace L tol r q (run L tol r q)) → Trace L tol (suc r) p (follow L tol r (cond b (stop (ended p stalled)) (turned L p (L .move (gap L (p .state)) (p .state)))))
   by-stall r p true e f ih = stalls r p e f
-  by-stall r p false e f ih = by-turn r p (L .move (p .state)) e f refl ih
+  by-stall r p false e f ih = by-turn r p (L .move (gap L (p .state)) (p .state)) e f refl ih
 
   by-test : (r : ℕ) (p : Point S) (b : Bool) → enough L tol p ≡ b → ((q : Point S) → Trace L tol r q (run L tol r q)) → Trace L tol (suc r) p (run L tol (suc r) p)
   by-test r p true e ih = subst (λ (x : Ended S). Trace L tol (suc r) p x) (sym (run-small L tol (suc r) p e)) (closes (suc r) p e)
@@ -134,6 +134,15 @@ module _ {S : Type 0} {L : Problem S} {tol : Float} where
   steps-within (loses r p e f m) = omega arith
   steps-within (gains t e f m w tr) = let h = steps-within tr in omega arith
   steps-within (stays t e f m w tr) = let h = steps-within tr in omega arith
+
+  -- the first gap stays
+  pub first-stays : {r : ℕ} {p : Point S} {e : Ended S} → Trace L tol r p e → e .first ≡ p .first
+  first-stays (closes r p e) = refl
+  first-stays (spends p e) = refl
+  first-stays (stalls r p e f) = refl
+  first-stays (loses r p e f m) = refl
+  first-stays (gains t e f m w tr) = first-stays tr
+  first-stays (stays t e f m w tr) = first-stays tr
 
 -- ---- ten idle iterations for each improvement, and ten more
 not-ten : (n : ℕ) → n ≤ 10 → eqb n 10 ≡ false → n ≤ 9

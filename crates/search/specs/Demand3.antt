@@ -4,40 +4,47 @@ use mathlib.Core.Path.{_≡_}
 use mathlib.Core.Bool.{Bool, true, cond, not}
 use lib.IntN.{ℤ, pos, negℤ, _*ℤ_}
 use lib.Signed.{_≤ℤ_}
-use lib.Dec.{T}
 use lib.Ieee.{Float, nan, inf, fin}
-use lib.Ieee.Scale.{finite}
+use Rattle.float64.specs.Helpers.{isFinite}
 use Rattle.float64.specs.Units.{inUnits, hasMinus}
-use Rattle.search.specs.Search.{Problem, Ended, gap, searched}
+use Rattle.search.specs.Search.{Problem, Ended, searched}
 
 -- a finite double as a whole number of units of 2^-1074, with its sign; 0 for a NaN or an infinity. Nothing is cut off (`Rattle.float64.proofs.Doubles`, `units-whole`).
 abbrev pub units : Float → ℤ
 units x = cond (hasMinus x) (negℤ (pos (inUnits x))) (pos (inUnits x))
 
--- what is kept of a search with the limit max: its iterations, its improvements J, its first and its best gap
-pub record Kept (max n-iter improvements : ℕ) (first best : Float) : Type 0 where
-  pub limit : n-iter ≤ max
+-- the numeric bounds on a search with the step limit max-iter: on its iterations, its improvements J, its first and its best gap
+pub record Bounded (max-iter n-iter improvements : ℕ) (first best : Float) : Type 0 where
+  -- n_iter is at most max_iter
+  pub limit : n-iter ≤ max-iter
+  -- and at most 10·J + 10,
   pub ten : n-iter ≤ 10 * improvements + 10
+  -- and J is at most 144,763.
   pub few : improvements ≤ 144763
-  -- best gap × 100^J is at most first gap × 99^J
-  pub shrunk : T (finite first) → T (finite best) → (units best *ℤ pos (100 ^ improvements)) ≤ℤ (units first *ℤ pos (99 ^ improvements))
+  -- If the first and best gaps are finite, best gap × 100^J is at most first gap × 99^J as exact numbers, each gap counted in whole units of 2^-1074.
+  pub shrunk : isFinite first ≡ true → isFinite best ≡ true → (units best *ℤ pos (100 ^ improvements)) ≤ℤ (units first *ℤ pos (99 ^ improvements))
+
+-- the bounds on where a search ended
+abbrev pub BoundedEnd : {S : Type 0} → ℕ → Ended S → Type 0
+BoundedEnd max-iter e = Bounded max-iter (e .n-iter) (e .improvements) (e .first) (e .best)
 
 -- two ends are the same in everything but the reason
 pub record Alike {S : Type 0} (e f : Ended S) : Type 0 where
   pub state : e .state ≡ f .state
   pub n-iter : e .n-iter ≡ f .n-iter
+  pub first : e .first ≡ f .first
   pub best : e .best ≡ f .best
   pub improvements : e .improvements ≡ f .improvements
 
 -- the whole, for a search from s with the tolerance tol
-pub record Demand3 {S : Type 0} (L : Problem S) (tol : Float) (s : S) : Type 0 where
-  pub kept : (max : ℕ) → Kept max (searched L tol max s .n-iter) (searched L tol max s .improvements) (gap L s) (searched L tol max s .best)
-  -- where n_iter is below max, every other limit that is at least n_iter gives the same end, but perhaps the reason,
-  pub alike : (max other : ℕ) → searched L tol max s .n-iter < max → searched L tol max s .n-iter ≤ other → Alike (searched L tol other s) (searched L tol max s)
+pub record SearchDemand3 {S : Type 0} (L : Problem S) (tol : Float) (s : S) : Type 0 where
+  pub bounded : (max-iter : ℕ) → BoundedEnd max-iter (searched L tol max-iter s)
+  -- where n_iter is below max_iter, every other limit that is at least n_iter gives the same end, but perhaps the reason,
+  pub alike : (max-iter other : ℕ) → searched L tol max-iter s .n-iter < max-iter → searched L tol max-iter s .n-iter ≤ other → Alike (searched L tol other s) (searched L tol max-iter s)
   -- and every one above n_iter the same reason too
-  pub reason : (max other : ℕ) → searched L tol max s .n-iter < max → searched L tol max s .n-iter < other → searched L tol other s ≡ searched L tol max s
+  pub reason : (max-iter other : ℕ) → searched L tol max-iter s .n-iter < max-iter → searched L tol max-iter s .n-iter < other → searched L tol other s ≡ searched L tol max-iter s
   -- any two limits above 1,447,640 agree
-  pub settled : (max other : ℕ) → 1447640 < max → 1447640 < other → searched L tol other s ≡ searched L tol max s
+  pub settled : (max-iter other : ℕ) → 1447640 < max-iter → 1447640 < other → searched L tol other s ≡ searched L tol max-iter s
 
 -- a NaN, or a value whose sign is clear
 abbrev pub clear : Float → Bool

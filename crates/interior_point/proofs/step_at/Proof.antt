@@ -39,7 +39,7 @@ returns c = let ns = c .before .before in
     let s = a .work .now in
     let w = ns .newton-step in
     let small = step-small (a .k) m n (st .pre .series .order .high) (omega arith) in
-    stepped-at (a .k) (a .g) _ (a .lam) (a .u) n (length s) m s (w .last .0) (w .result) (omega arith) (omega arith) (part-size n (length s - n) s (w .last .0) (omega arith) (w .kept .0))
+    stepped-at (a .k) (a .g) _ (a .lam) (a .inv-t) n (length s) m s (w .last .0) (w .result) (omega arith) (omega arith) (part-size n (length s - n) s (w .last .0) (omega arith) (w .kept .0))
     (rw (first-places m (a .dy .now) ∙ st .pre .known) at (w .ensures))
 
 pub step-at-spec : {M : Type 1} → statement M

@@ -4,8 +4,9 @@ use mathlib.Core.Bool.{true, false}
 use Prim.Native.Nat.{_+_, _*_}
 use native.Mathlib.Omega.{arith}
 use Rattle.dual_point.specs.Dual.{Dual}
-use Rattle.newton_system.specs.Newton.{norm}
-use Rattle.line_search.specs.LineSearch.{lower}
+use Rattle.newton_system.specs.Newton.{residualNorm}
+use Rattle.newton_system.specs.Rows.{dataOf}
+use Rattle.line_search.specs.LineSearch.{sufficientDecrease}
 use Rattle.vectors.specs.Sums.{inside}
 use Rattle.vectors.specs.Vec.{part}
 use Rattle.dual_point.specs.Places.{point}
@@ -28,9 +29,9 @@ returns c = let ic = c .before .before .before .before in
       moves = v .0;
       kept = v .1;
       in-bounds = q;
-      accepts = accept-yes (a .k) (a .g) (a .dy .now) (a .lam) (a .u) (a .old) (a .step) (point c₃ (a .m) s) (c .low-enough .result) q
+      accepts = accept-yes (dataOf (a .k) (a .g) (a .dy .now) (a .lam) (a .inv-t)) (a .old) (a .step) (point c₃ (a .m) s) (c .low-enough .result) q
           (c .low-enough .ensures
-          ∙ ap (λ (p : Dual). lower (norm (a .k) (a .g) (a .dy .now) (a .lam) (a .u) p) (a .step) (a .old)) (point-range (a .m) c₃ (c₃ + c₃) s (omega arith)));
+          ∙ ap (λ (p : Dual). sufficientDecrease (residualNorm (dataOf (a .k) (a .g) (a .dy .now) (a .lam) (a .inv-t)) p) (a .step) (a .old)) (point-range (a .m) c₃ (c₃ + c₃) s (omega arith)));
     }
 
 returns-2 : tie.Need-returns-2
@@ -45,7 +46,7 @@ returns-2 c = let mv = c .before .before .before .before .before .before in
       moves = v .0;
       kept = v .1;
       in-bounds = q;
-      accepts = accept-no (a .k) (a .g) (a .dy .now) (a .lam) (a .u) (a .old) (a .step) (point c₃ (a .m) s) q;
+      accepts = accept-no (dataOf (a .k) (a .g) (a .dy .now) (a .lam) (a .inv-t)) (a .old) (a .step) (point c₃ (a .m) s) q;
     }
 
 pub attempt-spec : {M : Type 1} → statement M

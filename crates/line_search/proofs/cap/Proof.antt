@@ -4,20 +4,20 @@ use mathlib.Core.Bool.{false}
 use Prim.Native.Nat.{_≤_, _-_}
 use lib.Ieee.{isNan}
 use native.Mathlib.Omega.{arith}
-use Rattle.line_search.specs.LineSearch.{capTo}
+use Rattle.line_search.specs.LineSearch.{stepCapTo}
 use Rattle.dual_point.specs.Places.{point}
 use Rattle.line_search.proofs.Laws.{cap-more, one-number}
 use Rattle.line_search.proofs.cap.Statement.{statement}
 use Rattle.line_search.proofs.cap.Tie as tie
 
 abbrev Inv-loop : tie.InvT-loop
-Inv-loop s b m step₀ i₀ step i = (i ≤ m) × (step ≡ capTo (point 0 m s) (point b m s) i) × (isNan step ≡ false)
+Inv-loop s b m step₀ i₀ step i = (i ≤ m) × (step ≡ stepCapTo (point 0 m s) (point b m s) i) × (isNan step ≡ false)
 
 abbrev μ-loop : tie.MeasureT-loop
 μ-loop s b m step₀ i₀ step i = m - i
 
 loop-holds : tie.Need-loop-holds Inv-loop μ-loop
-unfolding capTo
+unfolding stepCapTo
 loop-holds c = (search needs, refl, one-number)
 
 loop-again : tie.Need-loop-again Inv-loop μ-loop

@@ -1,10 +1,10 @@
 use borrow.Author.Needs.{needs}
-use Rattle.newton_system.specs.Newton.{norm}
+use Rattle.newton_system.specs.Newton.{residualNorm}
 use Rattle.line_search.proofs.low_enough.Statement.{statement}
 use Rattle.line_search.proofs.low_enough.Tie as tie
 
 returns : tie.Need-returns
-unfolding norm
+unfolding residualNorm
 returns c = simp (c .sqrt .ensures, c .before .residual .ensures)
 
 pub low-enough-spec : {M : Type 1} → statement M

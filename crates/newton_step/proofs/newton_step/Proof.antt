@@ -11,7 +11,7 @@ returns : tie.Need-returns
 returns c = let nz = c .before .before .before .before in
     let a = nz .before .before .before .before .args in
     let z = nz .newton-z in
-    lost-step (a .k) (a .g) (a .dy .now) (a .lam) (a .u) (a .m) (a .s .now) (z .last .0) (z .result) (z .ensures) (not-true _ (c .if1 .taken))
+    lost-step (a .k) (a .g) (a .dy .now) (a .lam) (a .inv-t) (a .m) (a .s .now) (z .last .0) (z .result) (z .ensures) (not-true _ (c .if1 .taken))
 
 line-search-requires : tie.Need-line-search-requires
 line-search-requires c κs = let dr = c .before .before .before .before in
@@ -34,7 +34,7 @@ returns-2 c = let tk = c .before .before in
     let nz = el .before .before .before .before in
     let a = nz .before .before .before .before .args in
     let z = nz .newton-z in
-    moved-step (a .k) (a .g) (a .dy .now) (a .lam) (a .u) (a .m) (a .s .now) (z .last .0) (z .result) (z .ensures) (dr .directions .result) (sq .sqrt .result)
+    moved-step (a .k) (a .g) (a .dy .now) (a .lam) (a .inv-t) (a .m) (a .s .now) (z .last .0) (z .result) (z .ensures) (dr .directions .result) (sq .sqrt .result)
     (ls .line-search .result .step) (ls .line-search .result .inside) (dr .directions .last .0) (ls .line-search .last .0) (tk .take-trial .last .0)
     (6 * a .m + a .m * (a .k + 1)) (not-false _ (el .if1 .left)) refl (dr .directions .ensures) (sq .sqrt .ensures) (ls .line-search .ensures) (tk .take-trial .ensures .0) (tk .take-trial .ensures .1)
 

@@ -1,10 +1,10 @@
 use mathlib.Core.Path.{refl}
-use Rattle.newton_system.specs.Newton.{barrier}
+use Rattle.newton_system.specs.Newton.{diagonalShift}
 use Rattle.newton_system.proofs.diagonal_of.Statement.{statement}
 use Rattle.newton_system.proofs.diagonal_of.Tie as tie
 
 returns : tie.Need-returns
-unfolding barrier
+unfolding diagonalShift
 returns c = refl
 
 pub diagonal-of-spec : {M : Type 1} → statement M

@@ -6,14 +6,14 @@ use Rattle.vectors.specs.Vec.{part}
 use Rattle.vectors.proofs.Parts.{range-part}
 use Rattle.gram.specs.Gram.{product}
 use Rattle.newton_system.proofs.Places.{square-place, system-diagonal}
-use Rattle.newton_system.proofs.Sweeps.{right-place}
+use Rattle.newton_system.proofs.Sweeps.{rhs-place}
 use borrow.Author.Needs.{needs}
 use Rattle.newton_system.proofs.row_at.Statement.{statement}
 use Rattle.newton_system.proofs.row_at.Tie as tie
 
 returns : tie.Need-returns
-returns c = let right = c .before in
-    let diagonal = right .before in
+returns c = let side = c .before in
+    let diagonal = side .before in
     let product-is = diagonal .before .before .before .before .before in
     let st = product-is .before .before .before .before in
     let a = st .args in
@@ -24,8 +24,8 @@ returns c = let right = c .before in
     product-is .product .ensures ∙ ap (λ (v : List Float). product (a .k) (a .t5) v (a .r)) (range-part 0 (a .m) (a .m) s (omega arith) (omega (arith, st .pre))) in
     record {
       diagonal = diagonal .diagonal-of .ensures ∙ system-diagonal (a .k) (a .t5) (a .lam) (a .m) s (a .r) _ h refl;
-      side = right .right-of .ensures ∙ right-place (a .k) (a .t5) (a .dy .now) (a .lam) (a .u) (a .m) s (a .r) q h q-is;
-      square = c .residual-of .ensures ∙ square-place (a .k) (a .t5) (a .dy .now) (a .lam) (a .u) (a .m) s (a .r) q h q-is;
+      side = side .rhs-of .ensures _ _ ∙ rhs-place (a .k) (a .t5) (a .dy .now) (a .lam) (a .inv-t) (a .m) s (a .r) q h q-is;
+      square = c .residual-of .ensures ∙ square-place (a .k) (a .t5) (a .dy .now) (a .lam) (a .inv-t) (a .m) s (a .r) q h q-is;
     }
 
 pub row-at-spec : {M : Type 1} → statement M

@@ -9,15 +9,15 @@ use Rattle.newton_system.proofs.sweep.Statement.{statement}
 use Rattle.newton_system.proofs.sweep.Tie as tie
 
 abbrev Inv-loop : tie.InvT-loop
-Inv-loop s₀ a dy lam u g k m e acc₀ r₀ s acc r = Sweeping k g dy lam u a m s₀ s acc r
+Inv-loop s₀ a dy lam inv-t g k m e acc₀ r₀ s acc r = Sweeping k g dy lam inv-t a m s₀ s acc r
 
 abbrev μ-loop : tie.MeasureT-loop
-μ-loop s₀ a dy lam u g k m e acc₀ r₀ s acc r = m - r
+μ-loop s₀ a dy lam inv-t g k m e acc₀ r₀ s acc r = m - r
 
 loop-holds : tie.Need-loop-holds Inv-loop μ-loop
 unfolding sumTo
 loop-holds c = let a = c .before .before .args in
-    sweep-none (a .k) (a .g) (a .dy .now) (a .lam) (a .u) (a .a) (a .m) (a .s .now)
+    sweep-none (a .k) (a .g) (a .dy .now) (a .lam) (a .inv-t) (a .a) (a .m) (a .s .now)
 
 returns : tie.Need-returns Inv-loop μ-loop
 returns c = let done = c .before .before .before in

@@ -8,13 +8,13 @@ use lib.Ieee.{nan}
 use lib.ListN.{getD}
 use Rattle.vectors.specs.Vec.{Written}
 use Rattle.active_set.specs.Marks.{heldBy}
-use Rattle.active_set.specs.ActiveSet.{rightOf}
+use Rattle.active_set.specs.ActiveSet.{compressedRhsAt}
 use Prim.Native.Nat.{_≤_, _-_, _+_}
 use Rattle.active_set.proofs.system.fill_right.Statement.{statement}
 use Rattle.active_set.proofs.system.fill_right.Tie as tie
 
 abbrev Inv-loop : tie.InvT-loop
-Inv-loop s₀ b marks dy lam g k n q p₀ s p = (p ≤ q) × Written b (b + p) (λ j. rightOf k g dy lam (heldBy n marks) (n - k) (getD marks (j - b) 0)) s₀ s
+Inv-loop s₀ b marks dy lam g k n q p₀ s p = (p ≤ q) × Written b (b + p) (λ j. compressedRhsAt k g dy lam (heldBy n marks) (n - k) (getD marks (j - b) 0)) s₀ s
 
 abbrev μ-loop : tie.MeasureT-loop
 μ-loop s₀ b marks dy lam g k n q p₀ s p = q - p
@@ -36,7 +36,7 @@ loop-again : tie.Need-loop-again Inv-loop μ-loop
 loop-again c = let l = c .before .before .before .before in
     let a = l .before .before .before .before .args in (
       search needs,
-      store-more (a .b) (l .loop .p) (λ r. rightOf (a .k) (a .g) (a .dy .now) (a .lam) (heldBy (a .n) (a .marks .now)) (a .n - a .k) (getD (a .marks .now) r 0))
+      store-more (a .b) (l .loop .p) (λ r. compressedRhsAt (a .k) (a .g) (a .dy .now) (a .lam) (heldBy (a .n) (a .marks .now)) (a .n - a .k) (getD (a .marks .now) r 0))
           (a .s .now) (l .loop .s) (c .right-at .result) (l .loop .inv .1) (omega arith) (c .right-at .ensures ∙ rw (c .before .wide .ensures)),
     )
 
@@ -45,7 +45,7 @@ returns c = let l = c .before .loop in
     let a = c .before .before .before .before .before .args in
     let e : l .p ≡ a .q = omega arith in
     let w = rw e at (l .inv .1) in
-    (store-done nan (a .b) (a .q) (λ r. rightOf (a .k) (a .g) (a .dy .now) (a .lam) (heldBy (a .n) (a .marks .now)) (a .n - a .k) (getD (a .marks .now) r 0)) (a .s .now) (l .s) w, written-kept w)
+    (store-done nan (a .b) (a .q) (λ r. compressedRhsAt (a .k) (a .g) (a .dy .now) (a .lam) (heldBy (a .n) (a .marks .now)) (a .n - a .k) (getD (a .marks .now) r 0)) (a .s .now) (l .s) w, written-kept w)
 
 pub fill-right-spec : {M : Type 1} → statement M
 fill-right-spec =

@@ -5,7 +5,7 @@ use Rattle.active_set.proofs.Laws.{less-more}
 use native.Mathlib.Nat.{sub-self}
 use Rattle.vectors.specs.Vec.{at}
 use Rattle.active_set.specs.Marks.{heldBy}
-use Rattle.active_set.specs.ActiveSet.{lessTo, rightOf}
+use Rattle.active_set.specs.ActiveSet.{lessTo, compressedRhsAt}
 use Prim.Native.Nat.{_≤_, _-_}
 use Rattle.active_set.proofs.system.right_at.Statement.{statement}
 use Rattle.active_set.proofs.system.right_at.Tie as tie
@@ -25,7 +25,7 @@ loop-again c = let l = c .before .before .before in
     (search needs, search needs, less-more _ _ _ _ _ _ _ _ _ (l .loop .inv .2) (omega arith) (c .less-held .ensures))
 
 returns : tie.Need-returns Inv-loop μ-loop
-unfolding rightOf
+unfolding compressedRhsAt
 returns c = let l = c .before in
     let e : l .loop .j ≡ l .before .before .smaller .result = omega arith in
     rw (e ∙ l .before .before .smaller .ensures, l .before .before .before .over .ensures) at (l .loop .inv .2)

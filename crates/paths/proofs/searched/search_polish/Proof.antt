@@ -18,7 +18,7 @@ use Rattle.certificate.specs.Certificate.{certify}
 use Rattle.polish.specs.Polish.{polish}
 use Rattle.polish.specs.Places.{isSome}
 use Rattle.questions.specs.Asking.{asking}
-use Rattle.fit.specs.Fit.{searchOf, keptOf, firstGap}
+use Rattle.fit.specs.Fit.{searchOf, keptOf}
 use Rattle.paths.proofs.Ways.{kept-of}
 use Rattle.paths.proofs.searched.search_polish.Statement.{statement}
 use Rattle.paths.proofs.searched.search_polish.Tie as tie
@@ -30,7 +30,7 @@ polish-l1-requires c κs = let ip = c .before .before .before .before in
     record { ready = record { series = r .series; room = omega (arith, r .room, ip .ipm-l1 .ensures .kept .size); known = r .known }; marked = h .1 }
 
 returns : tie.Need-returns
-unfolding searchOf keptOf firstGap
+unfolding searchOf keptOf
 returns c = let pl = c .before .before .before .before .before .before .before in
     let ip = pl .before .before .before .before .before in
     let st = ip .before .before .before .before .before .before in
