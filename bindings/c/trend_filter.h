@@ -45,20 +45,16 @@ uint32_t trend_filter_fit(const double *y, size_t y_len, double lam, double tol,
                           uint32_t *knots, size_t knots_len, double *work, size_t work_len, uint32_t *marks,
                           size_t marks_len, double numbers[5], uint64_t counts[4]);
 
-/* Whether a floating-point exception traps, where that can be asked without a library: x86-64 and 64-bit Arm with gcc or clang. */
+/* Whether a floating-point exception traps; with another compiler than gcc or clang this isn't known, and the answer is 0. */
 static inline int trend_filter_traps(void) {
 #if (defined(__GNUC__) || defined(__clang__)) && defined(__x86_64__)
     return (__builtin_ia32_stmxcsr() & 0x1f80u) != 0x1f80u; /* a mask bit for each exception; 0 traps */
-#elif (defined(__GNUC__) || defined(__clang__)) && defined(__aarch64__)
-    uint64_t control;
-    __asm__ volatile("mrs %0, fpcr" : "=r"(control));
-    return (control & 0x9f00u) != 0; /* an enable bit for each exception; 1 traps */
 #else
     return 0;
 #endif
 }
 
-/* 1 if doubles round to nearest, ties to even, subnormals are kept, and (where it can be asked) nothing traps; else 0. */
+/* 1 if doubles round to nearest, ties to even, subnormals are kept, and nothing traps; else 0. It may leave exception flags raised. */
 static inline int trend_filter_environment_ok(void) {
     /* volatile, so that the sums are done when this runs and not by the compiler */
     volatile double one = 1, unit = DBL_EPSILON, least = DBL_MIN, half, tie, up, down, small, sum, back;

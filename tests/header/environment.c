@@ -45,10 +45,10 @@ int main(int argc, char **argv) {
         _MM_SET_DENORMALS_ZERO_MODE(_MM_DENORMALS_ZERO_OFF);
         expect("subnormals kept again", 1);
 #endif
-#if defined(__GLIBC__) && (defined(__x86_64__) || defined(__aarch64__))
+#if defined(__GLIBC__) && defined(__x86_64__)
         const int traps[] = {FE_DIVBYZERO, FE_INEXACT, FE_INVALID, FE_OVERFLOW, FE_UNDERFLOW};
         for (int i = 0; i < 5; i++) {
-            if (feenableexcept(traps[i]) == -1 || fegetexcept() != traps[i]) continue; /* the machine has no such trap */
+            feenableexcept(traps[i]);
             expect("an exception traps", 0);
             fedisableexcept(traps[i]);
             expect("no exception traps again", 1);
