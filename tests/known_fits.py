@@ -1,50 +1,113 @@
-# Writes crates/fit/proofs/Corpus.antt: fits of the Rust, stored as NAME.case and NAME.exp, to be worked out from the definition.
-# Usage, from the repository's root: known_fits.py NAME,NAME,.. NAME,.. (one table for each argument)
-import struct, sys
+#!/usr/bin/env python3
+"""known_fits.py [--check]: crates/fit/proofs/Corpus.antt from the stored fits of tests/fits.
+
+tests/fits holds TABLE-PLACE.case, a call of the fit, and TABLE-PLACE.exp, the Rust's answer (`oracle answers tests/fits`
+writes the answers; oracle/src/stored.rs says what stands where). Each becomes a row of a table, and each table a proof that the
+definition works out to the Rust's bits. What the proofs open is taken from crates/fit/proofs/Known.antt.
+
+Without a word the file is written; with --check it is only compared, and another text, or no case, is an error.
+"""
+import pathlib
+import re
+import struct
+import sys
+
+ROOT = pathlib.Path(__file__).resolve().parent.parent
+FITS = ROOT / "tests/fits"
+KNOWN = ROOT / "crates/fit/proofs/Known.antt"
+CORPUS = ROOT / "crates/fit/proofs/Corpus.antt"
+
 
 def bits(x):
-    return 'F 0x%016x' % struct.unpack('<Q', struct.pack('<d', x))[0]
+    return "F 0x%016x" % struct.unpack("<Q", struct.pack("<d", x))[0]
+
 
 def vector(words):
-    return ''.join(w + ' ∷ ' for w in words) + '[]'
+    return "".join(w + " ∷ " for w in words) + "[]"
 
-def case(name):
-    d = open(name + '.case', 'rb').read()
-    n = struct.unpack_from('<I', d, 8)[0]
-    lent = struct.unpack_from('<5I', d, 12)
-    lam, tol = struct.unpack_from('<dd', d, 32)
-    max_iter = struct.unpack_from('<Q', d, 48)[0]
-    y = struct.unpack_from('<%dd' % n, d, 56)
-    e = open(name + '.exp').read().split('\n')
-    asked = 'record { y = %s; lam = %s; tol = %s; max-iter = %d; order = %d; penalty = %d }' % (vector(map(bits, y)), bits(lam), bits(tol), max_iter, d[4], d[5])
-    room = 'record { trend = %d; cycle = %d; knots = %d; work = %d; marks = %d }' % lent
-    if e[0].startswith('refused'):
-        end = e[0]
-    else:
-        f, v = e[0].split(), e[1].split()
-        h = [l.split() for l in e if l.startswith('h ')]
-        k = [l.split()[1] for l in e if l.startswith('knot ')]
-        end = ('fitted (record { trend = %s; cycle = %s; knots = %s; lam-max = F 0x%s; gap = F 0x%s; first-gap = F 0x%s; best-gap = F 0x%s; objective = F 0x%s; n-iter = %s; improvements = %s; converged = %s })'
-            % (vector('F 0x' + w[2] for w in h), vector('F 0x' + w[3] for w in h), vector(k), v[1], v[2], v[3], v[4], v[5], f[4], f[5], 'true' if f[6] == '1' else 'false'))
-    say = '-- order %d, penalty %d, y %s, lam %r, tol %r, at most %d iterations: %s' % (d[4], d[5], y, lam, tol, max_iter, e[0])
-    return say, asked, room, end
+
+def fields(pairs):
+    return "record { " + "; ".join(f"{name} = {value}" for name, value in pairs) + " }"
+
+
+def row(path):
+    """What a case asks in words, and the case as a record."""
+    d = path.read_bytes()
+    order, penalty, n = d[4], d[5], struct.unpack_from("<I", d, 8)[0]
+    lent = struct.unpack_from("<5I", d, 12)
+    lam, tol, max_iter = struct.unpack_from("<ddQ", d, 32)
+    y = struct.unpack_from(f"<{n}d", d, 56)
+    lines = path.with_suffix(".exp").read_text().splitlines()
+    asked = fields([("y", vector(map(bits, y))), ("lam", bits(lam)), ("tol", bits(tol)), ("max-iter", max_iter), ("order", order), ("penalty", penalty)])
+    room = fields(zip(["trend", "cycle", "knots", "work", "marks"], lent))
+    end = lines[0]
+    if not end.startswith("refused"):
+        steps, gains, converged = end.split()[4:7]
+        numbers = ["F 0x" + w for w in lines[1].split()[1:]]
+        places = [line.split() for line in lines if line.startswith("h ")]
+        knots = [line.split()[1] for line in lines if line.startswith("knot ")]
+        end = "fitted (" + fields(
+            [("trend", vector("F 0x" + p[2] for p in places)), ("cycle", vector("F 0x" + p[3] for p in places)), ("knots", vector(knots))]
+            + list(zip(["lam-max", "gap", "first-gap", "best-gap", "objective"], numbers))
+            + [("n-iter", steps), ("improvements", gains), ("converged", "true" if converged == "1" else "false")]
+        ) + ")"
+    say = f"-- order {order}, penalty {penalty}, y {y}, lam {lam!r}, tol {tol!r}, at most {max_iter} iterations: {lines[0]}"
+    return say, fields([("asked", asked), ("lent", room), ("outcome", end)])
+
+
+def table(number, cases, opened):
+    rows = ""
+    for i, path in enumerate(cases):
+        say, record = row(path)
+        rows += f"    {say}\n    {'∷ ' if i else ''}{record}\n"
+    return (
+        f"abbrev pub table-{number} : List Case\ntable-{number} =\n{rows}    ∷ []\n\n"
+        f"pub known-{number} : worked table-{number} ≡ stated table-{number}\n{opened}\nknown-{number} = refl\n"
+    )
+
+
+def text():
+    tables = {}
+    for path in FITS.glob("*.case"):
+        number, place = map(int, path.stem.split("-"))
+        tables.setdefault(number, []).append((place, path))
+    if not tables:
+        sys.exit("known_fits: tests/fits holds no case")
+    known = KNOWN.read_text().splitlines()
+    uses = [line for line in known if line.startswith("use Rattle") and ".specs.Known." not in line]
+    # the outcome of a case is named beside what is opened
+    uses = [re.sub(r"(\.specs\.Fit\.\{)(?!.*\bfitted\b)", r"\1fitted, ", line) for line in uses]
+    opened = next(line for line in known if line.startswith("unfolding"))
+    head = [
+        "-- Fits that the Rust made, worked out from the definition and compared bit by bit. Written by tests/known_fits.py.",
+        "use mathlib.Core.Path.{_≡_, refl}",
+        "use mathlib.Core.Bool.{true, false}",
+        "use mathlib.Core.List.{List, [], _∷_}",
+        "use Prim.Native.Nat.{ℕ}",
+        "use lib.Ieee.{Float, binary64, ofBits, ofInt, add, sub, mul, div, neg, lt, le, eq, isNan}",
+        *uses,
+        "use Rattle.fit.specs.Known.{Case, worked, stated}",
+        "",
+        "-- a double by its bits",
+        "abbrev pub F : ℕ → Float",
+        "F = ofBits binary64",
+        "",
+    ]
+    return "\n".join(head + [table(n, [p for _, p in sorted(tables[n])], opened) for n in sorted(tables)]), sum(map(len, tables.values()))
+
 
 def main():
-    groups = sys.argv[1:]
-    uses = open('crates/fit/proofs/Known.antt').read().split('\n')
-    keep = [l for l in uses if l.startswith('use Rattle') and 'specs.Known' not in l]
-    opened = [l for l in uses if l.startswith('unfolding')][0]
-    out = ['-- Fits that the Rust made, worked out from the definition and compared bit by bit. Written by tests/known_fits.py.',
-        'use mathlib.Core.Path.{_≡_, refl}', 'use mathlib.Core.Bool.{true, false}', 'use mathlib.Core.List.{List, [], _∷_}', 'use Prim.Native.Nat.{ℕ}',
-        'use lib.Ieee.{Float, binary64, ofBits, ofInt, add, sub, mul, div, neg, lt, le, eq, isNan}'] + keep
-    out = [l.replace('Fit.{pathL2', 'Fit.{fitted, pathL2') for l in out]
-    out += ['use Rattle.fit.specs.Known.{Case, worked, stated}', '', '-- a double by its bits', 'abbrev pub F : ℕ → Float', 'F = ofBits binary64', '']
-    for i, g in enumerate(groups):
-        rows = []
-        for name in g.split(','):
-            say, asked, room, end = case(name)
-            rows.append('    %s\n    %srecord { asked = %s; lent = %s; outcome = %s }\n' % (say, '∷ ' if rows else '', asked, room, end))
-        out.append('abbrev pub table-%d : List Case\ntable-%d =\n%s    ∷ []\n\npub known-%d : worked table-%d ≡ stated table-%d\n%s\nknown-%d = refl\n' % (i + 1, i + 1, ''.join(rows), i + 1, i + 1, i + 1, opened, i + 1))
-    open('crates/fit/proofs/Corpus.antt', 'w').write('\n'.join(out))
+    if sys.argv[1:] not in ([], ["--check"]):
+        sys.exit(__doc__)
+    right, cases = text()
+    if not sys.argv[1:]:
+        CORPUS.write_text(right)
+        return
+    differs = not CORPUS.is_file() or CORPUS.read_text() != right
+    if differs:
+        print("crates/fit/proofs/Corpus.antt is not what tests/known_fits.py makes of tests/fits")
+    print(f"{cases} cases, {int(differs)} differences")
+    sys.exit(int(differs))
+
 
 main()

@@ -1,4 +1,5 @@
-/* Document 01's listing by the C entry: cc example.c -L../../target/staticlib -ltrend_filter -o example */
+/* Document 01's listing by the C entry, after `rt staticlib trend_filter`:
+ * cc example.c -L../../target/staticlib -ltrend_filter -o example */
 #include <inttypes.h>
 #include <stdio.h>
 #include "trend_filter.h"
@@ -9,6 +10,10 @@ int main(void) {
     double y[N] = {8000, 0}, trend[N], cycle[N], work[40 * N], numbers[5];
     uint32_t knots[N], marks[2 * N];
     uint64_t counts[4];
+    if (!trend_filter_environment_ok()) {
+        printf("the floating-point environment is not the one that the promises assume\n");
+        return 1;
+    }
     uint32_t refused = trend_filter_fit(y, N, 4000, 1e-8, 100, 1, 1, trend, N, cycle, N, knots, N, work, 40 * N, marks, 2 * N, numbers, counts);
     if (refused) {
         printf("refused %" PRIu32 "\n", refused);

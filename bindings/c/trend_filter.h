@@ -23,10 +23,16 @@
  * After a refusal: trend, cycle, knots, numbers and counts are as found; after 1 to 9 work and marks are too.
  * After a fit or number 10 the first 40 n places of work and 2 n of marks are free (nothing is promised of them); later ones are as found.
  *
- * Steps: n_iter is at most max_iter and at most 10 J + 10, where J, the improvements, is at most 144,763. */
+ * Steps: n_iter is at most max_iter and at most 10 J + 10, where J, the improvements, is at most 144,763.
+ *
+ * The floating-point environment is taken as C starts a program: rounding to nearest, subnormal numbers kept (no flush to zero, no
+ * denormals as zero), no exception that traps. A program that is linked with -ffast-math, or that called fesetround, feenableexcept
+ * or _MM_SET_FLUSH_ZERO_MODE before the call, gets other bits or a signal. trend_filter_environment_ok says whether the thread that
+ * asks has the environment that the promises assume; asking once, before the first call, is enough if nothing changes it later. */
 #ifndef TREND_FILTER_H
 #define TREND_FILTER_H
 
+#include <float.h>
 #include <stddef.h>
 #include <stdint.h>
 
@@ -38,6 +44,31 @@ uint32_t trend_filter_fit(const double *y, size_t y_len, double lam, double tol,
                           uint32_t penalty, double *trend, size_t trend_len, double *cycle, size_t cycle_len,
                           uint32_t *knots, size_t knots_len, double *work, size_t work_len, uint32_t *marks,
                           size_t marks_len, double numbers[5], uint64_t counts[4]);
+
+/* Whether a floating-point exception traps; with another compiler than gcc or clang this isn't known, and the answer is 0. */
+static inline int trend_filter_traps(void) {
+#if (defined(__GNUC__) || defined(__clang__)) && defined(__x86_64__)
+    return (__builtin_ia32_stmxcsr() & 0x1f80u) != 0x1f80u; /* a mask bit for each exception; 0 traps */
+#else
+    return 0;
+#endif
+}
+
+/* 1 if doubles round to nearest, ties to even, subnormals are kept, and nothing traps; else 0. It may leave exception flags raised. */
+static inline int trend_filter_environment_ok(void) {
+    /* volatile, so that the sums are done when this runs and not by the compiler */
+    volatile double one = 1, unit = DBL_EPSILON, least = DBL_MIN, half, tie, up, down, small, sum, back;
+    if (trend_filter_traps()) return 0;
+    half = unit / 2;
+    tie = one + half; /* half way between 1 and 1 + unit: 1 is even */
+    up = (one + unit) + half; /* half way between 1 + unit and 1 + 2 unit: the latter is even */
+    down = -one - half;
+    small = least * unit; /* 2^-1074, the least subnormal */
+    sum = least / 2 + small;
+    back = sum - small;
+    back = back + back;
+    return tie == one && up == one + 2 * unit && down == -one && small > 0 && sum > small && back == least;
+}
 
 #ifdef __cplusplus
 }

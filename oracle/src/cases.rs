@@ -120,6 +120,47 @@ pub fn damaged(r: &mut Random, most: usize) -> Case {
     c
 }
 
+/// Orders and penalties that are none, some with a 1 or a 2 in their lowest bits.
+const NO_KIND: [u32; 9] = [0, 3, 4, 7, 0x101, 0x1_0002, 0x8000_0001, 0xffff_fffe, u32::MAX];
+
+/// A good case cut to fewer places than its order asks, to none in half of them, or with another order or penalty than 1 and 2.
+pub fn odd(r: &mut Random, most: usize) -> Case {
+    let mut c = good(r, most);
+    let what = r.below(5);
+    if what == 0 {
+        c.y.clear();
+    } else if what == 1 {
+        c.y.truncate(r.below(c.order as usize + 1));
+    }
+    if what == 2 || what == 4 {
+        c.penalty = r.pick(&NO_KIND);
+    }
+    if what == 3 || what == 4 {
+        c.order = r.pick(&NO_KIND);
+    }
+    if r.below(4) == 0 {
+        c.lam = f64::NAN;
+    }
+    c
+}
+
+/// Every order and every penalty of a few, with series of 0 to 4 places, also with a lam that a later question refuses.
+pub fn kinds() -> Vec<Case> {
+    let known = [1, 2];
+    let mut all = Vec::new();
+    for n in 0..5usize {
+        for &order in known.iter().chain(&NO_KIND) {
+            for &penalty in known.iter().chain(&NO_KIND) {
+                for lam in [0.0, 1.0, -1.0, f64::NAN] {
+                    let y = (0..n).map(|i| [1.0, 4.0, -2.0, 8.0][i % 4]).collect();
+                    all.push(Case { y, lam, tol: 1e-8, max_iter: 100, order, penalty });
+                }
+            }
+        }
+    }
+    all
+}
+
 /// Every series of 2 to 4 places over a few values, with a few penalties, both orders and both penalties.
 pub fn short_ones() -> Vec<Case> {
     let values = [-2.0, -1.0, 0.0, 1.0, 3.0];

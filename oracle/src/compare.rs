@@ -16,6 +16,10 @@ pub struct Tally {
     pub nan_gaps: u64,
     pub places: u64,
     pub iterations: u64,
+    /// calls that were lent more places than needed of some buffer, and none too short
+    pub longer: u64,
+    /// places whose bits were compared with what they held before the call
+    pub kept: u64,
 }
 
 fn same(a: f64, b: f64) -> bool {
@@ -60,6 +64,20 @@ pub fn expected(c: &Case) -> Result<(TrendFilterFit, counted::Seen), u32> {
     fit.map(|f| (f, seen))
 }
 
+/// What is right: the Rust's answer, and where it has none to give, document 01's: a series that is too long or a buffer that is
+/// too short is refused by its number, asked where document 01 asks it.
+pub fn answer(c: &Case, l: &Lengths) -> Result<(TrendFilterFit, counted::Seen), u32> {
+    let n = c.y.len();
+    let known = |x: u32| x == 1 || x == 2;
+    if known(c.order) && known(c.penalty) && n > 65_536 {
+        return Err(3);
+    }
+    match (expected(c), l.refused(n)) {
+        (Ok(_) | Err(10), Some(q)) => Err(q),
+        (e, _) => e,
+    }
+}
+
 fn same_fit(f: &TrendFilterFit, seen: &counted::Seen, a: &Answer) -> Result<(), String> {
     if a.refused != 0 {
         return Err(format!("refused with {} by the port only", a.refused));
@@ -77,22 +95,26 @@ fn same_fit(f: &TrendFilterFit, seen: &counted::Seen, a: &Answer) -> Result<(), 
         return Err(format!("number {i}: {:016x} by the Rust, {:016x} by the port", numbers[i].to_bits(), a.numbers[i].to_bits()));
     }
     let counts = [f.knots.len() as u64, f.n_iter as u64, seen.improvements, f.converged as u64];
-    if counts != a.counts {
+    if a.counts != counts {
         return Err(format!("counts: {counts:?} by the Rust, {:?} by the port", a.counts));
     }
     Ok(())
 }
 
 /// Compares one case; an error says where the two differ.
-pub fn compare(port: &mut Port, c: &Case, t: &mut Tally) -> Result<(), String> {
-    let l = Lengths::exact(c.y.len());
-    let a = port.fit(&c.y, c.lam, c.tol, c.max_iter, c.order, c.penalty, &l)?;
-    match expected(c) {
+pub fn compare(port: &mut Port, c: &Case, l: &Lengths, t: &mut Tally) -> Result<(), String> {
+    let n = c.y.len();
+    let a = port.fit(c, l)?;
+    let e = Lengths::exact(n);
+    let more = l.trend > n || l.cycle > n || l.knots > n || l.work > e.work || l.marks > e.marks;
+    t.longer += (l.refused(n).is_none() && more) as u64;
+    t.kept += a.kept;
+    match answer(c, l) {
         Err(q) if q == a.refused => {
             t.refused[q as usize] += 1;
             Ok(())
         }
-        Err(q) => Err(format!("refused with {q} by the Rust, {} by the port", a.refused)),
+        Err(q) => Err(format!("refused with {q} is right, {} by the port", a.refused)),
         Ok((f, seen)) => {
             same_fit(&f, &seen, &a)?;
             t.fits += 1;

@@ -18,3 +18,4 @@ pub mod compare;
 pub mod port;
 pub mod random;
 pub mod replay;
+pub mod stored;

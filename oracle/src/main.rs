@@ -1,71 +1,121 @@
 //! oracle SEED FITS LARGE: compares FITS cases of up to 168 places, every short one, and LARGE cases of up to 65,536 places.
 //! oracle replay SEED EACH PATH: writes the list of answers that the program `replay` reads, EACH cases a group.
-//! The first prints how the cases ended and 'differences: 0', or the first case that differs, and exits 1.
-use oracle::cases::{damaged, good, short_ones, Case};
-use oracle::compare::{compare, Tally};
-use oracle::port::{Lengths, Port};
+//! oracle answers FOLDER: writes the Rust's answer NAME.exp beside each NAME.case; oracle check FOLDER compares them.
+//! The first prints how the cases ended and 'N cases, 0 differences', or the first case that differs, and exits 1.
+use oracle::cases::{damaged, good, kinds, odd, short_ones, Case};
+use oracle::compare::{answer, compare, Tally};
+use oracle::port::{nothing_lent, Lengths, Port};
 use oracle::random::Random;
+use oracle::stored::answers;
+use std::process::exit;
 
-fn run(port: &mut Port, name: &str, cases: impl Iterator<Item = Case>) {
+const USAGE: &str = "oracle SEED FITS LARGE (FITS at least 1) | oracle replay SEED EACH PATH | oracle answers FOLDER | oracle check FOLDER";
+
+fn usage() -> ! {
+    eprintln!("{USAGE}");
+    exit(2)
+}
+
+fn number(word: &str) -> u64 {
+    word.parse().unwrap_or_else(|_| usage())
+}
+
+/// Compares the cases, each with lengths lent of its own; how many there were.
+fn run(port: &mut Port, name: &str, r: &mut Random, mut next: impl FnMut(&mut Random) -> Option<Case>) -> u64 {
     let mut t = Tally::default();
     let mut count = 0u64;
-    for c in cases {
+    while let Some(c) = next(r) {
         count += 1;
-        if let Err(e) = compare(port, &c, &mut t) {
-            println!("{name}: case {count} differs: {e}\n{c:?}");
-            std::process::exit(1);
+        let n = c.y.len();
+        let l = if count % 2 == 0 { Lengths::exact(n) } else { Lengths::any(r, n) };
+        if let Err(e) = compare(port, &c, &l, &mut t) {
+            println!("{name}: case {count} differs: {e}\n{c:?}\n{l:?}");
+            exit(1);
         }
     }
     println!("{name}: {count} cases, {t:?}");
+    count
 }
 
-/// What only the port refuses: sizes above 65,536 and short buffers, in the order of the questions.
-fn only_here(port: &mut Port) {
-    let check = |port: &mut Port, y: &[f64], l: Lengths, want: u32| {
-        let got = port.fit(y, 1.0, 1e-8, 10, 2, 1, &l).expect("a place outside what it may write").refused;
-        assert_eq!(got, want);
+/// What only the port refuses, each buffer one short, and where its sizes end.
+fn only_here(port: &mut Port) -> u64 {
+    let asked = |y: Vec<f64>| Case { y, lam: 1.0, tol: 1e-8, max_iter: 10, order: 2, penalty: 1 };
+    let mut count = 0;
+    let mut check = |c: &Case, l: Lengths, want: u32| {
+        let got = port.fit(c, &l).expect("a place outside what it may write").refused;
+        let right = answer(c, &l).err().unwrap_or(0);
+        assert_eq!((got, right), (want, want), "{c:?} {l:?}");
+        count += 1;
     };
-    let y = vec![0.0; 65_537];
-    check(port, &y, Lengths::exact(65_537), 3);
-    check(port, &y[..65_536], Lengths::exact(65_536), 0);
-    let y = [1.0, 2.0, 4.0, 8.0];
+    check(&asked(vec![0.0; 65_537]), Lengths::exact(65_537), 3);
+    check(&asked(vec![f64::NAN; 65_537]), Lengths::exact(65_537), 3);
+    check(&asked(vec![0.0; 65_536]), Lengths::exact(65_536), 0);
+    let c = asked(vec![1.0, 2.0, 4.0, 8.0]);
     for i in 0..5 {
         let mut l = Lengths::exact(4);
-        let short = [&mut l.trend, &mut l.cycle, &mut l.knots, &mut l.work, &mut l.marks];
-        *short.into_iter().nth(i).unwrap() -= 1;
-        check(port, &y, l, if i < 3 { 8 } else { 9 });
+        *l.buffer(i) -= 1;
+        check(&c, l, if i < 3 { 8 } else { 9 });
     }
-    println!("only here: 7 cases");
+    // A bad pivot is found after a short buffer.
+    let c = Case { y: vec![0.0; 3], lam: 1e308, penalty: 2, ..c };
+    let mut short = Lengths::exact(3);
+    short.marks -= 1;
+    check(&c, short, 9);
+    check(&c, Lengths::exact(3), 10);
+    for (order, penalty, want) in [(0, 1, 1), (1, 0, 1), (1, 3, 1), (1, 1, 2), (2, 2, 2)] {
+        assert_eq!(nothing_lent(order, penalty), want);
+        count += 1;
+    }
+    println!("only here: {count} cases");
+    count
 }
 
 fn main() {
     let args: Vec<String> = std::env::args().skip(1).collect();
-    if let [how, seed, each, path] = &args[..] {
-        assert_eq!(how, "replay", "oracle replay SEED EACH PATH");
-        let words = oracle::replay::list(seed.parse().unwrap(), each.parse().unwrap());
-        std::fs::write(path, words.iter().flat_map(|w| w.to_le_bytes()).collect::<Vec<u8>>()).unwrap();
-        println!("{} cases, {} bytes", words[0], 8 * words.len());
-        return;
-    }
-    let word: Vec<u64> = std::env::args().skip(1).map(|w| w.parse().expect("oracle SEED FITS LARGE")).collect();
-    let [seed, fits, large] = word[..] else {
-        panic!("oracle SEED FITS LARGE");
+    let words: Vec<&str> = args.iter().map(|s| s.as_str()).collect();
+    let (seed, fits, large) = match words[..] {
+        ["replay", seed, each, path] => {
+            let words = oracle::replay::list(number(seed), number(each) as usize);
+            std::fs::write(path, words.iter().flat_map(|w| w.to_le_bytes()).collect::<Vec<u8>>()).unwrap();
+            println!("{} cases, {} bytes", words[0], 8 * words.len());
+            return;
+        }
+        [how @ ("answers" | "check"), folder] => {
+            let (cases, other) = answers(folder.as_ref(), how == "answers");
+            other.iter().for_each(|name| println!("{name}: another answer by the Rust"));
+            println!("{cases} cases, {} differences", other.len());
+            exit((cases == 0 || !other.is_empty()) as i32);
+        }
+        [seed, fits, large] => (number(seed), number(fits), number(large)),
+        _ => usage(),
     };
+    if fits == 0 {
+        usage();
+    }
     let mut port = Port::default();
-    only_here(&mut port);
-    run(&mut port, "short", short_ones().into_iter());
-    let mut r = Random::new(seed);
-    run(&mut port, "random", (0..fits).map(|i| if i % 8 == 7 { damaged(&mut r, 168) } else { good(&mut r, 168) }));
-    let mut r = Random::new(seed ^ 0xff);
-    run(
-        &mut port,
-        "large",
-        (0..large).map(|_| {
+    let mut count = only_here(&mut port);
+    let mut all = kinds().into_iter();
+    count += run(&mut port, "orders and penalties", &mut Random::new(seed), |_| all.next());
+    let mut all = short_ones().into_iter();
+    count += run(&mut port, "short", &mut Random::new(seed), |_| all.next());
+    let mut i = 0;
+    count += run(&mut port, "random", &mut Random::new(seed), |r| {
+        i += 1;
+        (i <= fits).then(|| match i % 16 {
+            0 | 8 => damaged(r, 168),
+            4 => odd(r, 168),
+            _ => good(r, 168),
+        })
+    });
+    let mut i = 0;
+    count += run(&mut port, "large", &mut Random::new(seed ^ 0xff), |r| {
+        i += 1;
+        (i <= large).then(|| {
             let most = r.pick(&[1000, 8192, 65_536]);
-            let mut c = good(&mut r, most);
+            let mut c = good(r, most);
             c.max_iter = c.max_iter.min(60);
             c
-        }),
-    );
-    println!("differences: 0");
+        })
+    });
+    println!("{count} cases, 0 differences");
 }

@@ -1,4 +1,7 @@
-//! The proved port, called through its C entry with buffers that have room beyond what it may write.
+//! The proved port, called through its C entry. Before a call every place lent, and every place around them, holds a NaN of
+//! its own payload or a word of its own; after it the bits of each place that the contract keeps are compared with that.
+use crate::cases::Case;
+use crate::random::{mixed, Random};
 
 extern "C" {
     /// The C entry: see bindings/c/trend_filter.h.
@@ -14,11 +17,67 @@ extern "C" {
     ) -> u32;
 }
 
-/// What lies in every place before a call.
-pub const FILL: u64 = 0xfff8_5a5a_5a5a_5a5a;
-pub const FILL32: u32 = 0x5a5a_5a5a;
 const GUARD: usize = 8;
 
+/// What a place of a buffer holds before a call.
+trait Fill: Copy + PartialEq {
+    fn of(random: u64) -> Self;
+}
+
+impl Fill for u64 {
+    /// The bits of a NaN, quiet or signalling, of either sign: one of four with the least, the usual or the greatest payload,
+    /// the others with any.
+    fn of(random: u64) -> u64 {
+        const PAYLOADS: [u64; 4] = [1, 0x0007_ffff_ffff_ffff, 0x0008_0000_0000_0000, 0x000f_ffff_ffff_ffff];
+        const PAYLOAD: u64 = 0x000f_ffff_ffff_ffff;
+        let payload = if random >> 60 & 3 == 0 { PAYLOADS[(random & 3) as usize] } else { (random & PAYLOAD).max(1) };
+        random & 1 << 63 | 0x7ff << 52 | payload
+    }
+}
+
+impl Fill for u32 {
+    fn of(random: u64) -> u32 {
+        random as u32
+    }
+}
+
+/// A buffer between two guards.
+struct Lent<T> {
+    all: Vec<T>,
+    seed: u64,
+}
+
+impl<T> Default for Lent<T> {
+    fn default() -> Lent<T> {
+        Lent { all: Vec::new(), seed: 0 }
+    }
+}
+
+impl<T: Fill> Lent<T> {
+    fn filled(&mut self, places: usize, seed: u64) -> *mut T {
+        self.seed = seed;
+        self.all.clear();
+        self.all.extend((0..places + 2 * GUARD).map(|i| T::of(mixed(seed.wrapping_add(i as u64)))));
+        self.all[GUARD..].as_mut_ptr()
+    }
+
+    fn first(&self, count: usize) -> &[T] {
+        &self.all[GUARD..GUARD + count]
+    }
+
+    /// How many places were compared: all but the first `written`, the guards included. An error names the first that changed.
+    fn kept(&self, name: &str, written: usize) -> Result<u64, String> {
+        for (i, &x) in self.all.iter().enumerate() {
+            if (i < GUARD || GUARD + written <= i) && x != T::of(mixed(self.seed.wrapping_add(i as u64))) {
+                return Err(format!("{name}: place {} changed", i as i64 - GUARD as i64));
+            }
+        }
+        Ok((self.all.len() - written) as u64)
+    }
+}
+
+/// How many places are lent.
+#[derive(Clone, Debug)]
 pub struct Lengths {
     pub trend: usize,
     pub cycle: usize,
@@ -32,16 +91,53 @@ impl Lengths {
     pub fn exact(n: usize) -> Lengths {
         Lengths { trend: n, cycle: n, knots: n, work: 40 * n, marks: 2 * n }
     }
+
+    /// The buffer of number i, from 0.
+    pub fn buffer(&mut self, i: usize) -> &mut usize {
+        [&mut self.trend, &mut self.cycle, &mut self.knots, &mut self.work, &mut self.marks].into_iter().nth(i).unwrap()
+    }
+
+    /// What a series of n needs or more, each buffer by itself; in one of sixteen cases one or two are too short.
+    pub fn any(r: &mut Random, n: usize) -> Lengths {
+        let mut l = Lengths::exact(n);
+        for i in 0..5 {
+            let more = r.below(n + 9);
+            *l.buffer(i) += r.pick(&[0, 1, 3, more, 2 * more]);
+        }
+        if r.below(16) == 0 {
+            for _ in 0..1 + r.below(2) {
+                let i = r.below(5);
+                let needed = *Lengths::exact(n).buffer(i);
+                *l.buffer(i) = if r.below(2) == 0 { needed.saturating_sub(1) } else { r.below(needed + 1) };
+            }
+        }
+        l
+    }
+
+    /// The first of questions 8 and 9 that is answered no.
+    pub fn refused(&self, n: usize) -> Option<u32> {
+        if self.trend < n || self.cycle < n || self.knots < n {
+            Some(8)
+        } else if self.work < 40 * n || self.marks < 2 * n {
+            Some(9)
+        } else {
+            None
+        }
+    }
 }
 
 /// Buffers that are used again for every call.
 #[derive(Default)]
 pub struct Port {
-    trend: Vec<u64>,
-    cycle: Vec<u64>,
-    knots: Vec<u32>,
-    work: Vec<u64>,
-    marks: Vec<u32>,
+    calls: u64,
+    y: Vec<u64>,
+    trend: Lent<u64>,
+    cycle: Lent<u64>,
+    knots: Lent<u32>,
+    work: Lent<u64>,
+    marks: Lent<u32>,
+    numbers: Lent<u64>,
+    counts: Lent<u64>,
 }
 
 pub struct Answer {
@@ -50,70 +146,74 @@ pub struct Answer {
     pub cycle: Vec<f64>,
     pub knots: Vec<u32>,
     /// lam_max, gap, first gap, best gap, objective
-    pub numbers: [f64; 5],
+    pub numbers: Vec<f64>,
     /// knots, n_iter, improvements, converged
-    pub counts: [u64; 4],
-}
-
-fn cleared<T: Copy>(v: &mut Vec<T>, n: usize, fill: T) -> *mut T {
-    v.clear();
-    v.resize(n + 2 * GUARD, fill);
-    v[GUARD..].as_mut_ptr()
+    pub counts: Vec<u64>,
+    /// how many places were compared with what they held before the call
+    pub kept: u64,
 }
 
 impl Port {
     /// Calls the port; an error names a place outside what the contract lets it write.
-    pub fn fit(&mut self, y: &[f64], lam: f64, tol: f64, max_iter: u64, order: u32, penalty: u32, l: &Lengths) -> Result<Answer, String> {
-        let n = y.len();
-        let trend = cleared(&mut self.trend, l.trend, FILL);
-        let cycle = cleared(&mut self.cycle, l.cycle, FILL);
-        let knots = cleared(&mut self.knots, l.knots, FILL32);
-        let work = cleared(&mut self.work, l.work, FILL);
-        let marks = cleared(&mut self.marks, l.marks, FILL32);
-        let mut numbers = [f64::from_bits(FILL); 5];
-        let mut counts = [FILL; 4];
+    pub fn fit(&mut self, c: &Case, l: &Lengths) -> Result<Answer, String> {
+        let n = c.y.len();
+        self.calls += 1;
+        let seed = |buffer: u64| mixed(self.calls << 3 | buffer);
+        self.y.clear();
+        self.y.extend(c.y.iter().map(|x| x.to_bits()));
+        let trend = self.trend.filled(l.trend, seed(0)) as *mut f64;
+        let cycle = self.cycle.filled(l.cycle, seed(1)) as *mut f64;
+        let knots = self.knots.filled(l.knots, seed(2));
+        let work = self.work.filled(l.work, seed(3)) as *mut f64;
+        let marks = self.marks.filled(l.marks, seed(4));
+        let numbers = self.numbers.filled(5, seed(5)) as *mut [f64; 5];
+        let counts = self.counts.filled(4, seed(6)) as *mut [u64; 4];
         // SAFETY: each pointer is to as many places as the length beside it says, and none overlap.
         let refused = unsafe {
             trend_filter_fit(
-                y.as_ptr(), n, lam, tol, max_iter, order, penalty,
-                trend as *mut f64, l.trend, cycle as *mut f64, l.cycle, knots, l.knots, work as *mut f64, l.work, marks, l.marks,
-                &mut numbers, &mut counts,
+                self.y.as_ptr() as *const f64, n, c.lam, c.tol, c.max_iter, c.order, c.penalty,
+                trend, l.trend, cycle, l.cycle, knots, l.knots, work, l.work, marks, l.marks, numbers, counts,
             )
         };
         let fit = refused == 0;
-        let free = refused == 0 || refused == 10;
-        let written = if fit { n } else { 0 };
-        let count = if fit { counts[0] as usize } else { 0 };
-        kept64("trend", &self.trend, written)?;
-        kept64("cycle", &self.cycle, written)?;
-        kept32("knots", &self.knots, count)?;
-        kept64("work", &self.work, if free { 40 * n } else { 0 })?;
-        kept32("marks", &self.marks, if free { 2 * n } else { 0 })?;
-        if !fit && (numbers.iter().any(|x| x.to_bits() != FILL) || counts.iter().any(|&c| c != FILL)) {
-            return Err("numbers or counts changed by a refusal".into());
+        let if_fit = |places: usize| if fit { places } else { 0 };
+        let if_free = |places: usize| if fit || refused == 10 { places } else { 0 };
+        let count = if_fit(self.counts.first(1)[0] as usize);
+        if count > l.knots {
+            return Err("more knots than places".into());
         }
-        let doubles = |v: &[u64], n: usize| v[GUARD..GUARD + n].iter().map(|&b| f64::from_bits(b)).collect();
+        if self.y.iter().zip(&c.y).any(|(&a, b)| a != b.to_bits()) {
+            return Err("y changed".into());
+        }
+        let kept = self.trend.kept("trend", if_fit(n))?
+            + self.cycle.kept("cycle", if_fit(n))?
+            + self.knots.kept("knots", count)?
+            + self.work.kept("work", if_free(40 * n))?
+            + self.marks.kept("marks", if_free(2 * n))?
+            + self.numbers.kept("numbers", if_fit(5))?
+            + self.counts.kept("counts", if_fit(4))?;
+        let doubles = |v: &Lent<u64>, n: usize| v.first(n).iter().map(|&b| f64::from_bits(b)).collect();
         Ok(Answer {
             refused,
-            trend: doubles(&self.trend, written),
-            cycle: doubles(&self.cycle, written),
-            knots: self.knots[GUARD..GUARD + count].to_vec(),
-            numbers,
-            counts,
+            trend: doubles(&self.trend, if_fit(n)),
+            cycle: doubles(&self.cycle, if_fit(n)),
+            knots: self.knots.first(count).to_vec(),
+            numbers: doubles(&self.numbers, if_fit(5)),
+            counts: self.counts.first(if_fit(4)).to_vec(),
+            kept,
         })
     }
 }
 
-fn kept64(name: &str, v: &[u64], written: usize) -> Result<(), String> {
-    match v.iter().enumerate().find(|&(i, &x)| (i < GUARD || GUARD + written <= i) && x != FILL) {
-        Some((i, _)) => Err(format!("{name}: place {} changed", i as i64 - GUARD as i64)),
-        None => Ok(()),
-    }
-}
-
-fn kept32(name: &str, v: &[u32], written: usize) -> Result<(), String> {
-    match v.iter().enumerate().find(|&(i, &x)| (i < GUARD || GUARD + written <= i) && x != FILL32) {
-        Some((i, _)) => Err(format!("{name}: place {} changed", i as i64 - GUARD as i64)),
-        None => Ok(()),
+/// The answer where nothing is lent but addresses of no places: every pointer but those of numbers and counts is null.
+pub fn nothing_lent(order: u32, penalty: u32) -> u32 {
+    use std::ptr::{null, null_mut};
+    let (mut numbers, mut counts) = ([0.0; 5], [0; 4]);
+    // SAFETY: a slice of no places is never read or written.
+    unsafe {
+        trend_filter_fit(
+            null(), 0, 1.0, 1e-8, 100, order, penalty,
+            null_mut(), 0, null_mut(), 0, null_mut(), 0, null_mut(), 0, null_mut(), 0, &mut numbers, &mut counts,
+        )
     }
 }

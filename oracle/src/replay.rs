@@ -5,7 +5,7 @@
 //! gap, objective, how many knots, n_iter, improvements, converged, the n places of trend and of cycle, and the knots.
 //! A double is its bits, any NaN 7ff8000000000000.
 use crate::cases::{damaged, good, lam_max_of, Case};
-use crate::compare::expected;
+use crate::compare::{answer, expected};
 use crate::port::Lengths;
 use crate::random::Random;
 
@@ -29,17 +29,8 @@ fn words(group: usize, c: &Case, l: &Lengths, out: &mut Vec<u64>) {
     out.extend(lent);
     out.extend([c.lam.to_bits(), c.tol.to_bits(), c.max_iter]);
     out.extend(c.y.iter().map(|&x| bits(x)));
-    let short = if l.trend < n || l.cycle < n || l.knots < n {
-        8
-    } else if l.work < 40 * n || l.marks < 2 * n {
-        9
-    } else {
-        0
-    };
-    match expected(c) {
-        Err(q) if q != 10 || short == 0 => out.push(q as u64),
-        _ if short != 0 => out.push(short),
-        Err(_) => unreachable!(),
+    match answer(c, l) {
+        Err(q) => out.push(q as u64),
         Ok((f, s)) => {
             out.push(0);
             out.extend([f.lam_max, f.duality_gap, s.first, s.best, f.objective].map(bits));
@@ -87,8 +78,7 @@ pub fn list(seed: u64, each: usize) -> Vec<u64> {
     for i in 0..each {
         let c = good(&mut r, 14);
         let mut l = Lengths::exact(c.y.len());
-        let lent = [&mut l.trend, &mut l.cycle, &mut l.knots, &mut l.work, &mut l.marks];
-        *lent.into_iter().nth(i % 5).unwrap() -= 1;
+        *l.buffer(i % 5) -= 1;
         count += 1;
         words(1, &c, &l, &mut out);
     }

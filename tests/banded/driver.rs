@@ -158,6 +158,10 @@ fn main() {
     let args: Vec<u64> = env::args().skip(1).map(|a| a.parse().unwrap()).collect();
     let mut r = Random(*args.first().unwrap_or(&1));
     let systems = *args.get(1).unwrap_or(&20000);
+    if systems == 0 {
+        println!("no system to compare");
+        exit(2);
+    }
     out_of_range();
     let mut solved = 0;
     for i in 0..systems {
@@ -172,5 +176,5 @@ fn main() {
             solved += 1;
         }
     }
-    println!("systems: {systems}, solved: {solved}, refused: {}, differences: 0", systems - solved);
+    println!("{systems} cases, 0 differences ({solved} solved, {} refused)", systems - solved);
 }

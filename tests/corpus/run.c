@@ -1,35 +1,43 @@
-// Runs every call of the fit that is stored in a folder (NNN.case, NNN.exp) through trend_filter_fit and compares
-// each number, place and refusal with the answer of the Rust. Every lent buffer stands between guard bytes, and
-// every place that must stay as found is compared with what it held.
+// Runs every call of the fit that is stored in a folder (NAME.case, NAME.exp) through trend_filter_fit and compares
+// each number, place and refusal with the answer of the Rust. Before a call every place lent, and every place of the
+// guards around it, holds a NaN of its own payload; after it the bits of every place that must stay as found are compared.
 #include <dirent.h>
 #include <inttypes.h>
 #include <stdint.h>
 #include <stdio.h>
 #include <stdlib.h>
 #include <string.h>
-
-// A slice is passed as its address and its length.
-extern uint32_t trend_filter_fit(
-    const double *y, size_t n, double lam, double tol, uint64_t max_iter, uint32_t order, uint32_t penalty,
-    double *trend, size_t trend_len, double *cycle, size_t cycle_len, uint32_t *knots, size_t knots_len,
-    double *work, size_t work_len, uint32_t *marks, size_t marks_len, double numbers[5], uint64_t counts[4]);
+#include "trend_filter.h"
 
 enum { GUARD = 4096 };
 
-// A buffer of len bytes between two guards, filled with a pattern.
+// A buffer of len bytes between two guards.
 typedef struct {
     unsigned char *all, *at;
     size_t len;
     unsigned seed;
 } Lent;
 
-static unsigned char fill_at(unsigned seed, size_t i) { return (unsigned char)(seed * 37u + i * 151u + (i >> 8) * 29u + 11u); }
+// The bits of a NaN, quiet or signalling, of either sign; its payload is the least, the usual or the greatest in one of
+// four places, and any in the others.
+static uint64_t nan_at(unsigned seed, size_t i) {
+    static const uint64_t ends[4] = {1, UINT64_C(0x7ffffffffffff), UINT64_C(0x8000000000000), UINT64_C(0xfffffffffffff)};
+    uint64_t z = ((uint64_t)seed << 40) + i * UINT64_C(0x9e3779b97f4a7c15);
+    z = (z ^ z >> 30) * UINT64_C(0xbf58476d1ce4e5b9);
+    z = (z ^ z >> 27) * UINT64_C(0x94d049bb133111eb);
+    z ^= z >> 31;
+    uint64_t any = z & UINT64_C(0xfffffffffffff);
+    return (z & UINT64_C(1) << 63) | UINT64_C(0x7ff) << 52 | ((z >> 60 & 3) == 0 ? ends[z & 3] : any ? any : 1);
+}
 
-static Lent lend(size_t len, unsigned seed) {
-    Lent l = {malloc(len + 2 * GUARD), NULL, len, seed};
+static unsigned char fill_at(unsigned seed, size_t i) { return (unsigned char)(nan_at(seed, i / 8) >> 8 * (i % 8)); }
+
+static Lent lend(size_t len) {
+    static unsigned seed;
+    Lent l = {malloc(len + 2 * GUARD), NULL, len, ++seed};
     if (!l.all) { perror("malloc"); exit(2); }
     l.at = l.all + GUARD;
-    for (size_t i = 0; i < len + 2 * GUARD; i++) l.all[i] = fill_at(seed, i);
+    for (size_t i = 0; i < len + 2 * GUARD; i++) l.all[i] = fill_at(l.seed, i);
     return l;
 }
 
@@ -104,13 +112,14 @@ static void run(const char *dir, const char *name) {
     size_t len, elen;
     unsigned char *d = read_file(dir, name, "case", &len);
     char *e = (char *)read_file(dir, name, "exp", &elen);
+    if (len < 56 || memcmp(d, "TFC1", 4) || len != 56 + 8 * (size_t)u32_at(d, 8)) { say(name, "no stored case"); free(d), free(e); return; }
     uint32_t order = d[4], penalty = d[5];
     size_t n = u32_at(d, 8), lt = u32_at(d, 12), lc = u32_at(d, 16), lk = u32_at(d, 20), lw = u32_at(d, 24), lm = u32_at(d, 28);
     double lam = double_of(d + 32), tol = double_of(d + 40);
     uint64_t max_iter;
     memcpy(&max_iter, d + 48, 8);
-    Lent y = lend(8 * n, 1), t = lend(8 * lt, 2), c = lend(8 * lc, 3), k = lend(4 * lk, 4), w = lend(8 * lw, 5), m = lend(4 * lm, 6);
-    Lent nu = lend(40, 7), co = lend(32, 8);
+    Lent y = lend(8 * n), t = lend(8 * lt), c = lend(8 * lc), k = lend(4 * lk), w = lend(8 * lw), m = lend(4 * lm);
+    Lent nu = lend(40), co = lend(32);
     memcpy(y.at, d + 56, 8 * n);
     uint32_t got = trend_filter_fit((double *)y.at, n, lam, tol, max_iter, order, penalty, (double *)t.at, lt, (double *)c.at, lc,
                                     (uint32_t *)k.at, lk, (double *)w.at, lw, (uint32_t *)m.at, lm, (double *)nu.at, (uint64_t *)co.at);
@@ -142,7 +151,7 @@ static void run(const char *dir, const char *name) {
 
 int main(int argc, char **argv) {
     long cases = 0;
-    if (argc != 2) { fprintf(stderr, "usage: run FOLDER\n"); return 2; }
+    if (argc != 2) { fprintf(stderr, "usage: run FOLDER, which holds NAME.case and NAME.exp\n"); return 2; }
     struct dirent **names;
     int all = scandir(argv[1], &names, NULL, alphasort);
     if (all < 0) { perror(argv[1]); return 2; }

@@ -3,6 +3,11 @@
 //!
 //! Beside the source's fields a fit has `first_gap`, `best_gap` and `improvements`. The refusals are [`Refused`], which holds the
 //! question's number and says it in words.
+//!
+//! The floating-point environment is taken as a program starts: rounding to nearest, subnormal numbers kept, no exception that
+//! traps. Rust assumes the same of all its code. Where other code on the thread has changed it (C's `fesetround` or
+//! `feenableexcept`, flush to zero, a C library linked with `-ffast-math`), a fit has other bits or ends in a signal.
+//! `trend_filter_environment_ok` in bindings/c/trend_filter.h can tell.
 
 use std::fmt;
 
