@@ -1,1 +1,1 @@
-// Code follows its definitions.
+// Definitions only.
