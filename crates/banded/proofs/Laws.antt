@@ -8,12 +8,12 @@ use native.Mathlib.Nat.{mul-le-mul-right, add-mul, one-mul, suc-mul, mul-suc, ze
 use native.Mathlib.Numerals.{add-one}
 use native.Mathlib.Omega.{arith}
 use lib.Dec.{ltb}
-use lib.ListN.{length, set, take, drop, length-append, length-set, length-drop, List·getD-append}
+use lib.ListN.{length, set, take, drop, length-append, length-set, List·getD-append}
 use lib.Seq.{getD-at, getD-set-same, getD-set-other, getD-take, getD-append-add, ext-getD}
 use lib.Ieee.{Float, nan, binary64, ofBits, sub}
 use borrow.Author.Tests.{ltb-true, ltb-false, le-ltb}
-use Rattle.vectors.specs.Vec.{at, list, part}
-use Rattle.vectors.proofs.Laws.{length-list, at-list, cond-cong, kept-none}
+use Rattle.vectors.specs.Vec.{at, part}
+use Rattle.vectors.proofs.Laws.{cond-cong, kept-none}
 use Rattle.vectors.proofs.Parts.{length-part, at-part, partOf-range}
 use Rattle.banded.specs.Rows.{Matrix, line, less, lessFrom, reduced, entry, placed, rowTo, row, rows, sound}
 use Rattle.banded.specs.Run.{concat, flat, look, ofRun, Keeps, Shape, Holds, Stands, Factored, HasRow}

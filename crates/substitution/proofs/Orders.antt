@@ -4,9 +4,7 @@ use mathlib.Core.Path.{_≡_, sym, ap, _∙_}
 use Prim.Native.Nat.{ℕ, _+_, _-_, _*_, _<_}
 use native.Mathlib.Nat.{min-eq-left}
 use native.Mathlib.Omega.{arith}
-use lib.ListN.{length, set}
-use lib.Seq.{getD-set-same}
-use lib.Ieee.{Float, nan}
+use lib.Ieee.{Float}
 use Rattle.float64.specs.Ops.{_⊖_, _⊗_, _⊘_}
 use Rattle.vectors.specs.Vec.{at}
 use Rattle.banded.specs.Rows.{Matrix, less}
@@ -28,27 +26,22 @@ back-2 l v i m y h = back-far 2 l v i y m h
 
 -- ---- a place of the solution of either order, from the one or two after it
 
-pub at-same : (s : List Float) (q i : ℕ) (x : Float) → i ≡ q → q < length s → at (set s q x) i ≡ x
-at-same s q i x e h = rw e (getD-set-same s q x nan h)
+pub step-1 : (s : List Float) (m i : ℕ) (x : Float) → i + 1 < m → x ≡ at s (m * 2 + (i + 1))
+    → at s (m * 2 + i) ⊘ at s (i * 2 + 1) ⊖ at s (i * 2 + 2) ⊗ x
+    ≡ backAt 1 (ofRun 1 s) (λ n. at s (m * 2 + (i + 1 + n))) (at s (m * 2 + i) ⊘ ofRun 1 s i i) i (m - (i + 1))
+step-1 s m i x g e =
+    let d : ofRun 1 s i i ≡ at s (i * 2 + 1) = ap (at s) (omega arith) in
+    let l : ofRun 1 s (i + 1 + 0) i ≡ at s (i * 2 + 2) = ap (at s) (omega arith) in
+    let y : at s (m * 2 + (i + 1 + 0)) ≡ x = ap (at s) (omega arith) ∙ sym e in
+    sym (back-1 (ofRun 1 s) (at s (m * 2 + i) ⊘ ofRun 1 s i i) i m (λ n. at s (m * 2 + (i + 1 + n))) g ∙ rw (d, l, y))
 
-pub step-1 : (s : List Float) (m i : ℕ) (x : Float) → 0 < i → i < m → x ≡ at s (m * 2 + i)
-    → at s (m * 2 + i - 1) ⊘ at s (i * 2 - 1) ⊖ at s (i * 2) ⊗ x
-    ≡ backAt 1 (ofRun 1 s) (λ n. at s (m * 2 + (i - 1 + 1 + n))) (at s (m * 2 + (i - 1)) ⊘ ofRun 1 s (i - 1) (i - 1)) (i - 1) (m - (i - 1 + 1))
-step-1 s m i x h g e =
-    let u : at s (m * 2 + (i - 1)) ≡ at s (m * 2 + i - 1) = ap (at s) (omega arith) in
-    let d : ofRun 1 s (i - 1) (i - 1) ≡ at s (i * 2 - 1) = ap (at s) (omega arith) in
-    let l : ofRun 1 s (i - 1 + 1 + 0) (i - 1) ≡ at s (i * 2) = ap (at s) (omega arith) in
-    let y : at s (m * 2 + (i - 1 + 1 + 0)) ≡ x = ap (at s) (omega arith) ∙ sym e in
-    sym (back-1 (ofRun 1 s) (at s (m * 2 + (i - 1)) ⊘ ofRun 1 s (i - 1) (i - 1)) (i - 1) m (λ n. at s (m * 2 + (i - 1 + 1 + n))) (omega arith) ∙ rw (u, d, l, y))
-
-pub step-2 : (s : List Float) (m i : ℕ) (x1 x2 : Float) → 0 < i → i + 1 < m → x1 ≡ at s (m * 3 + i) → x2 ≡ at s (m * 3 + i + 1)
-    → at s (m * 3 + i - 1) ⊘ at s (i * 3 - 1) ⊖ at s (i * 3 + 1) ⊗ x1 ⊖ at s (i * 3 + 3) ⊗ x2
-    ≡ backAt 2 (ofRun 2 s) (λ n. at s (m * 3 + (i - 1 + 1 + n))) (at s (m * 3 + (i - 1)) ⊘ ofRun 2 s (i - 1) (i - 1)) (i - 1) (m - (i - 1 + 1))
-step-2 s m i x1 x2 h g e1 e2 =
-    let u : at s (m * 3 + (i - 1)) ≡ at s (m * 3 + i - 1) = ap (at s) (omega arith) in
-    let d : ofRun 2 s (i - 1) (i - 1) ≡ at s (i * 3 - 1) = ap (at s) (omega arith) in
-    let l1 : ofRun 2 s (i - 1 + 1 + 0) (i - 1) ≡ at s (i * 3 + 1) = ap (at s) (omega arith) in
-    let l2 : ofRun 2 s (i - 1 + 1 + 1) (i - 1) ≡ at s (i * 3 + 3) = ap (at s) (omega arith) in
-    let y1 : at s (m * 3 + (i - 1 + 1 + 0)) ≡ x1 = ap (at s) (omega arith) ∙ sym e1 in
-    let y2 : at s (m * 3 + (i - 1 + 1 + 1)) ≡ x2 = ap (at s) (omega arith) ∙ sym e2 in
-    sym (back-2 (ofRun 2 s) (at s (m * 3 + (i - 1)) ⊘ ofRun 2 s (i - 1) (i - 1)) (i - 1) m (λ n. at s (m * 3 + (i - 1 + 1 + n))) (omega arith) ∙ rw (u, d, l1, l2, y1, y2))
+pub step-2 : (s : List Float) (m i : ℕ) (x1 x2 : Float) → i + 2 < m → x1 ≡ at s (m * 3 + (i + 1)) → x2 ≡ at s (m * 3 + (i + 2))
+    → at s (m * 3 + i) ⊘ at s (i * 3 + 2) ⊖ at s (i * 3 + 4) ⊗ x1 ⊖ at s (i * 3 + 6) ⊗ x2
+    ≡ backAt 2 (ofRun 2 s) (λ n. at s (m * 3 + (i + 1 + n))) (at s (m * 3 + i) ⊘ ofRun 2 s i i) i (m - (i + 1))
+step-2 s m i x1 x2 g e1 e2 =
+    let d : ofRun 2 s i i ≡ at s (i * 3 + 2) = ap (at s) (omega arith) in
+    let l1 : ofRun 2 s (i + 1 + 0) i ≡ at s (i * 3 + 4) = ap (at s) (omega arith) in
+    let l2 : ofRun 2 s (i + 1 + 1) i ≡ at s (i * 3 + 6) = ap (at s) (omega arith) in
+    let y1 : at s (m * 3 + (i + 1 + 0)) ≡ x1 = ap (at s) (omega arith) ∙ sym e1 in
+    let y2 : at s (m * 3 + (i + 1 + 1)) ≡ x2 = ap (at s) (omega arith) ∙ sym e2 in
+    sym (back-2 (ofRun 2 s) (at s (m * 3 + i) ⊘ ofRun 2 s i i) i m (λ n. at s (m * 3 + (i + 1 + n))) g ∙ rw (d, l1, l2, y1, y2))

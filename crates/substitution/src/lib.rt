@@ -52,9 +52,11 @@ fn back1(s: &mut [f64], m: usize)
     let mut i = m - 1;
     let mut x = s[b + i];
     while 0 < i {
-        x = s[b + i - 1] / s[i * 2 - 1] - s[i * 2] * x;
-        s[b + i - 1] = x;
         i -= 1;
+        let p = i * 2;
+        let q = b + i;
+        x = s[q] / s[p + 1] - s[p + 2] * x;
+        s[q] = x;
     }
 }
 
@@ -68,11 +70,13 @@ fn back2(s: &mut [f64], m: usize)
     let mut x1 = s[b + i];
     let mut x2 = s[b + i + 1];
     while 0 < i {
-        let x = s[b + i - 1] / s[i * 3 - 1] - s[i * 3 + 1] * x1 - s[i * 3 + 3] * x2;
-        s[b + i - 1] = x;
+        i -= 1;
+        let p = i * 3;
+        let q = b + i;
+        let x = s[q] / s[p + 2] - s[p + 4] * x1 - s[p + 6] * x2;
+        s[q] = x;
         x2 = x1;
         x1 = x;
-        i -= 1;
     }
 }
 
