@@ -68,17 +68,17 @@ unfolding less
 less-more v f n e h m = rw (m, e, h)
 
 -- the same from place lo on
-pub from-none : (v : Float) (f : ℕ → Float) (lo hi : ℕ) → hi ≤ lo → lessFrom v f lo hi ≡ v
+pub lessFrom-none : (v : Float) (f : ℕ → Float) (lo hi : ℕ) → hi ≤ lo → lessFrom v f lo hi ≡ v
 unfolding lessFrom less
-from-none v f lo hi h = let z : hi - lo ≡ 0 = omega arith in rw z
+lessFrom-none v f lo hi h = let z : hi - lo ≡ 0 = omega arith in rw z
 
-pub from-more : (v : Float) (f : ℕ → Float) (lo hi : ℕ) {hi′ : ℕ} {u x : Float} → u ≡ lessFrom v f lo hi → x ≡ f hi → lo ≤ hi → hi′ ≡ hi + 1 → sub binary64 u x ≡ lessFrom v f lo hi′
+pub lessFrom-more : (v : Float) (f : ℕ → Float) (lo hi : ℕ) {hi′ : ℕ} {u x : Float} → u ≡ lessFrom v f lo hi → x ≡ f hi → lo ≤ hi → hi′ ≡ hi + 1 → sub binary64 u x ≡ lessFrom v f lo hi′
 unfolding lessFrom
-from-more v f lo hi e h g m = let z : lo + (hi - lo) ≡ hi = omega arith in less-more v (λ n. f (lo + n)) (hi - lo) e (h ∙ rw z) (omega arith)
+lessFrom-more v f lo hi e h g m = let z : lo + (hi - lo) ≡ hi = omega arith in less-more v (λ n. f (lo + n)) (hi - lo) e (h ∙ rw z) (omega arith)
 
-pub from-ext : (v : Float) (f g : ℕ → Float) (lo hi : ℕ) → ((t : ℕ) → lo ≤ t → t < hi → f t ≡ g t) → lessFrom v f lo hi ≡ lessFrom v g lo hi
+pub lessFrom-ext : (v : Float) (f g : ℕ → Float) (lo hi : ℕ) → ((t : ℕ) → lo ≤ t → t < hi → f t ≡ g t) → lessFrom v f lo hi ≡ lessFrom v g lo hi
 unfolding lessFrom
-from-ext v f g lo hi h = less-ext v _ _ (hi - lo) (λ n b. h (lo + n) (omega arith) (omega arith))
+lessFrom-ext v f g lo hi h = less-ext v _ _ (hi - lo) (λ n b. h (lo + n) (omega arith) (omega arith))
 
 cond-right : (b : Bool) (x y z : Float) → (b ≡ false → x ≡ y) → cond b z x ≡ cond b z y
 cond-right true x y z h = refl
@@ -113,7 +113,7 @@ module _ (k i c : ℕ) (a a′ : Matrix) (p p′ : ℕ → ℕ → Float) (b : c
 
     reduced-ext : a i j ≡ a′ i j → reduced k a l i j ≡ reduced k a′ l′ i j
     unfolding reduced
-    reduced-ext e = rw e (from-ext (a′ i j) _ _ (i - k) j (λ t o q. rw (left (t + k - i) (omega arith), beside t o q, up t (t + k - t) (omega arith) (omega arith))))
+    reduced-ext e = rw e (lessFrom-ext (a′ i j) _ _ (i - k) j (λ t o q. rw (left (t + k - i) (omega arith), beside t o q, up t (t + k - t) (omega arith) (omega arith))))
 
     column-ext : a i j ≡ a′ i j → entry k a l i j ≡ entry k a′ l′ i j
     unfolding entry

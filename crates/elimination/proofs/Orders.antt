@@ -12,7 +12,7 @@ use Rattle.vectors.specs.Vec.{at}
 use Rattle.banded.specs.Rows.{Matrix, lessFrom, reduced, entry, placed, good}
 use Rattle.banded.specs.Solve.{forwardAt}
 use Rattle.banded.specs.Run.{ofRun, Stored, Eliminated}
-use Rattle.banded.proofs.Laws.{from-none, from-more, placed-at}
+use Rattle.banded.proofs.Laws.{lessFrom-none, lessFrom-more, placed-at}
 use Rattle.banded.proofs.Storing.{first-two, first-three}
 use Rattle.elimination.proofs.Elimination.{eliminated}
 
@@ -34,10 +34,10 @@ not-above-0 (fin s m d) e = e
 -- ---- one number taken off, and two
 
 from-1 : (v : Float) (f : ℕ → Float) (lo hi : ℕ) → hi ≡ lo + 1 → lessFrom v f lo hi ≡ v ⊖ f lo
-from-1 v f lo hi e = sym (from-more v f lo lo (sym (from-none v f lo lo (omega arith))) refl (omega arith) e)
+from-1 v f lo hi e = sym (lessFrom-more v f lo lo (sym (lessFrom-none v f lo lo (omega arith))) refl (omega arith) e)
 
 from-2 : (v : Float) (f : ℕ → Float) (lo mid hi : ℕ) → mid ≡ lo + 1 → hi ≡ mid + 1 → lessFrom v f lo hi ≡ v ⊖ f lo ⊖ f mid
-from-2 v f lo mid hi e g = sym (from-more v f lo mid (sym (from-1 v f lo mid e)) refl (omega arith) g)
+from-2 v f lo mid hi e g = sym (lessFrom-more v f lo mid (sym (from-1 v f lo mid e)) refl (omega arith) g)
 
 -- ---- a place left of the diagonal, column j, and the last place
 
@@ -55,7 +55,7 @@ module _ (k : ℕ) (a l : Matrix) (r : ℕ) where
 module _ (a l : Matrix) (r : ℕ) (far : 1 ≤ r) where
   pub entry-1-0 : placed 1 (entry 1 a l) r 0 ≡ a r (r - 1) ⊘ l (r - 1) (r - 1)
   unfolding reduced
-  entry-1-0 = left 1 a l r 0 (r - 1) (omega arith) (omega arith) ∙ rw (from-none (a r (r - 1)) (λ t. l r t ⊗ l (r - 1) t ⊗ l t t) (r - 1) (r - 1) (omega arith))
+  entry-1-0 = left 1 a l r 0 (r - 1) (omega arith) (omega arith) ∙ rw (lessFrom-none (a r (r - 1)) (λ t. l r t ⊗ l (r - 1) t ⊗ l t t) (r - 1) (r - 1) (omega arith))
 
   pub entry-1-1 : placed 1 (entry 1 a l) r 1 ≡ a r r ⊖ l r (r - 1) ⊗ l r (r - 1) ⊗ l (r - 1) (r - 1)
   unfolding reduced
@@ -70,7 +70,7 @@ module _ (a l : Matrix) (r : ℕ) (far : 1 ≤ r) where
 module _ (a l : Matrix) (r : ℕ) (far : 2 ≤ r) where
   pub entry-2-0 : placed 2 (entry 2 a l) r 0 ≡ a r (r - 2) ⊘ l (r - 2) (r - 2)
   unfolding reduced
-  entry-2-0 = left 2 a l r 0 (r - 2) (omega arith) (omega arith) ∙ rw (from-none (a r (r - 2)) (λ t. l r t ⊗ l (r - 2) t ⊗ l t t) (r - 2) (r - 2) (omega arith))
+  entry-2-0 = left 2 a l r 0 (r - 2) (omega arith) (omega arith) ∙ rw (lessFrom-none (a r (r - 2)) (λ t. l r t ⊗ l (r - 2) t ⊗ l t t) (r - 2) (r - 2) (omega arith))
 
   pub entry-2-1 : placed 2 (entry 2 a l) r 1 ≡ (a r (r - 1) ⊖ l r (r - 2) ⊗ l (r - 1) (r - 2) ⊗ l (r - 2) (r - 2)) ⊘ l (r - 1) (r - 1)
   unfolding reduced
