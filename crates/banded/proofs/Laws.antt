@@ -57,13 +57,13 @@ above k r i j h g =
 
 -- ---- what a sum, and an entry, read
 
-pub less-ext : (v : Float) (f g : ℕ → Float) (n : ℕ) → ((i : ℕ) → i < n → f i ≡ g i) → less v f n ≡ less v g n
+less-ext : (v : Float) (f g : ℕ → Float) (n : ℕ) → ((i : ℕ) → i < n → f i ≡ g i) → less v f n ≡ less v g n
 unfolding less
 less-ext v f g zero h = refl
 less-ext v f g (suc n) h = rw (less-ext v f g n (λ i b. h i (omega arith)), h n (omega arith))
 
 -- one more term
-pub less-more : (v : Float) (f : ℕ → Float) (n : ℕ) {n′ : ℕ} {u x : Float} → u ≡ less v f n → x ≡ f n → n′ ≡ suc n → sub binary64 u x ≡ less v f n′
+less-more : (v : Float) (f : ℕ → Float) (n : ℕ) {n′ : ℕ} {u x : Float} → u ≡ less v f n → x ≡ f n → n′ ≡ suc n → sub binary64 u x ≡ less v f n′
 unfolding less
 less-more v f n e h m = rw (m, e, h)
 
@@ -79,6 +79,13 @@ lessFrom-more v f lo hi e h g m = let z : lo + (hi - lo) ≡ hi = omega arith in
 pub lessFrom-ext : (v : Float) (f g : ℕ → Float) (lo hi : ℕ) → ((t : ℕ) → lo ≤ t → t < hi → f t ≡ g t) → lessFrom v f lo hi ≡ lessFrom v g lo hi
 unfolding lessFrom
 lessFrom-ext v f g lo hi h = less-ext v _ _ (hi - lo) (λ n b. h (lo + n) (omega arith) (omega arith))
+
+-- one term, and two
+pub lessFrom-1 : (v : Float) (f : ℕ → Float) (lo hi : ℕ) → hi ≡ lo + 1 → lessFrom v f lo hi ≡ sub binary64 v (f lo)
+lessFrom-1 v f lo hi e = sym (lessFrom-more v f lo lo (sym (lessFrom-none v f lo lo (omega arith))) refl (omega arith) e)
+
+pub lessFrom-2 : (v : Float) (f : ℕ → Float) (lo mid hi : ℕ) → mid ≡ lo + 1 → hi ≡ mid + 1 → lessFrom v f lo hi ≡ sub binary64 (sub binary64 v (f lo)) (f mid)
+lessFrom-2 v f lo mid hi e g = sym (lessFrom-more v f lo mid (sym (lessFrom-1 v f lo mid e)) refl (omega arith) g)
 
 cond-right : (b : Bool) (x y z : Float) → (b ≡ false → x ≡ y) → cond b z x ≡ cond b z y
 cond-right true x y z h = refl

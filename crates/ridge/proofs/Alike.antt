@@ -1,6 +1,6 @@
 -- Rows that are alike: those of I + lam D'D from row k up to the last k, and a run in which a row is repeated.
 use mathlib.Core.Logic.{⊎-elim}
-use mathlib.Core.Path.{_≡_, refl, sym, _∙_}
+use mathlib.Core.Path.{_≡_, sym, _∙_}
 use mathlib.Core.List.{List}
 use Prim.Native.Nat.{ℕ, zero, suc, _+_, _-_, _*_, _≤_, _<_}
 use native.Mathlib.Nat.{eq-or-lt-of-le, eq-zero-or-pos, ne-of-lt, ne-of-gt, min-eq-left, suc-mul, add-mul, one-mul, mul-le-mul-right}

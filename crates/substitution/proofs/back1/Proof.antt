@@ -31,7 +31,7 @@ loop-again c = let at-loop = c .before .before .before .before in
     let e : i - 1 + 1 ≡ i = omega arith in (
       search needs,
       sym (getD-set-same s (m * 2 + (i - 1)) _ nan (omega arith)),
-      carried-more (i - 1) (m * 2 + (i - 1)) (inv .2) (omega arith) (omega arith) refl (omega arith) (step-1 s m (i - 1) _ (omega arith) (rw e (inv .1))) (omega arith),
+      carried-more (i - 1) (m * 2 + (i - 1)) (inv .2) (omega arith) (omega arith) refl (omega arith) (step-1 s m (i - 1) (omega arith) (rw e (inv .1))) (omega arith),
     )
 
 returns : tie.Need-returns Inv-loop μ-loop

@@ -35,7 +35,7 @@ loop-again c = let at-loop = c .before .before .before .before .before in
       search needs,
       sym (getD-set-same s (m * 3 + (i - 1)) _ nan (omega arith)),
       inv .1 ∙ sym (rw e (getD-set-other s (m * 3 + (i - 1)) (m * 3 + i) _ nan (ne-of-gt (omega arith)))),
-      carried-more (i - 1) (m * 3 + (i - 1)) (inv .3) (omega arith) (omega arith) refl (omega arith) (step-2 s m (i - 1) _ _ (omega arith) (rw e (inv .1)) (rw f (inv .2))) (omega arith),
+      carried-more (i - 1) (m * 3 + (i - 1)) (inv .3) (omega arith) (omega arith) refl (omega arith) (step-2 s m (i - 1) (omega arith) (rw e (inv .1)) (rw f (inv .2))) (omega arith),
     )
 
 returns : tie.Need-returns Inv-loop μ-loop
