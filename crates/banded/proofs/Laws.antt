@@ -8,12 +8,12 @@ use native.Mathlib.Nat.{mul-le-mul-right, add-mul, one-mul, suc-mul, mul-suc, ze
 use native.Mathlib.Numerals.{add-one}
 use native.Mathlib.Omega.{arith}
 use lib.Dec.{ltb}
-use lib.ListN.{length, set, take, drop, length-append, length-set, length-drop, List·getD-append}
+use lib.ListN.{length, set, take, drop, length-append, length-set, List·getD-append}
 use lib.Seq.{getD-at, getD-set-same, getD-set-other, getD-take, getD-append-add, ext-getD}
 use lib.Ieee.{Float, nan, binary64, ofBits, sub}
 use borrow.Author.Tests.{ltb-true, ltb-false, le-ltb}
-use Rattle.vectors.specs.Vec.{at, list, part}
-use Rattle.vectors.proofs.Laws.{length-list, at-list, cond-cong, kept-none}
+use Rattle.vectors.specs.Vec.{at, part}
+use Rattle.vectors.proofs.Laws.{cond-cong, kept-none}
 use Rattle.vectors.proofs.Parts.{length-part, at-part, partOf-range}
 use Rattle.banded.specs.Rows.{Matrix, line, less, lessFrom, reduced, entry, placed, rowTo, row, rows, sound}
 use Rattle.banded.specs.Run.{concat, flat, look, ofRun, Keeps, Shape, Holds, Stands, Factored, HasRow}
@@ -57,28 +57,35 @@ above k r i j h g =
 
 -- ---- what a sum, and an entry, read
 
-pub less-ext : (v : Float) (f g : ℕ → Float) (n : ℕ) → ((i : ℕ) → i < n → f i ≡ g i) → less v f n ≡ less v g n
+less-ext : (v : Float) (f g : ℕ → Float) (n : ℕ) → ((i : ℕ) → i < n → f i ≡ g i) → less v f n ≡ less v g n
 unfolding less
 less-ext v f g zero h = refl
 less-ext v f g (suc n) h = rw (less-ext v f g n (λ i b. h i (omega arith)), h n (omega arith))
 
 -- one more term
-pub less-more : (v : Float) (f : ℕ → Float) (n : ℕ) {n′ : ℕ} {u x : Float} → u ≡ less v f n → x ≡ f n → n′ ≡ suc n → sub binary64 u x ≡ less v f n′
+less-more : (v : Float) (f : ℕ → Float) (n : ℕ) {n′ : ℕ} {u x : Float} → u ≡ less v f n → x ≡ f n → n′ ≡ suc n → sub binary64 u x ≡ less v f n′
 unfolding less
 less-more v f n e h m = rw (m, e, h)
 
 -- the same from place lo on
-pub from-none : (v : Float) (f : ℕ → Float) (lo hi : ℕ) → hi ≤ lo → lessFrom v f lo hi ≡ v
+pub lessFrom-none : (v : Float) (f : ℕ → Float) (lo hi : ℕ) → hi ≤ lo → lessFrom v f lo hi ≡ v
 unfolding lessFrom less
-from-none v f lo hi h = let z : hi - lo ≡ 0 = omega arith in rw z
+lessFrom-none v f lo hi h = let z : hi - lo ≡ 0 = omega arith in rw z
 
-pub from-more : (v : Float) (f : ℕ → Float) (lo hi : ℕ) {hi′ : ℕ} {u x : Float} → u ≡ lessFrom v f lo hi → x ≡ f hi → lo ≤ hi → hi′ ≡ hi + 1 → sub binary64 u x ≡ lessFrom v f lo hi′
+pub lessFrom-more : (v : Float) (f : ℕ → Float) (lo hi : ℕ) {hi′ : ℕ} {u x : Float} → u ≡ lessFrom v f lo hi → x ≡ f hi → lo ≤ hi → hi′ ≡ hi + 1 → sub binary64 u x ≡ lessFrom v f lo hi′
 unfolding lessFrom
-from-more v f lo hi e h g m = let z : lo + (hi - lo) ≡ hi = omega arith in less-more v (λ n. f (lo + n)) (hi - lo) e (h ∙ rw z) (omega arith)
+lessFrom-more v f lo hi e h g m = let z : lo + (hi - lo) ≡ hi = omega arith in less-more v (λ n. f (lo + n)) (hi - lo) e (h ∙ rw z) (omega arith)
 
-pub from-ext : (v : Float) (f g : ℕ → Float) (lo hi : ℕ) → ((t : ℕ) → lo ≤ t → t < hi → f t ≡ g t) → lessFrom v f lo hi ≡ lessFrom v g lo hi
+pub lessFrom-ext : (v : Float) (f g : ℕ → Float) (lo hi : ℕ) → ((t : ℕ) → lo ≤ t → t < hi → f t ≡ g t) → lessFrom v f lo hi ≡ lessFrom v g lo hi
 unfolding lessFrom
-from-ext v f g lo hi h = less-ext v _ _ (hi - lo) (λ n b. h (lo + n) (omega arith) (omega arith))
+lessFrom-ext v f g lo hi h = less-ext v _ _ (hi - lo) (λ n b. h (lo + n) (omega arith) (omega arith))
+
+-- one term, and two
+pub lessFrom-1 : (v : Float) (f : ℕ → Float) (lo hi : ℕ) → hi ≡ lo + 1 → lessFrom v f lo hi ≡ sub binary64 v (f lo)
+lessFrom-1 v f lo hi e = sym (lessFrom-more v f lo lo (sym (lessFrom-none v f lo lo (omega arith))) refl (omega arith) e)
+
+pub lessFrom-2 : (v : Float) (f : ℕ → Float) (lo mid hi : ℕ) → mid ≡ lo + 1 → hi ≡ mid + 1 → lessFrom v f lo hi ≡ sub binary64 (sub binary64 v (f lo)) (f mid)
+lessFrom-2 v f lo mid hi e g = sym (lessFrom-more v f lo mid (sym (lessFrom-1 v f lo mid e)) refl (omega arith) g)
 
 cond-right : (b : Bool) (x y z : Float) → (b ≡ false → x ≡ y) → cond b z x ≡ cond b z y
 cond-right true x y z h = refl
@@ -113,7 +120,7 @@ module _ (k i c : ℕ) (a a′ : Matrix) (p p′ : ℕ → ℕ → Float) (b : c
 
     reduced-ext : a i j ≡ a′ i j → reduced k a l i j ≡ reduced k a′ l′ i j
     unfolding reduced
-    reduced-ext e = rw e (from-ext (a′ i j) _ _ (i - k) j (λ t o q. rw (left (t + k - i) (omega arith), beside t o q, up t (t + k - t) (omega arith) (omega arith))))
+    reduced-ext e = rw e (lessFrom-ext (a′ i j) _ _ (i - k) j (λ t o q. rw (left (t + k - i) (omega arith), beside t o q, up t (t + k - t) (omega arith) (omega arith))))
 
     column-ext : a i j ≡ a′ i j → entry k a l i j ≡ entry k a′ l′ i j
     unfolding entry

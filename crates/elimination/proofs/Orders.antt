@@ -9,10 +9,10 @@ use borrow.Author.Tests.{lt-ltb, le-ltb}
 use Rattle.float64.specs.Helpers.{isFinite}
 use Rattle.float64.specs.Ops.{_⊖_, _⊗_, _⊘_, c0, infinity}
 use Rattle.vectors.specs.Vec.{at}
-use Rattle.banded.specs.Rows.{Matrix, lessFrom, reduced, entry, placed, good}
+use Rattle.banded.specs.Rows.{Matrix, reduced, entry, placed, good}
 use Rattle.banded.specs.Solve.{forwardAt}
 use Rattle.banded.specs.Run.{ofRun, Stored, Eliminated}
-use Rattle.banded.proofs.Laws.{from-none, from-more, placed-at}
+use Rattle.banded.proofs.Laws.{lessFrom-none, lessFrom-1, lessFrom-2, placed-at}
 use Rattle.banded.proofs.Storing.{first-two, first-three}
 use Rattle.elimination.proofs.Elimination.{eliminated}
 
@@ -31,14 +31,6 @@ not-above-0 nan e = refl
 not-above-0 (inf s) e = refl
 not-above-0 (fin s m d) e = e
 
--- ---- one number taken off, and two
-
-from-1 : (v : Float) (f : ℕ → Float) (lo hi : ℕ) → hi ≡ lo + 1 → lessFrom v f lo hi ≡ v ⊖ f lo
-from-1 v f lo hi e = sym (from-more v f lo lo (sym (from-none v f lo lo (omega arith))) refl (omega arith) e)
-
-from-2 : (v : Float) (f : ℕ → Float) (lo mid hi : ℕ) → mid ≡ lo + 1 → hi ≡ mid + 1 → lessFrom v f lo hi ≡ v ⊖ f lo ⊖ f mid
-from-2 v f lo mid hi e g = sym (from-more v f lo mid (sym (from-1 v f lo mid e)) refl (omega arith) g)
-
 -- ---- a place left of the diagonal, column j, and the last place
 
 module _ (k : ℕ) (a l : Matrix) (r : ℕ) where
@@ -55,34 +47,34 @@ module _ (k : ℕ) (a l : Matrix) (r : ℕ) where
 module _ (a l : Matrix) (r : ℕ) (far : 1 ≤ r) where
   pub entry-1-0 : placed 1 (entry 1 a l) r 0 ≡ a r (r - 1) ⊘ l (r - 1) (r - 1)
   unfolding reduced
-  entry-1-0 = left 1 a l r 0 (r - 1) (omega arith) (omega arith) ∙ rw (from-none (a r (r - 1)) (λ t. l r t ⊗ l (r - 1) t ⊗ l t t) (r - 1) (r - 1) (omega arith))
+  entry-1-0 = left 1 a l r 0 (r - 1) (omega arith) (omega arith) ∙ rw (lessFrom-none (a r (r - 1)) (λ t. l r t ⊗ l (r - 1) t ⊗ l t t) (r - 1) (r - 1) (omega arith))
 
   pub entry-1-1 : placed 1 (entry 1 a l) r 1 ≡ a r r ⊖ l r (r - 1) ⊗ l r (r - 1) ⊗ l (r - 1) (r - 1)
   unfolding reduced
-  entry-1-1 = last 1 a l r ∙ from-1 (a r r) (λ t. l r t ⊗ l r t ⊗ l t t) (r - 1) r (omega arith)
+  entry-1-1 = last 1 a l r ∙ lessFrom-1 (a r r) (λ t. l r t ⊗ l r t ⊗ l t t) (r - 1) r (omega arith)
 
   pub forward-1 : (u : ℕ → Float) (v : Float) → forwardAt 1 l u v r ≡ v ⊖ l r (r - 1) ⊗ u (r - 1)
   unfolding forwardAt
-  forward-1 u v = from-1 v (λ j. l r j ⊗ u j) (r - 1) r (omega arith)
+  forward-1 u v = lessFrom-1 v (λ j. l r j ⊗ u j) (r - 1) r (omega arith)
 
 -- ---- order 2
 
 module _ (a l : Matrix) (r : ℕ) (far : 2 ≤ r) where
   pub entry-2-0 : placed 2 (entry 2 a l) r 0 ≡ a r (r - 2) ⊘ l (r - 2) (r - 2)
   unfolding reduced
-  entry-2-0 = left 2 a l r 0 (r - 2) (omega arith) (omega arith) ∙ rw (from-none (a r (r - 2)) (λ t. l r t ⊗ l (r - 2) t ⊗ l t t) (r - 2) (r - 2) (omega arith))
+  entry-2-0 = left 2 a l r 0 (r - 2) (omega arith) (omega arith) ∙ rw (lessFrom-none (a r (r - 2)) (λ t. l r t ⊗ l (r - 2) t ⊗ l t t) (r - 2) (r - 2) (omega arith))
 
   pub entry-2-1 : placed 2 (entry 2 a l) r 1 ≡ (a r (r - 1) ⊖ l r (r - 2) ⊗ l (r - 1) (r - 2) ⊗ l (r - 2) (r - 2)) ⊘ l (r - 1) (r - 1)
   unfolding reduced
-  entry-2-1 = left 2 a l r 1 (r - 1) (omega arith) (omega arith) ∙ rw (from-1 (a r (r - 1)) (λ t. l r t ⊗ l (r - 1) t ⊗ l t t) (r - 2) (r - 1) (omega arith))
+  entry-2-1 = left 2 a l r 1 (r - 1) (omega arith) (omega arith) ∙ rw (lessFrom-1 (a r (r - 1)) (λ t. l r t ⊗ l (r - 1) t ⊗ l t t) (r - 2) (r - 1) (omega arith))
 
   pub entry-2-2 : placed 2 (entry 2 a l) r 2 ≡ a r r ⊖ l r (r - 2) ⊗ l r (r - 2) ⊗ l (r - 2) (r - 2) ⊖ l r (r - 1) ⊗ l r (r - 1) ⊗ l (r - 1) (r - 1)
   unfolding reduced
-  entry-2-2 = last 2 a l r ∙ from-2 (a r r) (λ t. l r t ⊗ l r t ⊗ l t t) (r - 2) (r - 1) r (omega arith) (omega arith)
+  entry-2-2 = last 2 a l r ∙ lessFrom-2 (a r r) (λ t. l r t ⊗ l r t ⊗ l t t) (r - 2) (r - 1) r (omega arith) (omega arith)
 
   pub forward-2 : (u : ℕ → Float) (v : Float) → forwardAt 2 l u v r ≡ v ⊖ l r (r - 2) ⊗ u (r - 2) ⊖ l r (r - 1) ⊗ u (r - 1)
   unfolding forwardAt
-  forward-2 u v = from-2 v (λ j. l r j ⊗ u j) (r - 2) (r - 1) r (omega arith) (omega arith)
+  forward-2 u v = lessFrom-2 v (λ j. l r j ⊗ u j) (r - 2) (r - 1) r (omega arith) (omega arith)
 
 -- ---- a row of order 1 or 2 that was stored whole
 

@@ -10,7 +10,6 @@ use Rattle.differences.specs.Diff.{diff, diffK, gramRow}
 use Rattle.banded.specs.Rows.{less, lessFrom, reduced, entry, placed, rowTo, row, rows}
 use Rattle.banded.specs.Solve.{forwardAt, forward, divided, backAt, back, solve}
 use Rattle.gram.specs.Gram.{gram, zstar, lamMax}
-use Rattle.vectors.specs.Sums.{more}
 
 -- 8000, 4000
 abbrev c8000 : Float
@@ -27,5 +26,5 @@ pub record Known : Type 0 where
   pub unspoiled : maxAbs (neg c4000 ∷ nan ∷ c2 ∷ []) ≡ c4000
 
 pub known : Known
-unfolding absOf isFinite maxOf list maxTo maxAbs diff diffK less lessFrom reduced entry placed rowTo row rows forwardAt forward divided backAt back solve gram more zstar lamMax ofBits add sub mul div neg lt isNan
+unfolding absOf isFinite maxOf list maxTo maxAbs diff diffK less lessFrom reduced entry placed rowTo row rows forwardAt forward divided backAt back solve gram zstar lamMax ofBits add sub mul div neg lt isNan
 known = record { dual = refl; greatest = refl; unspoiled = refl }

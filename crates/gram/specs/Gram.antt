@@ -6,7 +6,7 @@ use lib.Dec.{leb}
 use lib.ListN.{length}
 use lib.Ieee.{Float}
 use Rattle.float64.specs.Ops.{_⊗_, c0}
-use Rattle.vectors.specs.Sums.{more, maxAbs}
+use Rattle.vectors.specs.Sums.{moreFrom, maxAbs}
 use Rattle.vectors.specs.Vec.{at, apart}
 use Rattle.differences.specs.Diff.{diffK}
 use Rattle.banded.specs.Rows.{Matrix, rows}
@@ -18,9 +18,7 @@ gram k g i j = let d = i - j in cond (leb d k) (at g d) c0
 
 -- place i of (D D') v: g at |i - j| times v at j, for j from i - k (subtraction stops at 0) to i + k where v has a place, upwards from +0
 unfoldable pub product : ℕ → List Float → List Float → ℕ → Float
-product k g v i =
-    let lo = i - k in
-    more c0 (λ t. at g (apart i (lo + t)) ⊗ at v (lo + t)) (min (i + k + 1) (length v) - lo)
+product k g v i = moreFrom c0 (λ j. at g (apart i j) ⊗ at v j) (i - k) (min (i + k + 1) (length v))
 
 -- z*, for a series y of m + k places
 unfoldable pub zstar : ℕ → List Float → ℕ → List Float → List Float

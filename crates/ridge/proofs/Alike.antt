@@ -1,6 +1,6 @@
 -- Rows that are alike: those of I + lam D'D from row k up to the last k, and a run in which a row is repeated.
 use mathlib.Core.Logic.{⊎-elim}
-use mathlib.Core.Path.{_≡_, refl, sym, _∙_}
+use mathlib.Core.Path.{_≡_, sym, _∙_}
 use mathlib.Core.List.{List}
 use Prim.Native.Nat.{ℕ, zero, suc, _+_, _-_, _*_, _≤_, _<_}
 use native.Mathlib.Nat.{eq-or-lt-of-le, eq-zero-or-pos, ne-of-lt, ne-of-gt, min-eq-left, suc-mul, add-mul, one-mul, mul-le-mul-right}
@@ -15,7 +15,8 @@ use Rattle.vectors.proofs.Laws.{kept-none}
 use Rattle.banded.specs.Rows.{Matrix, placed}
 use Rattle.banded.specs.Run.{flat}
 use Rattle.banded.proofs.Laws.{above, placed-at}
-use Rattle.vectors.specs.Sums.{more}
+use Rattle.vectors.specs.Sums.{more, moreFrom}
+use Rattle.vectors.proofs.Sums.{more-ext}
 use Rattle.banded.specs.Layout.{Laid}
 use Rattle.ridge.specs.Layout.{Repeated}
 use Rattle.ridge.specs.Ridge.{identityAt, ridge}
@@ -74,11 +75,6 @@ module _ {k r e n : ℕ} {a : Matrix} {v s s′ : List Float} (w : Laid k r a v 
 
 -- ---- the rows of I + lam D'D
 
-more-ext : (v : Float) (f g : ℕ → Float) (n : ℕ) → ((t : ℕ) → t < n → f t ≡ g t) → more v f n ≡ more v g n
-unfolding more
-more-ext v f g zero h = refl
-more-ext v f g (suc n) h = rw (more-ext v f g n (λ t l. h t (omega arith)), h n (omega arith))
-
 row-less : (i k t : ℕ) → k ≤ i → t ≤ k → i - (i - k + t) ≡ k - t
 row-less i k t h g = omega arith
 
@@ -94,7 +90,7 @@ identity-place k i p h g =
 
 ridge-inner : (k : ℕ) (c : List Float) (lam : Float) (n i p : ℕ) → k ≤ i → i < n - k → p ≤ k
     → placed k (ridge k c lam n) i p ≡ more (identityAt k p) (λ t. lam ⊗ at c (k - t) ⊗ at c (p - t)) (p + 1)
-unfolding ridge
+unfolding ridge moreFrom
 ridge-inner k c lam n i p h l g =
     let z : i + p - k + 1 - (i - k) ≡ p + 1 = omega arith in
     placed-at k (ridge k c lam n) i p (i + p - k) (omega arith)

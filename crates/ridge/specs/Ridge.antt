@@ -7,7 +7,7 @@ use lib.Ieee.{Float}
 use Rattle.float64.specs.Ops.{_⊗_, c0, c1}
 use Rattle.vectors.specs.Vec.{at}
 use Rattle.banded.specs.Rows.{Matrix}
-use Rattle.vectors.specs.Sums.{more}
+use Rattle.vectors.specs.Sums.{moreFrom}
 
 -- the identity at row i and column j
 abbrev pub identityAt : ℕ → ℕ → Float
@@ -19,4 +19,4 @@ share c lam i j r = lam ⊗ at c (i - r) ⊗ at c (j - r)
 
 -- row i and a column j up to i: the identity, and then the shares of the rows of D that reach both, upwards from row i - k (subtraction stops at 0)
 unfoldable pub ridge : ℕ → List Float → Float → ℕ → Matrix
-ridge k c lam n i j = let lo = i - k in more (identityAt i j) (λ t. share c lam i j (lo + t)) (min (j + 1) (n - k) - lo)
+ridge k c lam n i j = moreFrom (identityAt i j) (share c lam i j) (i - k) (min (j + 1) (n - k))

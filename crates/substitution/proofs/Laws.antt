@@ -18,7 +18,7 @@ use Rattle.vectors.proofs.Parts.{length-part, part-below, putBack, mid-put, len
 use Rattle.banded.specs.Rows.{ofRows, rows}
 use Rattle.banded.specs.Solve.{backAt, forward, divided, back, solve}
 use Rattle.banded.specs.Run.{ofRun, Holds, Stands}
-use Rattle.banded.proofs.Laws.{above, less-ext, holds-of, shape-rows, keeps-part, side-part, part-stands, stands-part}
+use Rattle.banded.proofs.Laws.{above, lessFrom-ext, holds-of, shape-rows, keeps-part, side-part, part-stands, stands-part}
 use Rattle.banded.proofs.Forward.{length-forward}
 use Rattle.elimination.specs.Decomposed.{Decomposed}
 use Rattle.substitution.specs.Solved.{Backed, Carried, Substituted, Solved}
@@ -56,7 +56,7 @@ unfolding back
 backed-none k m s = record { kept = kept-none (m * (k + 1) + (m - 0)) 0 s; made = λ f u h l st j b. absurd (omega arith) }
 
 module _ {k m t : ℕ} {s₀ s : List Float} {x : Float} (i q : ℕ) (w : Backed k m t s₀ s) (c : t < m) (is : i ≡ m - (t + 1)) (at-q : q ≡ m * (k + 1) + i) (room : m * (k + 1) + m ≤ length s)
-    (x-is : x ≡ backAt k (ofRun k s) (λ n. at s (m * (k + 1) + (i + 1 + n))) (at s (m * (k + 1) + i) ⊘ ofRun k s i i) i (m - (i + 1))) where
+    (x-is : x ≡ backAt k (ofRun k s) (λ r. at s (m * (k + 1) + r)) (at s (m * (k + 1) + i) ⊘ ofRun k s i i) i m) where
   kept-more : Kept q (t + 1) s₀ (set s q x)
   kept-more =
       let v = w .kept in
@@ -73,18 +73,17 @@ module _ {k m t : ℕ} {s₀ s : List Float} {x : Float} (i q : ℕ) (w : Backed
       let b = m * (k + 1) in
       let y = divided k f u in
       let ly : length y ≡ m = length-divided k f u ∙ l in
-      let n : m - (i + 1) ≡ t = omega arith in
       let j : length y - (t + 1) ≡ i = omega arith in
       let e : b + (m - t) ≡ q + 1 = omega arith in
       let hs = rows-kept h v (omega arith) in
       let old : at s (b + i) ⊘ ofRun k s i i ≡ at y i = rw (v .below (b + i) (omega arith), st i (omega arith), hs .same i (i + k - i) (omega arith) (omega arith), at-divided k f u i (omega arith)) in
       stands-cons q s (back k f y t) (w .made f u h l st) e (omega arith)
-      (x-is ∙ rw (n, j, old)
-      (less-ext (at y i) _ _ (min k t)
-      (λ a z.
-      let g : b + (i + 1 + a) ≡ b + (m - t) + a = omega arith in
-      let d : a < t = omega (arith, min-le-right k t) in
-      rw (hs .same (i + 1 + a) (i + k - (i + 1 + a)) (omega arith) (omega arith), g, w .made f u h l st a (omega (arith, length-back k f y t))))))
+      (x-is ∙ rw (j, ly, old)
+      (lessFrom-ext (at y i) _ _ (i + 1) (min (i + k + 1) m)
+      (λ r lo hi.
+      let d : r < m = omega (arith, min-le-right (i + k + 1) m) in
+      let g : b + r ≡ b + (m - t) + (r - (i + 1)) = omega arith in
+      rw (hs .same r (i + k - r) d (omega arith), g, w .made f u h l st (r - (i + 1)) (omega (arith, length-back k f y t))))))
 
   pub backed-more : {t′ : ℕ} → t′ ≡ t + 1 → Backed k m t′ s₀ (set s q x)
   backed-more z =
@@ -97,7 +96,7 @@ pub carried-none : (k m t : ℕ) (s : List Float) → Carried k m t t s s
 carried-none k m t s = record { size = refl; done = λ v h. h }
 
 pub carried-more : {k m from t t′ : ℕ} {s₀ s : List Float} {x : Float} (i q : ℕ) → Carried k m from t s₀ s → t < m → i ≡ m - (t + 1) → q ≡ m * (k + 1) + i → m * (k + 1) + m ≤ length s
-    → x ≡ backAt k (ofRun k s) (λ n. at s (m * (k + 1) + (i + 1 + n))) (at s (m * (k + 1) + i) ⊘ ofRun k s i i) i (m - (i + 1)) → t′ ≡ t + 1 → Carried k m from t′ s₀ (set s q x)
+    → x ≡ backAt k (ofRun k s) (λ r. at s (m * (k + 1) + r)) (at s (m * (k + 1) + i) ⊘ ofRun k s i i) i m → t′ ≡ t + 1 → Carried k m from t′ s₀ (set s q x)
 carried-more {s = s} {x = x} i q w c is at-q room x-is z = record { size = length-set s q x ∙ w .size; done = λ v h. backed-more i q (w .done v h) c is at-q room x-is z }
 
 pub carried-then : {k m a b c : ℕ} {s₀ s s′ : List Float} → Carried k m a b s₀ s → Carried k m b c s s′ → Carried k m a c s₀ s′

@@ -1,6 +1,6 @@
 // The solution of a banded system from its factor and the right side carried forward: division by the pivots, and back. Then both in one call.
 ghost use mathlib.Core.Path.{_≡_};
-ghost use Prim.Native.Nat.{_≤_, _-_, _+_, _*_, min};
+ghost use Prim.Native.Nat.{_≤_, _+_, _*_, min};
 ghost use lib.ListN.{length};
 ghost use Rattle.float64.specs.Ops.{_⊘_};
 ghost use Rattle.vectors.specs.Vec.{at};
@@ -11,8 +11,8 @@ ghost use Rattle.substitution.specs.Solved.{Fits, Stretch, Carried, Subs
 // Place i of the solution, from the places after it.
 fn back_at(s: &[f64], k: usize, m: usize, i: usize) -> f64
     requires { ⌜ HasRow k m i (length (now s)) ⌝ }
-    ensures { λ x. ⌜ x ≡ backAt k (ofRun k (now (s .entry))) (λ t. at (now (s .entry)) (m * (k + 1) + (i + 1 + t)))
-        (at (now (s .entry)) (m * (k + 1) + i) ⊘ ofRun k (now (s .entry)) i i) i (m - (i + 1)) ⌝ }
+    ensures { λ x. ⌜ x ≡ backAt k (ofRun k (now (s .entry))) (λ r. at (now (s .entry)) (m * (k + 1) + r))
+        (at (now (s .entry)) (m * (k + 1) + i) ⊘ ofRun k (now (s .entry)) i i) i m ⌝ }
 {
     let b = m * (k + 1);
     let d = banded::get(s, k + 1, i, k);
@@ -52,9 +52,11 @@ fn back1(s: &mut [f64], m: usize)
     let mut i = m - 1;
     let mut x = s[b + i];
     while 0 < i {
-        x = s[b + i - 1] / s[i * 2 - 1] - s[i * 2] * x;
-        s[b + i - 1] = x;
         i -= 1;
+        let p = i * 2;
+        let q = b + i;
+        x = s[q] / s[p + 1] - s[p + 2] * x;
+        s[q] = x;
     }
 }
 
@@ -68,11 +70,13 @@ fn back2(s: &mut [f64], m: usize)
     let mut x1 = s[b + i];
     let mut x2 = s[b + i + 1];
     while 0 < i {
-        let x = s[b + i - 1] / s[i * 3 - 1] - s[i * 3 + 1] * x1 - s[i * 3 + 3] * x2;
-        s[b + i - 1] = x;
+        i -= 1;
+        let p = i * 3;
+        let q = b + i;
+        let x = s[q] / s[p + 2] - s[p + 4] * x1 - s[p + 6] * x2;
+        s[q] = x;
         x2 = x1;
         x1 = x;
-        i -= 1;
     }
 }
 

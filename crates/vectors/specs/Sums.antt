@@ -1,6 +1,6 @@
 -- Document 01, "Float helpers": sums run from index 0 and start at +0. Then the sums and the greatest size that the fit takes of a vector, and whether it lies within a bound.
 use mathlib.Core.List.{List}
-use Prim.Native.Nat.{ℕ, zero, suc}
+use Prim.Native.Nat.{ℕ, zero, suc, _+_, _-_}
 use lib.ListN.{length}
 use mathlib.Core.Bool.{Bool, true, _&&_}
 use lib.Ieee.{Float, binary64, add, mul, lt, ofBits}
@@ -16,6 +16,10 @@ sumTo f (suc n) = add binary64 (sumTo f n) (f n)
 unfoldable pub more : Float → (ℕ → Float) → ℕ → Float
 more v f zero = v
 more v f (suc n) = add binary64 (more v f n) (f n)
+
+-- v, and f lo, f (lo + 1), .. , f (hi - 1) added in that order
+unfoldable pub moreFrom : Float → (ℕ → Float) → ℕ → ℕ → Float
+moreFrom v f lo hi = more v (λ n. f (lo + n)) (hi - lo)
 
 -- the greatest of +0, f 0, f 1, .. , f (n - 1), NaN ignored
 unfoldable pub maxTo : (ℕ → Float) → ℕ → Float

@@ -10,7 +10,7 @@ use lib.Ieee.{Float}
 use Rattle.float64.specs.Ops.{_⊗_}
 use Rattle.banded.specs.Rows.{lessFrom, reduced, entry, placed}
 use Rattle.banded.specs.Run.{flat, ofRun}
-use Rattle.banded.proofs.Laws.{within, wide, across, from-none, from-more}
+use Rattle.banded.proofs.Laws.{within, wide, across, lessFrom-none, lessFrom-more}
 use Rattle.banded.proofs.factor_entry.Statement.{statement}
 use Rattle.banded.proofs.factor_entry.Tie as tie
 
@@ -37,7 +37,7 @@ get-requires c κs = let st = c .before .before in
     within (a .k) (a .r) (a .r) (a .c) _ (st .pre .0) (omega arith) (omega arith)
 
 loop-holds : tie.Need-loop-holds Inv-loop μ-loop
-loop-holds c = (search needs, search needs, c .before .get .ensures ∙ sym (from-none _ _ _ _ (omega (arith, c .over .ensures))))
+loop-holds c = (search needs, search needs, c .before .get .ensures ∙ sym (lessFrom-none _ _ _ _ (omega (arith, c .over .ensures))))
 
 get-requires-3 : tie.Need-get-requires-3 Inv-loop μ-loop
 get-requires-3 c κs = let at-loop = c .before .before in
@@ -62,7 +62,7 @@ loop-again c = let at-loop = c .before .before .before .before in
     let x : r + t - k + k - r ≡ t = omega arith in
     let y = across k r (a .c) t (omega arith) (omega arith) in
     let z = add-sub-cancel-left (r + t - k) k in
-    (search needs, search needs, from-more _ (products k (a .s .now) r (r + a .c - k)) (r - k) (r + t - k) (at-loop .loop .inv .2) (rw (x, y, z) (cc)) low next)
+    (search needs, search needs, lessFrom-more _ (products k (a .s .now) r (r + a .c - k)) (r - k) (r + t - k) (at-loop .loop .inv .2) (rw (x, y, z) (cc)) low next)
 
 get-requires-5 : tie.Need-get-requires-5 Inv-loop μ-loop
 get-requires-5 c κs = let at-loop = c .before .before in

@@ -7,7 +7,7 @@ use Rattle.banded.specs.Run.{ofRun}
 use Rattle.float64.specs.Ops.{_⊗_}
 use Rattle.banded.specs.Rows.{lessFrom}
 use Rattle.banded.specs.Solve.{forwardAt}
-use Rattle.banded.proofs.Laws.{from-none, from-more}
+use Rattle.banded.proofs.Laws.{lessFrom-none, lessFrom-more}
 use Rattle.banded.proofs.forward_at.Statement.{statement}
 use Rattle.banded.proofs.forward_at.Tie as tie
 
@@ -18,7 +18,7 @@ abbrev μ-loop : tie.MeasureT-loop
 μ-loop s k b i v₀ t₀ v t = k - t
 
 loop-holds : tie.Need-loop-holds Inv-loop μ-loop
-loop-holds c = (search needs, search needs, sym (from-none _ _ _ _ (omega (arith, c .over .ensures))))
+loop-holds c = (search needs, search needs, sym (lessFrom-none _ _ _ _ (omega (arith, c .over .ensures))))
 
 loop-again : tie.Need-loop-again Inv-loop μ-loop
 loop-again c = let at-loop = c .before .before .before in
@@ -27,7 +27,7 @@ loop-again c = let at-loop = c .before .before .before in
     let i = a .i in
     let t = at-loop .loop .t in
     let x : i + t - k + k - i ≡ t = omega arith in
-    (search needs, search needs, from-more _ _ (i - k) (i + t - k) (at-loop .loop .inv .2) (rw x (cc)) (omega arith) (omega arith))
+    (search needs, search needs, lessFrom-more _ _ (i - k) (i + t - k) (at-loop .loop .inv .2) (rw x (cc)) (omega arith) (omega arith))
 
 returns : tie.Need-returns Inv-loop μ-loop
 unfolding forwardAt

@@ -1,25 +1,23 @@
 use borrow.Author.Needs.{needs}
-use mathlib.Core.Path.{_≡_, _∙_}
-use Prim.Native.Nat.{_≤_, _-_, _+_}
+use mathlib.Core.Path.{_≡_, refl, sym, _∙_}
+use Prim.Native.Nat.{_≤_, _-_}
 use native.Mathlib.Omega.{arith}
-use native.Mathlib.Nat.{sub-self}
-use lib.Ieee.{binary64, mul, ofBits}
+use Rattle.float64.specs.Ops.{_⊗_, c0}
 use Rattle.vectors.specs.Vec.{at, apart}
 use Rattle.gram.specs.Gram.{product}
-use Rattle.vectors.specs.Sums.{more}
-use Rattle.vectors.proofs.Sums.{more-more}
+use Rattle.vectors.specs.Sums.{moreFrom}
+use Rattle.vectors.proofs.Sums.{moreFrom-none, moreFrom-more}
 use Rattle.gram.proofs.product_any.Statement.{statement}
 use Rattle.gram.proofs.product_any.Tie as tie
 
 abbrev Inv-loop : tie.InvT-loop
-Inv-loop z k i g lo hi v₀ j₀ v j = (lo ≤ j) × (j ≤ hi) × (v ≡ more (ofBits binary64 0) (λ t. mul binary64 (at g (apart i (lo + t))) (at z (lo + t))) (j - lo))
+Inv-loop z k i g lo hi v₀ j₀ v j = (lo ≤ j) × (j ≤ hi) × (v ≡ moreFrom c0 (λ j. at g (apart i j) ⊗ at z j) lo j)
 
 abbrev μ-loop : tie.MeasureT-loop
 μ-loop z k i g lo hi v₀ j₀ v j = hi - j
 
 loop-holds : tie.Need-loop-holds Inv-loop μ-loop
-unfolding more
-loop-holds c = (search needs, omega arith, rw sub-self)
+loop-holds c = (search needs, omega arith, sym (moreFrom-none _ _ _ _ (omega arith)))
 
 mul-v : tie.Need-mul-v Inv-loop μ-loop
 mul-v c = omega (arith, c .apart .ensures)
@@ -29,10 +27,7 @@ array-read-v c = omega (arith, c .apart .ensures)
 
 loop-again : tie.Need-loop-again Inv-loop μ-loop
 loop-again c = let lp = c .before .before .before in
-    let lo = lp .before .before .over .result in
-    let j = lp .loop .j in
-    let f : lo + (j - lo) ≡ j = omega arith in
-    (search needs, search needs, more-more _ _ (j - lo) (lp .loop .inv .2) (rw (f, c .before .apart .ensures)) (omega arith))
+    (search needs, search needs, moreFrom-more _ _ _ (lp .loop .j) (lp .loop .inv .2) (rw (c .before .apart .ensures)) (omega arith) refl)
 
 returns : tie.Need-returns Inv-loop μ-loop
 unfolding product

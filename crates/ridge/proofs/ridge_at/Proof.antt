@@ -1,18 +1,17 @@
-use Rattle.vectors.proofs.Sums.{more-more}
+use Rattle.vectors.proofs.Sums.{moreFrom-none, moreFrom-more}
 use borrow.Author.Needs.{needs}
 use borrow.Author.Tests.{lt-ltb, le-ltb}
-use mathlib.Core.Path.{_≡_, _∙_}
+use mathlib.Core.Path.{_≡_, refl, sym, _∙_}
 use Prim.Native.Nat.{_≤_, _-_, _+_}
 use native.Mathlib.Omega.{arith}
-use native.Mathlib.Nat.{sub-self}
-use Rattle.vectors.specs.Sums.{more}
+use Rattle.vectors.specs.Sums.{moreFrom}
 use Rattle.banded.specs.Rows.{placed}
 use Rattle.ridge.specs.Ridge.{share, ridge}
 use Rattle.ridge.proofs.ridge_at.Statement.{statement}
 use Rattle.ridge.proofs.ridge_at.Tie as tie
 
 abbrev Inv-loop : tie.InvT-loop
-Inv-loop lam k n i p c j lo hi v₀ r₀ v r = (lo ≤ r) × (r ≤ hi) × (v ≡ more v₀ (λ t. share c lam i (i + p - k) (lo + t)) (r - lo))
+Inv-loop lam k n i p c j lo hi v₀ r₀ v r = (lo ≤ r) × (r ≤ hi) × (v ≡ moreFrom v₀ (share c lam i (i + p - k)) lo r)
 
 abbrev μ-loop : tie.MeasureT-loop
 μ-loop lam k n i p c j lo hi v₀ r₀ v r = hi - r
@@ -22,15 +21,11 @@ unfolding placed
 returns c = simp (lt-ltb _ _ (c .if1 .taken))
 
 loop-holds : tie.Need-loop-holds Inv-loop μ-loop
-unfolding more
-loop-holds c = (search needs, omega arith, rw sub-self)
+loop-holds c = (search needs, omega arith, sym (moreFrom-none _ _ _ _ (omega arith)))
 
 loop-again : tie.Need-loop-again Inv-loop μ-loop
 loop-again c = let lp = c .before in
-    let lo = lp .before .before .before .over .result in
-    let r = lp .loop .r in
-    let f : lo + (r - lo) ≡ r = omega arith in
-    (search needs, search needs, more-more _ _ (r - lo) (lp .loop .inv .2) (rw f) (omega arith))
+    (search needs, search needs, moreFrom-more _ _ _ (lp .loop .r) (lp .loop .inv .2) refl (omega arith) refl)
 
 returns-2 : tie.Need-returns-2 Inv-loop μ-loop
 unfolding placed ridge

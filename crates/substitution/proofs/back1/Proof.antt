@@ -2,9 +2,11 @@ use borrow.Author.Needs.{needs}
 use mathlib.Core.Path.{_≡_, refl, sym}
 use Prim.Native.Nat.{_<_, _-_, _+_, _*_}
 use native.Mathlib.Omega.{arith}
+use lib.Seq.{getD-set-same}
+use lib.Ieee.{nan}
 use Rattle.vectors.specs.Vec.{at}
 use Rattle.substitution.specs.Solved.{Carried}
-use Rattle.substitution.proofs.Orders.{at-same, step-1}
+use Rattle.substitution.proofs.Orders.{step-1}
 use Rattle.substitution.proofs.Laws.{carried-none, carried-more}
 use Rattle.substitution.proofs.back1.Statement.{statement}
 use Rattle.substitution.proofs.back1.Tie as tie
@@ -25,10 +27,11 @@ loop-again c = let at-loop = c .before .before .before .before in
     let m = at-loop .before .before .args .m in
     let i = at-loop .loop .i in
     let s = at-loop .loop .s in
-    let inv = at-loop .loop .inv in (
+    let inv = at-loop .loop .inv in
+    let e : i - 1 + 1 ≡ i = omega arith in (
       search needs,
-      sym (at-same s (m * 2 + i - 1) (m * 2 + (i - 1)) _ (omega arith) (omega arith)),
-      carried-more (i - 1) (m * 2 + i - 1) (inv .2) (omega arith) (omega arith) (omega arith) (omega arith) (step-1 s m i _ (omega arith) (omega arith) (inv .1)) (omega arith),
+      sym (getD-set-same s (m * 2 + (i - 1)) _ nan (omega arith)),
+      carried-more (i - 1) (m * 2 + (i - 1)) (inv .2) (omega arith) (omega arith) refl (omega arith) (step-1 s m (i - 1) (omega arith) (rw e (inv .1))) (omega arith),
     )
 
 returns : tie.Need-returns Inv-loop μ-loop
@@ -43,5 +46,5 @@ back1-spec =
     (tie.spec Inv-loop μ-loop (λ c. search needs) (λ c. search needs) (λ c. search needs) (λ c. search needs)
     (λ c. search needs) loop-holds (λ c. search needs) (λ c. search needs) (λ c. search needs) (λ c. search needs)
     (λ c. search needs) (λ c. search needs) (λ c. search needs) (λ c. search needs) (λ c. search needs)
-    (λ c. search needs) (λ c. search needs) (λ c. search needs) (λ c. search needs) (λ c. search needs)
-    (λ c. search needs) (λ c. search needs) (λ c. search needs) loop-again (λ c. search needs) returns)
+    (λ c. search needs) (λ c. search needs) (λ c. search needs) (λ c. search needs) (λ c. search needs) loop-again
+    (λ c. search needs) returns)

@@ -1,20 +1,19 @@
 use borrow.Author.Needs.{needs}
-use mathlib.Core.Path.{_≡_, ap, _∙_}
-use Prim.Native.Nat.{_≤_, _-_, _+_, _*_}
+use mathlib.Core.Path.{_≡_, sym}
+use Prim.Native.Nat.{_≤_, _-_, _+_, _*_, min}
 use native.Mathlib.Nat.{add-sub-cancel-left}
 use native.Mathlib.Omega.{arith}
-use native.Mathlib.Numerals.{add-one}
 use Rattle.float64.specs.Ops.{_⊘_, _⊗_}
 use Rattle.vectors.specs.Vec.{at}
-use Rattle.banded.specs.Rows.{less}
+use Rattle.banded.specs.Rows.{lessFrom}
 use Rattle.banded.specs.Solve.{backAt}
 use Rattle.banded.specs.Run.{ofRun, HasRow}
-use Rattle.banded.proofs.Laws.{row-fits, within, less-more}
+use Rattle.banded.proofs.Laws.{row-fits, within, lessFrom-none, lessFrom-more}
 use Rattle.substitution.proofs.back_at.Statement.{statement}
 use Rattle.substitution.proofs.back_at.Tie as tie
 
 abbrev Inv-loop : tie.InvT-loop
-Inv-loop s k m i b d v₀ n t₀ v t = (t ≤ n) × (v ≡ less (at s (m * (k + 1) + i) ⊘ ofRun k s i i) (λ n. ofRun k s (i + 1 + n) i ⊗ at s (m * (k + 1) + (i + 1 + n))) t)
+Inv-loop s k m i b d v₀ n t₀ v t = (t ≤ n) × (v ≡ lessFrom (at s (m * (k + 1) + i) ⊘ ofRun k s i i) (λ r. ofRun k s r i ⊗ at s (m * (k + 1) + r)) (i + 1) (i + 1 + t))
 
 abbrev μ-loop : tie.MeasureT-loop
 μ-loop s k m i b d v₀ n t₀ v t = n - t
@@ -30,9 +29,8 @@ get-requires c κs = let st = c .before in
     within (st .args .k) (st .args .i) (st .args .i) (st .args .k) _ (row-fits (st .pre)) (omega arith) (omega arith)
 
 loop-holds : tie.Need-loop-holds Inv-loop μ-loop
-unfolding less
 loop-holds c = let a = c .before .before .before .before .args in
-    (search needs, rw (c .before .before .get .ensures, add-sub-cancel-left (a .i) (a .k)))
+    (search needs, rw (c .before .before .get .ensures, add-sub-cancel-left (a .i) (a .k)) (sym (lessFrom-none _ _ _ _ (omega arith))))
 
 add-get-2 : tie.Need-add-get-2 Inv-loop μ-loop
 add-get-2 c = let n-is = c .before .before in
@@ -52,13 +50,14 @@ loop-again c = let at-loop = c .before .before .before in
     let a = at-loop .before .before .before .before .before .args in
     let t = at-loop .loop .t in
     let e : a .i + a .k - (a .i + 1 + t) ≡ a .k - (t + 1) = omega arith in
-    (search needs, less-more _ _ t (at-loop .loop .inv .1) (rw (c .before .get2 .ensures, e)) (add-one t))
+    (search needs, lessFrom-more _ _ (a .i + 1) (a .i + 1 + t) (at-loop .loop .inv .1) (rw (c .before .get2 .ensures, e)) (omega arith) (omega arith))
 
 returns : tie.Need-returns Inv-loop μ-loop
 unfolding backAt
 returns c = let at-loop = c .before in
-    let e : at-loop .loop .t ≡ at-loop .before .smaller .result = omega arith in
-    at-loop .loop .inv .1 ∙ ap (less _ _) (e ∙ at-loop .before .smaller .ensures)
+    let a = at-loop .before .before .before .before .before .args in
+    let e : a .i + 1 + at-loop .loop .t ≡ min (a .i + a .k + 1) (a .m) = omega (arith, at-loop .before .smaller .ensures) in
+    rw e at (at-loop .loop .inv .1)
 
 pub back-at-spec : {M : Type 1} → statement M
 back-at-spec =
