@@ -10,7 +10,7 @@ use Rattle.vectors.specs.Vec.{at, list}
 use Rattle.dual_point.specs.Dual.{Dual, Values, valuesAt}
 use Rattle.newton_system.specs.Newton.{f1, f2}
 
--- how mu1 moves at a place where z moves by dz: -(mu1 + (inv-t + dz·mu1) / f1)
+-- how mu1 moves at a place where z moves by dz, v being the point there: -(mu1 + (inv-t + dz·mu1) / f1)
 unfoldable pub dmu1At : Float → Float → Values → Float → Float
 dmu1At lam inv-t v dz = neg (v .mu1 ⊕ (inv-t ⊕ dz ⊗ v .mu1) ⊘ f1 lam (v .z))
 

@@ -19,7 +19,7 @@ stepped step v d = list (length v) (λ i. at v i ⊕ step ⊗ at d i)
 unfoldable pub along : Dual → Dual → Float → Dual
 along p d step = record { z = stepped step (p .z) (d .z); mu1 = stepped step (p .mu1) (d .mu1); mu2 = stepped step (p .mu2) (d .mu2) }
 
--- how it ended: the last trial, and the step, halved if that trial was not accepted
+-- how a line search ended: the last trial, and the step, halved if that trial was not accepted
 pub record Trial : Type 0 where
   pub point : Dual
   pub step : Float
@@ -28,11 +28,11 @@ pub record Trial : Type 0 where
 abbrev pub sufficientDecrease : Float → Float → Float → Bool
 sufficientDecrease new step old = le new ((c1 ⊖ c0·01 ⊗ step) ⊗ old)
 
--- the trial q at a step is accepted; old is the residual norm before
+-- the trial q at a step is accepted: inside the bounds, and with a residual norm low enough against the old one
 unfoldable pub accepted : NewtonData → Float → Dual → Float → Bool
 accepted c old q step = inside (c .lam) (q .z) && sufficientDecrease (residualNorm c q) step old
 
--- n trials left; from p in the direction d; old is the residual norm at p, last the trial before
+-- n trials left, from p in the direction d; old is the residual norm at p, last the trial before. One that is not accepted halves the step
 unfoldable pub trials : NewtonData → Dual → Dual → Float → ℕ → Float → Dual → Trial
 trials c p d old zero step last = record { point = last; step = step }
 trials c p d old (suc n) step last =
