@@ -18,7 +18,8 @@ use Rattle.certificate.specs.Certificate.{minus, clamped, certify}
 use Rattle.decomposition.specs.Knots.{threshold, aboveTo, knots}
 use Rattle.search.specs.Search.{iterate, run}
 use Rattle.newton_system.specs.Newton.{diagonalShift, rhsAt, residualSquareAt, system, rhs, residualSquare, residualNorm, newtonZ}
-use Rattle.line_search.specs.LineSearch.{dmu1At, dmu2At, stepCapBy, direction, stepCapTo, stepped, along, accepted, trials, searchLine}
+use Rattle.direction.specs.Direction.{dmu1At, dmu2At, stepCapBy, direction, stepCapTo}
+use Rattle.line_search.specs.LineSearch.{stepped, along, accepted, trials, searchLine}
 use Rattle.interior_point.specs.InteriorPoint.{nextT, move, problem, origin, interiorPoint}
 use Rattle.active_set.specs.ActiveSet.{holdAt, freeTo, compressed, lessTo, compressedRhsAt, solved}
 use Rattle.polish.specs.Polish.{candidateAt, candidate, polish}

@@ -30,7 +30,7 @@ nextT m gap s = cond (le c0·2 (s .step)) (maxOf (c2 ⊗ ofInt binary64 (pos m) 
 abbrev pub landed : Float → State → Float → Trial → State
 landed lam s t e = record { point = nextPoint lam (s .point) e; t = t; step = e .step }
 
--- one iteration from s, where the gap is known: a bad pivot loses it
+-- one iteration from s, given the gap there: the next t, then a Newton step with inv-t = 1 / t; a bad pivot loses it
 unfoldable pub move : ℕ → List Float → List Float → Float → Float → State → Turn State
 move k g y lam gap s =
     let m = length (s .point .z) in

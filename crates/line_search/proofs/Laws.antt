@@ -1,42 +1,15 @@
--- What the loops of the line search have done: the step cap, and the trial point. Assumes nothing.
+-- What the loop that makes a trial point has done. Assumes nothing.
 use mathlib.Core.Path.{_≡_, refl, sym, ap, _∙_}
 use mathlib.Core.List.{List}
-use mathlib.Core.Bool.{true, false}
 use Prim.Native.Nat.{ℕ, _+_, _-_, _*_, _≤_, _<_}
 use native.Mathlib.Omega.{arith}
-use native.Mathlib.Numerals.{add-one}
 use lib.ListN.{length, set}
-use lib.Ieee.{Float, nan, inf, fin, binary64, add, mul, lt, isNan, ofBits}
+use lib.Ieee.{Float, binary64, add, mul}
 use Rattle.vectors.specs.Vec.{at, list, Written, partOf, part, Kept}
 use Rattle.vectors.proofs.Laws.{list-ext, up}
 use Rattle.vectors.proofs.Parts.{length-part, at-part}
-use Rattle.line_search.specs.LineSearch.{stepCapBy, stepCapTo, stepped, along}
+use Rattle.line_search.specs.LineSearch.{stepped, along}
 use Rattle.dual_point.specs.Places.{point}
-
-pub cap-more : (b m : ℕ) (s : List Float) (i : ℕ) (x y : Float) → i < m → x ≡ stepCapTo (point 0 m s) (point b m s) i
-    → y ≡ stepCapBy x (at s (m + i)) (at s (b + m + i)) → stepCapBy y (at s (m + m + i)) (at s (b + m + m + i)) ≡ stepCapTo (point 0 m s) (point b m s) (i + 1)
-unfolding stepCapTo
-cap-more b m s i x y h e f =
-    rw (
-      add-one i,
-      f,
-      e,
-      at-part (0 + m) m s i (m + i) h (omega arith),
-      at-part (0 + m + m) m s i (m + m + i) h (omega arith),
-      at-part (b + m) m s i (b + m + i) h refl,
-      at-part (b + m + m) m s i (b + m + m + i) h refl,
-    )
-
--- what is below a number is a number
-pub less-number : (q step : Float) → lt q step ≡ true → isNan q ≡ false
-unfolding lt isNan
-less-number nan step e = sym e
-less-number (inf s) step e = refl
-less-number (fin s m d) step e = refl
-
-pub one-number : isNan (ofBits binary64 0x3ff0_0000_0000_0000) ≡ false
-unfolding isNan ofBits
-one-number = refl
 
 stepped-part : (a b e m : ℕ) (step : Float) (s₀ s : List Float)
     → ((j : ℕ) → j < m → at s (e + j) ≡ add binary64 (at s₀ (a + j)) (mul binary64 step (at s₀ (b + j)))) → part e m s ≡ stepped step (part a m s₀) (part b m s₀)

@@ -1,51 +1,20 @@
--- The direction written after dz, and the ways through the line search. Assumes nothing.
+-- The ways through the line search. Assumes nothing.
 use mathlib.Core.Path.{_≡_, refl, sym, ap, _∙_}
 use mathlib.Core.List.{List}
 use mathlib.Core.Bool.{Bool, true, false, _&&_}
 use Prim.Native.Nat.{ℕ, zero, suc, _+_, _-_, _*_, _≤_, _<_}
 use native.Mathlib.Omega.{arith}
 use native.Mathlib.Numerals.{add-one}
-use lib.ListN.{length}
-use lib.Ieee.{Float, nan, binary64, mul, ofBits}
-use Rattle.vectors.specs.Vec.{at, list, part, Kept}
-use Rattle.vectors.proofs.Laws.{list-ext, kept-then}
-use Rattle.dual_point.specs.Dual.{Dual}
-use Rattle.newton_system.specs.Newton.{NewtonData, residualNorm}
-use Rattle.line_search.specs.LineSearch.{dmu1At, dmu2At, direction, stepCapTo, along, sufficientDecrease, accepted, trials}
-use Rattle.dual_point.specs.Places.{point}
-use Rattle.line_search.specs.Places.{dmuAt, Directed, searchedFrom, Attempted, Searched}
+use lib.Ieee.{Float, binary64, mul, ofBits}
 use Rattle.vectors.specs.Sums.{inside}
+use Rattle.vectors.specs.Vec.{part, Kept}
+use Rattle.vectors.proofs.Laws.{kept-then}
+use Rattle.dual_point.specs.Dual.{Dual}
+use Rattle.dual_point.specs.Places.{point}
 use Rattle.dual_point.proofs.Points.{point-below, point-above}
-use Rattle.vectors.proofs.Parts.{length-part, at-part, part-below}
-
--- ---- directions
-
--- a multiplier's lane, as a part
-dmu-done : (lower : Bool) (b c x m : ℕ) (lam inv-t : Float) (s : List Float) → x ≡ c
-    → list m (λ i. dmuAt lower lam inv-t (at s i) (at s (c + i)) (at s (b + i))) ≡ list (length (part 0 m s)) (λ i. dmuAt lower lam inv-t (at (part 0 m s) i) (at (part x m s) i) (at (part b m s) i))
-dmu-done lower b c x m lam inv-t s e =
-    list-ext m (λ i. dmuAt lower lam inv-t (at s i) (at s (c + i)) (at s (b + i))) (λ i. dmuAt lower lam inv-t (at (part 0 m s) i) (at (part x m s) i) (at (part b m s) i))
-    (λ j l. rw (at-part 0 m s j j l (omega arith), at-part x m s j (c + j) l (omega arith), at-part b m s j (b + j) l refl))
-    ∙ ap (λ (n : ℕ). list n (λ i. dmuAt lower lam inv-t (at (part 0 m s) i) (at (part x m s) i) (at (part b m s) i))) (sym (length-part 0 m s))
-
--- dmu1 and then dmu2 written after dz
-pub directed : (b m : ℕ) (lam inv-t : Float) (s₀ s s′ : List Float) (cap : Float) → m + m + m ≤ b
-    → part (b + m) m s ≡ list m (λ i. dmuAt false lam inv-t (at s₀ i) (at s₀ (m + i)) (at s₀ (b + i))) → Kept (b + m) m s₀ s
-    → part (b + (m + m)) m s′ ≡ list m (λ i. dmuAt true lam inv-t (at s i) (at s (m + m + i)) (at s (b + i))) → Kept (b + (m + m)) m s s′
-    → cap ≡ stepCapTo (point 0 m s′) (point b m s′) m → Directed lam inv-t b m s₀ s′ cap
-unfolding direction dmu1At dmu2At
-directed b m lam inv-t s₀ s s′ cap o e v f w t =
-    let x : b + (m + m) ≡ b + m + m = omega arith in
-    let ways : point b m s′ ≡ direction lam inv-t (point 0 m s₀) (part b m s₀) = λ i. record {
-      z = (part-below nan b m w (omega arith) ∙ part-below nan b m v (omega arith)) i;
-      mu1 = (part-below nan (b + m) m w (omega arith) ∙ e ∙ dmu-done false b m (0 + m) m lam inv-t s₀ (omega arith)) i;
-      mu2 = (ap (λ (q : ℕ). part q m s′) (sym x) ∙ f ∙ dmu-done true b (m + m) (0 + m + m) m lam inv-t s (omega arith)
-          ∙ λ j. direction lam inv-t (point-below 0 m v (omega arith) j) (part-below nan b m v (omega arith) j) .mu2) i;
-    } in
-    let both = kept-then (b + m) (m + m) v w (omega arith) (omega arith) (omega arith) (omega arith) in
-    record { ways = ways; cap-is = t ∙ (λ i. stepCapTo (point-below 0 m both (omega arith) i) (ways i) m); kept = both }
-
--- ---- the line search
+use Rattle.newton_system.specs.Newton.{NewtonData, residualNorm}
+use Rattle.line_search.specs.LineSearch.{along, sufficientDecrease, accepted, trials}
+use Rattle.line_search.specs.Places.{searchedFrom, Attempted, Searched}
 
 module _ (c : NewtonData) where
   pub accept-yes : (old step : Float) (q : Dual) (low : Bool) → true ≡ inside (c .lam) (q .z) → low ≡ sufficientDecrease (residualNorm c q) step old → low ≡ accepted c old q step

@@ -1,46 +1,15 @@
--- Document 01, "Interior point": the direction of a Newton step, the step cap and the line search. inv-t is 1 / t.
+-- Document 01, "Interior point": the line search along the direction of a Newton step.
 use mathlib.Core.Bool.{Bool, cond, _&&_}
 use mathlib.Core.List.{List}
 use Prim.Native.Nat.{ℕ, zero, suc}
 use lib.ListN.{length}
-use lib.Ieee.{Float, neg, lt, le}
-use Rattle.float64.specs.Helpers.{minOf}
-use Rattle.float64.specs.Ops.{_⊕_, _⊖_, _⊗_, _⊘_, c0, c1, half, c0·99, c0·01}
+use lib.Ieee.{Float, le}
+use Rattle.float64.specs.Ops.{_⊕_, _⊖_, _⊗_, c1, half, c0·01}
 use Rattle.vectors.specs.Sums.{inside}
 use Rattle.vectors.specs.Vec.{at, list}
-use Rattle.dual_point.specs.Dual.{Dual, Values, valuesAt}
-use Rattle.newton_system.specs.Newton.{NewtonData, f1, f2, residualNorm, newtonZ}
-
--- ---- the direction
-
--- how mu1 moves at a place where z moves by dz: -(mu1 + (inv-t + dz·mu1) / f1)
-unfoldable pub dmu1At : Float → Float → Values → Float → Float
-dmu1At lam inv-t v dz = neg (v .mu1 ⊕ (inv-t ⊕ dz ⊗ v .mu1) ⊘ f1 lam (v .z))
-
--- how mu2 moves there: -(mu2 + (inv-t - dz·mu2) / f2)
-unfoldable pub dmu2At : Float → Float → Values → Float → Float
-dmu2At lam inv-t v dz = neg (v .mu2 ⊕ (inv-t ⊖ dz ⊗ v .mu2) ⊘ f2 lam (v .z))
-
--- the whole direction from p, where z moves by dz
-unfoldable pub direction : Float → Float → Dual → List Float → Dual
-direction lam inv-t p dz = record {
-  z = dz;
-  mu1 = list (length (p .z)) (λ i. dmu1At lam inv-t (valuesAt p i) (at dz i));
-  mu2 = list (length (p .z)) (λ i. dmu2At lam inv-t (valuesAt p i) (at dz i));
-}
-
--- ---- the step cap
-
--- a multiplier mu that falls caps the step at 0.99·(-mu / dmu)
-unfoldable pub stepCapBy : Float → Float → Float → Float
-stepCapBy step mu dmu = cond (lt dmu c0) (minOf step (c0·99 ⊗ (neg mu ⊘ dmu))) step
-
--- 1, capped by the first n places of p and its direction d in turn, at each by mu1 and then by mu2
-unfoldable pub stepCapTo : Dual → Dual → ℕ → Float
-stepCapTo p d zero = c1
-stepCapTo p d (suc i) = stepCapBy (stepCapBy (stepCapTo p d i) (at (p .mu1) i) (at (d .mu1) i)) (at (p .mu2) i) (at (d .mu2) i)
-
--- ---- the line search
+use Rattle.dual_point.specs.Dual.{Dual}
+use Rattle.newton_system.specs.Newton.{NewtonData, residualNorm, newtonZ}
+use Rattle.direction.specs.Direction.{direction, stepCapTo}
 
 -- v + step·d, place by place
 unfoldable pub stepped : Float → List Float → List Float → List Float
@@ -50,7 +19,7 @@ stepped step v d = list (length v) (λ i. at v i ⊕ step ⊗ at d i)
 unfoldable pub along : Dual → Dual → Float → Dual
 along p d step = record { z = stepped step (p .z) (d .z); mu1 = stepped step (p .mu1) (d .mu1); mu2 = stepped step (p .mu2) (d .mu2) }
 
--- how it ended: the last trial, and the step, halved if that trial was not accepted
+-- how a line search ended: the last trial, and the step, halved if that trial was not accepted
 pub record Trial : Type 0 where
   pub point : Dual
   pub step : Float
@@ -59,11 +28,11 @@ pub record Trial : Type 0 where
 abbrev pub sufficientDecrease : Float → Float → Float → Bool
 sufficientDecrease new step old = le new ((c1 ⊖ c0·01 ⊗ step) ⊗ old)
 
--- the trial q at a step is accepted; old is the residual norm before
+-- the trial q at a step is accepted: inside the bounds, and with a residual norm low enough against the old one
 unfoldable pub accepted : NewtonData → Float → Dual → Float → Bool
 accepted c old q step = inside (c .lam) (q .z) && sufficientDecrease (residualNorm c q) step old
 
--- n trials left; from p in the direction d; old is the residual norm at p, last the trial before
+-- n trials left, from p in the direction d; old is the residual norm at p, last the trial before. One that is not accepted halves the step
 unfoldable pub trials : NewtonData → Dual → Dual → Float → ℕ → Float → Dual → Trial
 trials c p d old zero step last = record { point = last; step = step }
 trials c p d old (suc n) step last =

@@ -1,35 +1,15 @@
--- What the direction, a trial and a line search ask of a run and leave in it. For the contracts between our own crates.
+-- What a trial and a line search ask of a run and leave in it: the point, the trial after it, the direction from b on. For the contracts between our own crates.
 use mathlib.Core.Path.{_≡_}
-use mathlib.Core.Bool.{Bool, cond}
+use mathlib.Core.Bool.{Bool}
 use mathlib.Core.List.{List}
 use Prim.Native.Nat.{ℕ, _+_, _*_, _≤_}
 use lib.Ieee.{Float}
 use Rattle.vectors.specs.Vec.{part, Kept}
 use Rattle.vectors.specs.Sums.{inside}
-use Rattle.dual_point.specs.Dual.{Dual, Values}
+use Rattle.dual_point.specs.Dual.{Dual}
 use Rattle.dual_point.specs.Places.{point}
 use Rattle.newton_system.specs.Newton.{NewtonData}
-use Rattle.line_search.specs.LineSearch.{dmu1At, dmu2At, direction, stepCapTo, along, accepted, Trial, trials}
-
--- ---- the direction, whose dz stands from b on, after the point in the first places
-
--- how the multiplier mu of the lower bound, or of the upper one, moves
-abbrev pub dmuAt : Bool → Float → Float → Float → Float → Float → Float
-dmuAt lower lam inv-t z mu dz = let v : Values = record { z = z; mu1 = mu; mu2 = mu } in cond lower (dmu2At lam inv-t v dz) (dmu1At lam inv-t v dz)
-
--- multipliers from c on, and dz from b on; how they move stands from b + c on
-pub record Lane (m c b places : ℕ) : Type 0 where
-  pub after : m ≤ c
-  pub apart : c + m ≤ b
-  pub room : b + c + m ≤ places
-
--- the whole direction from b on, and the step cap
-pub record Directed (lam inv-t : Float) (b m : ℕ) (s₀ s : List Float) (cap : Float) : Type 0 where
-  pub ways : point b m s ≡ direction lam inv-t (point 0 m s₀) (part b m s₀)
-  pub cap-is : cap ≡ stepCapTo (point 0 m s₀) (direction lam inv-t (point 0 m s₀) (part b m s₀)) m
-  pub kept : Kept (b + m) (m + m) s₀ s
-
--- ---- the line search: the point, the trial after it, the direction from b on
+use Rattle.line_search.specs.LineSearch.{along, accepted, Trial, trials}
 
 -- a point in the first places, and as many of D y
 pub record PointRoom (k m places known : ℕ) : Type 0 where

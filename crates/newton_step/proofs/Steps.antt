@@ -14,10 +14,12 @@ use Rattle.dual_point.specs.Dual.{Dual}
 use Rattle.newton_system.specs.Newton.{NewtonData, system, newtonZ, residualNorm}
 use Rattle.newton_system.specs.Rows.{dataOf, NewtonSolved}
 use Rattle.newton_system.specs.declared.Solved.{Solved}
-use Rattle.line_search.specs.LineSearch.{Trial, direction, stepCapTo, trials, searchLine, nextPoint}
+use Rattle.direction.specs.Direction.{direction, stepCapTo}
+use Rattle.direction.specs.Places.{Directed}
+use Rattle.line_search.specs.LineSearch.{Trial, trials, searchLine, nextPoint}
 use Rattle.vectors.specs.Sums.{inside}
 use Rattle.dual_point.specs.Places.{point}
-use Rattle.line_search.specs.Places.{Directed, Searched}
+use Rattle.line_search.specs.Places.{Searched}
 use Rattle.dual_point.proofs.Points.{point-below}
 use Rattle.newton_step.specs.Stepped.{stepArea, Stepped}
 use Rattle.newton_step.specs.declared.Step.the-variants.{Lost, Moved}

@@ -45,7 +45,7 @@ pub fn newton_step(
     if !w.good {
         return Step::Lost;
     }
-    let cap = line_search::directions(s, b, lam, inv_t, m);
+    let cap = direction::directions(s, b, lam, inv_t, m);
     let norm = square_root::sqrt(w.acc);
     let t = line_search::line_search(s, b, dy, lam, inv_t, g, k, m, cap, norm);
     take_trial(s, m, t.inside);

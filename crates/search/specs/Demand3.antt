@@ -36,7 +36,7 @@ pub record Alike {S : Type 0} (e f : Ended S) : Type 0 where
   pub best : e .best ≡ f .best
   pub improvements : e .improvements ≡ f .improvements
 
--- the whole, for a search from s with the tolerance tol
+-- the whole, for a search from s with the tolerance tol. It is proved for tol above 0 and a problem whose P is clear everywhere.
 pub record SearchDemand3 {S : Type 0} (L : Problem S) (tol : Float) (s : S) : Type 0 where
   pub bounded : (max-iter : ℕ) → BoundedEnd max-iter (searched L tol max-iter s)
   -- where n_iter is below max_iter, every other limit that is at least n_iter gives the same end, but perhaps the reason,

@@ -9,9 +9,9 @@ use lib.Ieee.{nan, Float}
 use Rattle.vectors.specs.Vec.{at, Written}
 use Rattle.vectors.proofs.Laws.{none, store-more, written-kept}
 use Rattle.vectors.proofs.Parts.{store-done}
-use Rattle.line_search.specs.Places.{dmuAt}
-use Rattle.line_search.proofs.fill_dmu.Statement.{statement}
-use Rattle.line_search.proofs.fill_dmu.Tie as tie
+use Rattle.direction.specs.Places.{dmuAt}
+use Rattle.direction.proofs.fill_dmu.Statement.{statement}
+use Rattle.direction.proofs.fill_dmu.Tie as tie
 
 abbrev falling : ℕ → ℕ → Float → Float → Bool → List Float → ℕ → Float
 falling b c lam inv-t lower s i = dmuAt lower lam inv-t (at s i) (at s (c + i)) (at s (b + i))

@@ -1,8 +1,8 @@
 use Rattle.float64.specs.Helpers.{minOf}
-use Rattle.line_search.specs.LineSearch.{stepCapBy}
-use Rattle.line_search.proofs.Laws.{less-number}
-use Rattle.line_search.proofs.cap_of.Statement.{statement}
-use Rattle.line_search.proofs.cap_of.Tie as tie
+use Rattle.direction.specs.Direction.{stepCapBy}
+use Rattle.direction.proofs.Laws.{less-number}
+use Rattle.direction.proofs.cap_of.Statement.{statement}
+use Rattle.direction.proofs.cap_of.Tie as tie
 
 returns : tie.Need-returns
 unfolding stepCapBy minOf

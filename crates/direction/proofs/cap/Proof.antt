@@ -4,11 +4,11 @@ use mathlib.Core.Bool.{false}
 use Prim.Native.Nat.{_≤_, _-_}
 use lib.Ieee.{isNan}
 use native.Mathlib.Omega.{arith}
-use Rattle.line_search.specs.LineSearch.{stepCapTo}
+use Rattle.direction.specs.Direction.{stepCapTo}
 use Rattle.dual_point.specs.Places.{point}
-use Rattle.line_search.proofs.Laws.{cap-more, one-number}
-use Rattle.line_search.proofs.cap.Statement.{statement}
-use Rattle.line_search.proofs.cap.Tie as tie
+use Rattle.direction.proofs.Laws.{cap-more, one-number}
+use Rattle.direction.proofs.cap.Statement.{statement}
+use Rattle.direction.proofs.cap.Tie as tie
 
 abbrev Inv-loop : tie.InvT-loop
 Inv-loop s b m step₀ i₀ step i = (i ≤ m) × (step ≡ stepCapTo (point 0 m s) (point b m s) i) × (isNan step ≡ false)

@@ -1,6 +1,6 @@
-use Rattle.line_search.specs.LineSearch.{dmu1At, dmu2At}
-use Rattle.line_search.proofs.dmu_at.Statement.{statement}
-use Rattle.line_search.proofs.dmu_at.Tie as tie
+use Rattle.direction.specs.Direction.{dmu1At, dmu2At}
+use Rattle.direction.proofs.dmu_at.Statement.{statement}
+use Rattle.direction.proofs.dmu_at.Tie as tie
 
 returns : tie.Need-returns
 unfolding dmu2At

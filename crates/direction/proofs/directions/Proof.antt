@@ -1,8 +1,8 @@
 use native.Mathlib.Omega.{arith}
 use borrow.Author.Needs.{needs}
-use Rattle.line_search.proofs.Lines.{directed}
-use Rattle.line_search.proofs.directions.Statement.{statement}
-use Rattle.line_search.proofs.directions.Tie as tie
+use Rattle.direction.proofs.Laws.{directed}
+use Rattle.direction.proofs.directions.Statement.{statement}
+use Rattle.direction.proofs.directions.Tie as tie
 
 returns : tie.Need-returns
 returns c = let two = c .before .before .before .before in

@@ -1,0 +1,2 @@
+-- Laws of the direction and the step cap.
+pub mod Laws

@@ -1,0 +1,3 @@
+-- The definitions that the contracts of direction cite.
+pub mod Direction
+pub mod Places
