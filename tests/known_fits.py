@@ -24,7 +24,7 @@ def case(name):
         f, v = e[0].split(), e[1].split()
         h = [l.split() for l in e if l.startswith('h ')]
         k = [l.split()[1] for l in e if l.startswith('knot ')]
-        end = ('fitted (record { trend = %s; cycle = %s; knots = %s; lam-max = F 0x%s; gap = F 0x%s; first-gap = F 0x%s; best-gap = F 0x%s; objective = F 0x%s; n-iter = %s; improvements = %s; converged = %s })'
+        end = ('fitted (record { trend = %s; cycle = %s; knots = %s; lam-max = F 0x%s; numbers = record { gap = F 0x%s; «first_gap» = F 0x%s; «best_gap» = F 0x%s; objective = F 0x%s; «n_iter» = %s; improvements = %s; converged = %s } })'
             % (vector('F 0x' + w[2] for w in h), vector('F 0x' + w[3] for w in h), vector(k), v[1], v[2], v[3], v[4], v[5], f[4], f[5], 'true' if f[6] == '1' else 'false'))
     say = '-- order %d, penalty %d, y %s, lam %r, tol %r, at most %d iterations: %s' % (d[4], d[5], y, lam, tol, max_iter, e[0])
     return say, asked, room, end

@@ -9,18 +9,18 @@ use lib.Dec.{T}
 use lib.Ieee.Scale.{finite}
 use Rattle.search.specs.Demand3.{units}
 use Rattle.questions.specs.Questions.{Asked, Lent}
-use Rattle.fit.specs.Fit.{Fit, fitted, fit}
+use Rattle.fit.specs.Fit.{FitResult, fitted, fit}
 
 -- the numeric bounds on a fit with the step limit max_iter, J its improvements
-pub record Bounds (max-iter : ℕ) (f : Fit) : Type 0 where
+pub record Bounds (max-iter : ℕ) (f : FitResult) : Type 0 where
   -- n_iter is at most max_iter
-  pub limit : f .n-iter ≤ max-iter
+  pub limit : f .numbers .«n_iter» ≤ max-iter
   -- and at most 10·J + 10,
-  pub ten : f .n-iter ≤ 10 * f .improvements + 10
+  pub ten : f .numbers .«n_iter» ≤ 10 * f .numbers .improvements + 10
   -- and J is at most 144,763.
-  pub few : f .improvements ≤ 144763
+  pub few : f .numbers .improvements ≤ 144763
   -- If the first and best gaps are finite, best gap × 100^J is at most first gap × 99^J as exact numbers, each gap counted in whole units of 2^-1074.
-  pub shrunk : T (finite (f .first-gap)) → T (finite (f .best-gap)) → (units (f .best-gap) *ℤ pos (100 ^ f .improvements)) ≤ℤ (units (f .first-gap) *ℤ pos (99 ^ f .improvements))
+  pub shrunk : T (finite (f .numbers .«first_gap»)) → T (finite (f .numbers .«best_gap»)) → (units (f .numbers .«best_gap») *ℤ pos (100 ^ f .numbers .improvements)) ≤ℤ (units (f .numbers .«first_gap») *ℤ pos (99 ^ f .numbers .improvements))
 
 -- all else alike: the same but for the step limit
 abbrev pub withMaxIter : ℕ → Asked → Asked
@@ -29,8 +29,8 @@ withMaxIter max-iter a = record { y = a .y; lam = a .lam; tol = a .tol; max-iter
 -- The whole, for whatever is asked and lent. It is stated of every call that isn't refused: of L2 too, which does no iteration.
 -- An outcome is a refusal's number or the whole answer: every place of trend, cycle and knots, and all numbers. A NaN is one value, so NaN matches NaN.
 pub record Demand3 (a : Asked) (l : Lent) : Type 0 where
-  pub bounds : (f : Fit) → fit a l ≡ fitted f → Bounds (a .max-iter) f
+  pub bounds : (f : FitResult) → fit a l ≡ fitted f → Bounds (a .max-iter) f
   -- If n_iter is below max_iter, then every other max_iter from 1 up that is at least n_iter gives the same whole answer.
-  pub alike : (f : Fit) → fit a l ≡ fitted f → f .n-iter < a .max-iter → (other : ℕ) → 1 ≤ other → f .n-iter ≤ other → fit (withMaxIter other a) l ≡ fitted f
+  pub alike : (f : FitResult) → fit a l ≡ fitted f → f .numbers .«n_iter» < a .max-iter → (other : ℕ) → 1 ≤ other → f .numbers .«n_iter» ≤ other → fit (withMaxIter other a) l ≡ fitted f
   -- So any two limits above 1,447,640 agree in this way.
   pub settled : (one other : ℕ) → 1447640 < one → 1447640 < other → fit (withMaxIter one a) l ≡ fit (withMaxIter other a) l
