@@ -9,11 +9,13 @@ use lib.ListN.{length}
 use lib.Ieee.{Float, lt, le, eq}
 use Rattle.float64.specs.Helpers.{isFinite}
 use Rattle.float64.specs.Ops.{_⊗_, c0}
+use Rattle.vectors.specs.Vec.{put}
 use Rattle.differences.specs.Diff.{diffK, gramRow}
 use Rattle.banded.specs.Rows.{sound}
 use Rattle.gram.specs.Gram.{gram, zstar, lamMax}
 use Rattle.certificate.specs.Certificate.{Certificate, certify, gapOf, minus}
 use Rattle.decomposition.specs.Knots.{knots}
+use Rattle.decomposition.specs.Outputs.{Outputs, outputs}
 use Rattle.search.specs.Search.{Ended}
 use Rattle.interior_point.specs.InteriorPoint.{State, origin, interiorPoint}
 use Rattle.polish.specs.Polish.{polish}
@@ -158,3 +160,8 @@ pub record Lengths (a : Asked) (f : FitResult) : Type 0 where
   pub trend : length (f .trend) ≡ length (a .y)
   pub cycle : length (f .cycle) ≡ length (a .y)
   pub knots : length (f .knots) ≤ places a
+
+-- trend, cycle and knots, which held b: as found after a refusal; after a fit their first places hold the fit's, and all later ones what they held
+unfoldable pub after : Outcome → Outputs → Outputs
+after (refused q) b = b
+after (fitted f) b = outputs (put (b .trend) 0 (f .trend)) (put (b .cycle) 0 (f .cycle)) (put (b .knots) 0 (f .knots))
