@@ -42,14 +42,17 @@ def row(path):
     room = fields(zip(["trend", "cycle", "knots", "work", "marks"], lent))
     end = lines[0]
     if not end.startswith("refused"):
-        steps, gains, converged = end.split()[4:7]
+        n_iter, improvements, converged = end.split()[4:7]
         numbers = ["F 0x" + w for w in lines[1].split()[1:]]
         places = [line.split() for line in lines if line.startswith("h ")]
         knots = [line.split()[1] for line in lines if line.startswith("knot ")]
+        found = fields(
+            list(zip(["gap", "«first_gap»", "«best_gap»", "objective"], numbers[1:]))
+            + [("«n_iter»", n_iter), ("improvements", improvements), ("converged", "true" if converged == "1" else "false")]
+        )
         end = "fitted (" + fields(
             [("trend", vector("F 0x" + p[2] for p in places)), ("cycle", vector("F 0x" + p[3] for p in places)), ("knots", vector(knots))]
-            + list(zip(["lam-max", "gap", "first-gap", "best-gap", "objective"], numbers))
-            + [("n-iter", steps), ("improvements", gains), ("converged", "true" if converged == "1" else "false")]
+            + [("lam-max", numbers[0]), ("numbers", found)]
         ) + ")"
     say = f"-- order {order}, penalty {penalty}, y {y}, lam {lam!r}, tol {tol!r}, at most {max_iter} iterations: {lines[0]}"
     return say, fields([("asked", asked), ("lent", room), ("outcome", end)])

@@ -9,10 +9,9 @@ use Rattle.vectors.specs.Vec.{at, list}
 use Rattle.vectors.specs.Sums.{norm2Sq, dot, sumAbs}
 use Rattle.differences.specs.Diff.{diffK, diffKT}
 
--- the trend x, its differences D x, P and G
+-- the trend x, P and G
 pub record Certificate : Type 0 where
   pub trend : List Float
-  pub jumps : List Float
   pub primal : Float
   pub dual : Float
 
@@ -29,12 +28,11 @@ unfoldable pub certify : ℕ → List Float → Float → List Float → Certifi
 certify k y lam z =
     let w = diffKT k z in
     let x = minus y w in
-    let d = diffK k x in
+    let dx = diffK k x in
     let zc = clamped lam z in
     record {
       trend = x;
-      jumps = d;
-      primal = half ⊗ norm2Sq w ⊕ lam ⊗ sumAbs d;
+      primal = half ⊗ norm2Sq w ⊕ lam ⊗ sumAbs dx;
       dual = neg half ⊗ norm2Sq (diffKT k zc) ⊕ dot zc (diffK k y);
     }
 

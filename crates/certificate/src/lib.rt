@@ -35,14 +35,14 @@ fn trend_into(s: &mut [f64], y: &[f64], k: usize) -> f64
 }
 
 struct Sums {
-    jumps: f64,
+    dx: f64,
     dot: f64,
 }
 
 // The sum of |D x| and that of z·D y, for the trend x in the first n places of s and z after them.
 fn add_up(s: &[f64], dy: &[f64], k: usize, n: usize) -> Sums
     requires { ⌜ Beside k n (length (now s)) (length (now dy)) ⌝ }
-    ensures { λ r. ⌜ (r .jumps ≡ sumAbs (diffK k (part 0 n (now (s .entry)))))
+    ensures { λ r. ⌜ (r .dx ≡ sumAbs (diffK k (part 0 n (now (s .entry)))))
         × (r .dot ≡ dot (part n (n - k) (now (s .entry))) (now (dy .entry))) ⌝ }
 {
     let m = n - k;
@@ -56,7 +56,7 @@ fn add_up(s: &[f64], dy: &[f64], k: usize, n: usize) -> Sums
         b = b + s[n + i] * dy[i];
         i += 1;
     }
-    Sums { jumps: a, dot: b }
+    Sums { dx: a, dot: b }
 }
 
 // Place j - 1 of the clamped z, 0 beyond either end.
@@ -151,7 +151,7 @@ pub fn certify_l1(s: &mut [f64], y: &[f64], dy: &[f64], lam: f64, k: usize) -> P
     let e = n + (n - k);
     let a = trend_into(s, y, k);
     let b = add_up(s, dy, k, n);
-    let primal = 0.5 * a + lam * b.jumps;
+    let primal = 0.5 * a + lam * b.dx;
     let dual = dual_of(&s[n..e], dy, lam, k, a, b.dot);
     Pair {
         primal: primal,

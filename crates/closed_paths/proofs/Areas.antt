@@ -22,40 +22,22 @@ use Rattle.l2.specs.L2.{soundL2, trendL2, gapL2, objectiveL2}
 use Rattle.l2.specs.Solved.{SolvedL2, Ended}
 use Rattle.l2.specs.declared.Ends.{Ends}
 use Rattle.questions.specs.Questions.{Asked}
-use Rattle.fit.specs.Fit.{Found as FoundOf, closed, pathL2}
+use Rattle.fit.specs.Fit.{Found, closed, pathL2}
 use Rattle.closed_paths.specs.declared.Trend.{Trend}
 use Rattle.closed_paths.specs.declared.Trend.the-variants.{Series, Solution, Won}
-use Rattle.closed_paths.specs.Trends.{solutionLane, trendOf, foundOf, closedOf}
+use Rattle.closed_paths.specs.Trends.{solutionLane, trendOf}
 
 -- a change within a wider stretch
 pub kept-wide : {a n : ℕ} {s₀ s : List Float} (b k : ℕ) → Kept a n s₀ s → b ≤ a → a + n ≤ b + k → Kept b k s₀ s
 kept-wide {a} {n} {s₀} {s} b k w h l = kept-then b k w (kept-none b 0 s) h (omega arith) l (omega arith)
 
--- what was put at the start
-pub kept-first : (s t : List Float) (n : ℕ) → length t ≤ n → n ≤ length s → Kept 0 n s (put s 0 t)
-kept-first s t n h l =
-    let r = drop (0 + length t) s in
-    let d = n - length t in
-    let f : length t + d ≡ n = omega arith in
-    let g : 0 + length t + d ≡ n = omega arith in
-    kept-drop nan n s (put s 0 t) (length-append t r ∙ omega (arith, length-drop (0 + length t) s))
-    (ap (λ (q : ℕ). drop q (t ++ r)) (sym f) ∙ sym (drop-drop d (length t) (t ++ r)) ∙ ap (drop d) (drop-at t r (length t) refl) ∙ drop-drop d (0 + length t) s ∙ ap (λ (q : ℕ). drop q s) g)
-
--- D y in the first places of a run
-pub first-places : (s t d : List Float) (m : ℕ) → s ≡ put t 0 d → length d ≡ m → take m s ≡ d
-first-places s t d m e l = ap (take m) e ∙ take-at d (drop (0 + length d) t) m l
-
 -- something was found, or nothing
-abbrev isFound : Option FoundOf → Type 0
+abbrev isFound : Option Found → Type 0
 isFound none = T false
 isFound (some f) = T true
 
-pub some-none : (f : FoundOf) → some f ≡ none → ⊥
+pub some-none : (f : Found) → some f ≡ none → ⊥
 some-none f e = subst isFound e tt
-
--- a closed path with the trend x
-pub closed-found : (k : ℕ) (y w : List Float) (t : Trend) (g o : Float) (x : List Float) → trendOf y w t ≡ x → foundOf k y w (closedOf t g o) ≡ closed x (diffK k x) g o
-closed-found k y w t g o x e = ap (λ (v : List Float). closed v (diffK k v) g o) e
 
 -- the certificate at the point z that stands in w from a on: its trend goes to the n places before, from s on
 module _ (k : ℕ) (y : List Float) (lam : Float) (w x z : List Float) (primal dual : Float) (s a e : ℕ) (low : k ≤ length y) (start : s + length y ≡ a)
@@ -110,8 +92,7 @@ module _ (k : ℕ) (y : List Float) (lam : Float) (w x t : List Float) (r : Ends
       ∙ inner
 
 pub l2-sound : (a : Asked) → soundL2 (a .order) (a .y) (a .lam) ≡ true
-    → pathL2 a ≡ some (closed (trendL2 (a .order) (a .y) (a .lam)) (diffK (a .order) (trendL2 (a .order) (a .y) (a .lam)))
-    (gapL2 (a .order) (a .y) (a .lam) (trendL2 (a .order) (a .y) (a .lam))) (objectiveL2 (a .order) (a .y) (a .lam) (trendL2 (a .order) (a .y) (a .lam))))
+    → let x = trendL2 (a .order) (a .y) (a .lam) in pathL2 a ≡ some (record { trend = x; numbers = closed (gapL2 (a .order) (a .y) (a .lam) x) (objectiveL2 (a .order) (a .y) (a .lam) x) })
 unfolding pathL2
 l2-sound a e = rw e
 

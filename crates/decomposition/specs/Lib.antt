@@ -1,3 +1,4 @@
 -- The definitions that the contracts of decomposition cite.
 pub mod Knots
+pub mod Outputs
 pub mod Written

@@ -16,7 +16,7 @@ use Rattle.interior_point.specs.InteriorPoint.{State, problem, origin, interior
 use Rattle.l2.specs.L2.{soundL2}
 use Rattle.questions.specs.Questions.{Asked, Lent, question}
 use Rattle.questions.proofs.Laws as questions
-use Rattle.fit.specs.Fit.{Found, Fit, Outcome, refused, fitted, places, closed, pathL2, pathZero, pathFlat, polished, searchOf, keptOf, foundWith, pathEnd, lamZero, lamHigh, pathL1, path, written, outcome, soundDD, fit}
+use Rattle.fit.specs.Fit.{Found, FitResult, Outcome, refused, fitted, places, closed, pathL2, pathZero, pathFlat, polished, searchOf, keptOf, foundWith, pathEnd, lamZero, lamHigh, pathL1, path, written, outcome, soundDD, fit}
 use Rattle.fit.specs.Demand3.{Bounds, withMaxIter, Demand3}
 use Rattle.fit.proofs.Sign.{tol-positive, lam-positive, primal-clear}
 use Rattle.fit.proofs.Passed.{same-questions, fit-passed, outcome-some, passed}
@@ -38,7 +38,7 @@ searches a l q z =
 
 -- the same four bounds of what a path finds
 abbrev FoundBounds : ℕ → Found → Type 0
-FoundBounds max-iter f = search.Bounded max-iter (f .n-iter) (f .improvements) (f .first-gap) (f .best-gap)
+FoundBounds max-iter f = search.Bounded max-iter (f .numbers .«n_iter») (f .numbers .improvements) (f .numbers .«first_gap») (f .numbers .«best_gap»)
 
 abbrev Within : ℕ → Option Found → Type 0
 Within max none = T true
@@ -73,7 +73,7 @@ within a l q = go (eqb (a .penalty) 2)
     go true = within-l2 (a .max-iter) a
     go false = within-l1 a l q
 
-pub bounds : (a : Asked) (l : Lent) (f : Fit) → fit a l ≡ fitted f → Bounds (a .max-iter) f
+pub bounds : (a : Asked) (l : Lent) (f : FitResult) → fit a l ≡ fitted f → Bounds (a .max-iter) f
 unfolding written
 bounds a l f e =
     let p = passed a l f e in
@@ -130,9 +130,9 @@ same-with false false false l2 o c x y h = ap some (h refl refl refl)
 -- how many iterations a path reports
 abbrev iterations : Option Found → ℕ
 iterations none = 0
-iterations (some f) = f .n-iter
+iterations (some f) = f .numbers .«n_iter»
 
-end-steps : (a : Asked) (f : Found) → path a ≡ some f → eqb (a .penalty) 2 ≡ false → lamZero a ≡ false → lamHigh a ≡ false → searchOf a .n-iter ≡ f .n-iter
+end-steps : (a : Asked) (f : Found) → path a ≡ some f → eqb (a .penalty) 2 ≡ false → lamZero a ≡ false → lamHigh a ≡ false → searchOf a .n-iter ≡ f .numbers .«n_iter»
 unfolding pathEnd
 end-steps a f e p z m =
     let x = pathEnd a (searchOf a) in
@@ -148,19 +148,19 @@ ends-settled : (a : Asked) (one other : ℕ) → Searches a → 1447640 < one �
 unfolding searchOf interiorPoint
 ends-settled a one other s h g = s .settled other one g h
 
-pub alike : (a : Asked) (l : Lent) (f : Fit) → fit a l ≡ fitted f → f .n-iter < a .max-iter → (other : ℕ) → 1 ≤ other → f .n-iter ≤ other → fit (withMaxIter other a) l ≡ fitted f
+pub alike : (a : Asked) (l : Lent) (f : FitResult) → fit a l ≡ fitted f → f .numbers .«n_iter» < a .max-iter → (other : ℕ) → 1 ≤ other → f .numbers .«n_iter» ≤ other → fit (withMaxIter other a) l ≡ fitted f
 unfolding written
 alike a l f e h other one g =
     let p = passed a l f e in
     let q = questions.passed a l (p .asked) in
-    let n : f .n-iter ≡ p .found .n-iter = ap (λ (x : Fit). x .n-iter) (p .made) in
+    let n : f .numbers .«n_iter» ≡ p .found .numbers .«n_iter» = ap (λ (x : FitResult). x .numbers .«n_iter») (p .made) in
     fit-passed (withMaxIter other a) l (questions.same-question a l other (q .max-iter) one ∙ p .asked)
     ∙ ap (λ (b : Bool). cond b (outcome (withMaxIter other a) (path (withMaxIter other a))) (refused 10)) (p .sound)
     ∙ outcome-other other a (path (withMaxIter other a))
     ∙ ap (outcome a)
     (path-other other a
     ∙ same-with (eqb (a .penalty) 2) (lamZero a) (lamHigh a) (pathL2 a) (pathZero a) (pathFlat a) (pathEnd a (searchOf (withMaxIter other a))) (pathEnd a (searchOf a))
-    (λ b z m. same-end a (searchOf (withMaxIter other a)) (searchOf a) (ends-alike a other (f .n-iter) (searches a l q z) (end-steps a (p .found) (p .path-is) b z m ∙ sym n) h g))
+    (λ b z m. same-end a (searchOf (withMaxIter other a)) (searchOf a) (ends-alike a other (f .numbers .«n_iter») (searches a l q z) (end-steps a (p .found) (p .path-is) b z m ∙ sym n) h g))
     ∙ sym (path-is a) ∙ p .path-is)
     ∙ outcome-some a (p .found) ∙ ap fitted (sym (p .made))
 

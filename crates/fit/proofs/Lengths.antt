@@ -21,13 +21,8 @@ use Rattle.search.specs.Search.{Ended}
 use Rattle.interior_point.specs.InteriorPoint.{State}
 use Rattle.l2.specs.L2.{soundL2, trendL2}
 use Rattle.questions.specs.Questions.{Asked, Lent}
-use Rattle.fit.specs.Fit.{Found, Fit, fitted, places, closed, pathL2, pathZero, pathFlat, replaces, polished, searchOf, keptOf, pathEnd, lamZero, lamHigh, pathL1, path, written, fit}
+use Rattle.fit.specs.Fit.{Found, FitResult, Lengths, fitted, places, certificateAt, pathL2, pathZero, pathFlat, replaces, polished, searchOf, keptOf, pathEnd, lamZero, lamHigh, pathL1, path, written, fit}
 use Rattle.fit.proofs.Passed.{passed}
-
-pub record Lengths (a : Asked) (f : Fit) : Type 0 where
-  pub trend : length (f .trend) ≡ length (a .y)
-  pub cycle : length (f .cycle) ≡ length (a .y)
-  pub knots : length (f .knots) ≤ places a
 
 -- ---- of the parts
 pub length-solve : (k : ℕ) (f : List (List Float)) (b : List Float) → length (solve k f b) ≡ length b
@@ -41,43 +36,35 @@ pub length-knots : (k : ℕ) (y d : List Float) → length (knots k y d) ≤ len
 unfolding knots
 length-knots k y d = above-few _ d (length d)
 
--- ---- of a certificate
-record Sizes (a : Asked) (c : Certificate) : Type 0 where
-  trend : length (c .trend) ≡ length (a .y)
-  jumps : length (c .jumps) ≡ places a
-
-jumps-of : (a : Asked) (x : List Float) → length x ≡ length (a .y) → length (diffK (a .order) x) ≡ places a
-jumps-of a x e = length-diffK (a .order) x ∙ ap (λ (n : ℕ). n - a .order) e
-
-certified : (a : Asked) (z : List Float) → Sizes a (certify (a .order) (a .y) (a .lam) z)
+-- ---- of a certificate's trend
+certified : (a : Asked) (z : List Float) → length (certificateAt a z .trend) ≡ length (a .y)
 unfolding certify
-certified a z = record { trend = length-minus (a .y) _; jumps = jumps-of a _ (length-minus (a .y) _) }
+certified a z = length-minus (a .y) _
 
-kept-sizes : (a : Asked) (c : Certificate) (z : Option (List Float)) → Sizes a c → Sizes a (polished a c z)
+kept-length : (a : Asked) (c : Certificate) (z : Option (List Float)) → length (c .trend) ≡ length (a .y) → length (polished a c z .trend) ≡ length (a .y)
 unfolding polished
-kept-sizes a c none h = h
-kept-sizes a c (some z) h = go (replaces (certify (a .order) (a .y) (a .lam) z) c)
+kept-length a c none h = h
+kept-length a c (some z) h = go (replaces (certificateAt a z) c)
   where
-    go : (b : Bool) → Sizes a (cond b (certify (a .order) (a .y) (a .lam) z) c)
+    go : (b : Bool) → length (cond b (certificateAt a z) c .trend) ≡ length (a .y)
     go true = certified a z
     go false = h
 
 -- ---- of what each path finds
-pub record Spans (a : Asked) (f : Found) : Type 0 where
-  pub trend : length (f .trend) ≡ length (a .y)
-  pub dx : length (f .dx) ≡ places a
+abbrev Spans : Asked → Found → Type 0
+Spans a f = length (f .trend) ≡ length (a .y)
 
-abbrev pub Spanned : Asked → Option Found → Type 0
+abbrev Spanned : Asked → Option Found → Type 0
 Spanned a none = T true
 Spanned a (some f) = Spans a f
 
 end-spans : (a : Asked) (e : Ended State) → Spans a (pathEnd a e)
 unfolding pathEnd keptOf
-end-spans a e = let s = kept-sizes a _ _ (certified a (e .state .point .z)) in record { trend = s .trend; dx = s .jumps }
+end-spans a e = kept-length a _ _ (certified a (e .state .point .z))
 
 l2-spans : (a : Asked) → Spanned a (pathL2 a)
 unfolding pathL2 trendL2
-l2-spans a = go (soundL2 (a .order) (a .y) (a .lam)) _ (record { trend = length-solve (a .order) _ (a .y); dx = jumps-of a _ (length-solve (a .order) _ (a .y)) })
+l2-spans a = go (soundL2 (a .order) (a .y) (a .lam)) _ (length-solve (a .order) _ (a .y))
   where
     go : (b : Bool) (f : Found) → Spans a f → Spanned a (cond b (some f) none)
     go true f h = h
@@ -88,11 +75,11 @@ unfolding pathL1 pathZero pathFlat
 l1-spans a = go (lamZero a) (lamHigh a)
   where
     go : (z m : Bool) → Spans a (cond z (pathZero a) (cond m (pathFlat a) (pathEnd a (searchOf a))))
-    go true m = record { trend = refl; dx = jumps-of a (a .y) refl }
-    go false true = let s = certified a _ in record { trend = s .trend; dx = s .jumps }
+    go true m = refl
+    go false true = certified a _
     go false false = end-spans a (searchOf a)
 
-pub spans : (a : Asked) → Spanned a (path a)
+spans : (a : Asked) → Spanned a (path a)
 unfolding path
 spans a = go (eqb (a .penalty) 2)
   where
@@ -100,10 +87,12 @@ spans a = go (eqb (a .penalty) 2)
     go true = l2-spans a
     go false = l1-spans a
 
-pub lengths : (a : Asked) (l : Lent) (f : Fit) → fit a l ≡ fitted f → Lengths a f
+pub lengths : (a : Asked) (l : Lent) (f : FitResult) → fit a l ≡ fitted f → Lengths a f
 unfolding written
 lengths a l f e =
     let p = passed a l f e in
-    let s : Spans a (p .found) = subst (Spanned a) (p .path-is) (spans a) in
+    let x = p .found .trend in
+    let s : length x ≡ length (a .y) = subst (Spanned a) (p .path-is) (spans a) in
+    let d = length-diffK (a .order) x ∙ ap (λ (n : ℕ). n - a .order) s in
     subst (Lengths a) (sym (p .made))
-    (record { trend = s .trend; cycle = length-minus (a .y) (p .found .trend); knots = le-trans (length-knots (a .order) (a .y) (p .found .dx)) (le-of-eq (s .dx)) })
+    (record { trend = s; cycle = length-minus (a .y) x; knots = le-trans (length-knots (a .order) (a .y) (diffK (a .order) x)) (le-of-eq d) })

@@ -8,7 +8,7 @@ use lib.Dec.{T, eqb, eqb→eq}
 use lib.ListN.{length}
 use Rattle.questions.specs.Questions.{Asked, Lent, oneOrTwo, question}
 use Rattle.questions.proofs.Laws.{same-question, too-long, not-too-long}
-use Rattle.fit.specs.Fit.{Fit, Outcome, refused, fitted, Found, soundDD, path, written, outcome, fit}
+use Rattle.fit.specs.Fit.{FitResult, Outcome, refused, fitted, Found, soundDD, path, written, outcome, fit}
 use Rattle.fit.specs.Demand3.{withMaxIter}
 
 pub on : (b : Bool) → T b → b ≡ true
@@ -24,14 +24,14 @@ abbrev isFit : Outcome → Type 0
 isFit (refused n) = T false
 isFit (fitted f) = T true
 
-pub not-refused : {n : ℕ} {f : Fit} → refused n ≡ fitted f → ⊥
+pub not-refused : {n : ℕ} {f : FitResult} → refused n ≡ fitted f → ⊥
 not-refused e = subst isFit (sym e) tt
 
-abbrev fitOf : Fit → Outcome → Fit
+abbrev fitOf : FitResult → Outcome → FitResult
 fitOf d (refused n) = d
 fitOf d (fitted f) = f
 
-pub fitted-same : {f g : Fit} → fitted f ≡ fitted g → f ≡ g
+pub fitted-same : {f g : FitResult} → fitted f ≡ fitted g → f ≡ g
 fitted-same {f} {g} e = ap (fitOf f) e
 
 -- from the questions answered
@@ -73,14 +73,14 @@ pub outcome-some : (a : Asked) (f : Found) → outcome a (some f) ≡ fitted (wr
 unfolding outcome
 outcome-some a f = refl
 
-pub record Passed (a : Asked) (l : Lent) (f : Fit) : Type 0 where
+pub record Passed (a : Asked) (l : Lent) (f : FitResult) : Type 0 where
   pub asked : question a l ≡ 0
   pub sound : soundDD a ≡ true
   pub found : Found
   pub path-is : path a ≡ some found
   pub made : f ≡ written a found
 
-pub passed : (a : Asked) (l : Lent) (f : Fit) → fit a l ≡ fitted f → Passed a l f
+pub passed : (a : Asked) (l : Lent) (f : FitResult) → fit a l ≡ fitted f → Passed a l f
 unfolding fit outcome
 passed a l f e = go (eqb (question a l) 0) (soundDD a) (path a) (eqb→eq (question a l) 0) refl refl e
   where

@@ -5,11 +5,11 @@ use Prim.Native.Nat.{ℕ, _≤_, _<_}
 use mathlib.Core.Path.{_≡_}
 use Rattle.search.specs.Demand3.{Bounded}
 use Rattle.questions.specs.Questions.{Asked, Lent}
-use Rattle.fit.specs.Fit.{Fit, fitted, fit}
+use Rattle.fit.specs.Fit.{FitResult, fitted, fit}
 
 -- the numeric bounds on a fit with the step limit max_iter: n_iter, J, first gap and best gap are bounded as a search's are
-abbrev pub Bounds : ℕ → Fit → Type 0
-Bounds max-iter f = Bounded max-iter (f .n-iter) (f .improvements) (f .first-gap) (f .best-gap)
+abbrev pub Bounds : ℕ → FitResult → Type 0
+Bounds max-iter f = Bounded max-iter (f .numbers .«n_iter») (f .numbers .improvements) (f .numbers .«first_gap») (f .numbers .«best_gap»)
 
 -- all else alike: the same but for the step limit
 abbrev pub withMaxIter : ℕ → Asked → Asked
@@ -18,8 +18,8 @@ withMaxIter max-iter a = record { y = a .y; lam = a .lam; tol = a .tol; max-iter
 -- The whole, for whatever is asked and lent. It is stated of every call that isn't refused: of L2 too, which does no iteration.
 -- An outcome is a refusal's number or the whole answer: every place of trend, cycle and knots, and all numbers. A NaN is one value, so NaN matches NaN.
 pub record Demand3 (a : Asked) (l : Lent) : Type 0 where
-  pub bounds : (f : Fit) → fit a l ≡ fitted f → Bounds (a .max-iter) f
+  pub bounds : (f : FitResult) → fit a l ≡ fitted f → Bounds (a .max-iter) f
   -- If n_iter is below max_iter, then every other max_iter from 1 up that is at least n_iter gives the same whole answer.
-  pub alike : (f : Fit) → fit a l ≡ fitted f → f .n-iter < a .max-iter → (other : ℕ) → 1 ≤ other → f .n-iter ≤ other → fit (withMaxIter other a) l ≡ fitted f
+  pub alike : (f : FitResult) → fit a l ≡ fitted f → f .numbers .«n_iter» < a .max-iter → (other : ℕ) → 1 ≤ other → f .numbers .«n_iter» ≤ other → fit (withMaxIter other a) l ≡ fitted f
   -- So any two limits above 1,447,640 agree in this way.
   pub settled : (one other : ℕ) → 1447640 < one → 1447640 < other → fit (withMaxIter one a) l ≡ fit (withMaxIter other a) l

@@ -1,3 +1,2 @@
 -- The laws of paths.
-pub mod Areas
 pub mod Ways

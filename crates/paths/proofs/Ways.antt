@@ -1,19 +1,17 @@
--- Which path is taken, and the certificate that is kept after a polish. Assumes nothing.
-use mathlib.Core.Path.{_≡_, refl, ap, _∙_}
-use mathlib.Core.Bool.{Bool, true, false, cond, _&&_}
+-- Which path is taken, and what it took. Assumes nothing.
+use mathlib.Core.Path.{_≡_, sym, ap, _∙_}
+use mathlib.Core.Bool.{Bool, true, false, cond}
 use mathlib.Core.List.{List}
-use mathlib.Core.Option.{Option, none, some}
-use lib.ListN.{length}
-use lib.Ieee.{Float, lt}
+use mathlib.Core.Option.{some}
+use lib.Ieee.{Float}
 use borrow.Author.Tests.{eq-eqb, ne-eqb}
-use Rattle.float64.specs.Helpers.{isFinite}
-use Rattle.vectors.specs.Vec.{part}
-use Rattle.certificate.specs.Certificate.{Certificate, certify, gapOf}
-use Rattle.dual_point.specs.Lanes.{candidateTrend}
-use Rattle.polish.specs.declared.Candidate.{Candidate}
-use Rattle.polish.specs.Places.{isSome, Rated, wins}
 use Rattle.questions.specs.Questions.{Asked}
-use Rattle.fit.specs.Fit.{lamZero, lamHigh, searchOf, replaces, polished, pathZero, pathFlat, pathEnd, pathL1, pathL2, path}
+use Rattle.fit.specs.Fit.{Found, lamZero, lamHigh, searchOf, pathZero, pathFlat, pathEnd, pathL1, pathL2, path}
+use Rattle.closed_paths.specs.declared.Finding.{Finding}
+use Rattle.closed_paths.specs.declared.Path.the-variants.{Done}
+use Rattle.closed_paths.specs.Trends.{said, reached}
+use Rattle.closed_paths.specs.Taken.{Finds, Took}
+use Rattle.closed_paths.proofs.Areas.{some-none}
 
 -- L1 by lam
 pub l1-zero : (a : Asked) → lamZero a ≡ true → pathL1 a ≡ pathZero a
@@ -35,34 +33,7 @@ pub by-1 : (a : Asked) → (a .penalty ≡ 2 → ⊥) → path a ≡ some (pathL
 unfolding path
 by-1 a n = rw (ne-eqb (a .penalty) 2 n)
 
--- what is read of one of two certificates
-choose : {A : Type 0} (f : Certificate → A) (b : Bool) (p c : Certificate) → cond b (f p) (f c) ≡ f (cond b p c)
-choose f true p c = refl
-choose f false p c = refl
-
--- gap, P and trend of the certificate that is kept: q tells of the candidate, the others of the iterate's certificate c
-pub record Kept (a : Asked) (c : Certificate) (q : Candidate) (s : List Float) (gap primal : Float) (x : List Float) (o : Option (List Float)) : Type 0 where
-  pub gap-is : cond (wins q gap) (q .gap) gap ≡ gapOf (polished a c o)
-  pub primal-is : cond (wins q gap) (q .primal) primal ≡ polished a c o .primal
-  pub trend-is : cond (wins q gap) (part (candidateTrend (length (a .y))) (length (a .y)) s) x ≡ polished a c o .trend
-
-module _ (a : Asked) (c : Certificate) (q : Candidate) (s : List Float) (gap primal : Float) (x : List Float)
-    (eg : gap ≡ gapOf c) (ep : primal ≡ c .primal) (et : x ≡ c .trend) where
-  pub kept-of : (o : Option (List Float)) → q .there ≡ isSome o → ((z : List Float) → o ≡ some z → Rated (a .order) (a .y) (a .lam) s z q) → Kept a c q s gap primal x o
-  unfolding polished
-  kept-of none e h =
-      let s′ : wins q gap ≡ false = ap (λ (b : Bool). b && (isFinite (q .gap) && lt (q .gap) gap)) e in
-      record {
-        gap-is = ap (λ (b : Bool). cond b (q .gap) gap) s′ ∙ eg;
-        primal-is = ap (λ (b : Bool). cond b (q .primal) primal) s′ ∙ ep;
-        trend-is = ap (λ (b : Bool). cond b (part (candidateTrend (length (a .y))) (length (a .y)) s) x) s′ ∙ et;
-      }
-  kept-of (some z) e h =
-      let p = certify (a .order) (a .y) (a .lam) z in
-      let k = h z refl in
-      let s′ : wins q gap ≡ replaces p c = rw (e, k .gap, eg) in
-      record {
-        gap-is = rw (s′, k .gap, eg) (choose gapOf (replaces p c) p c);
-        primal-is = rw (s′, k .primal, ep) (choose (λ d. d .primal) (replaces p c) p c);
-        trend-is = rw (s′, k .trend, et) (choose (λ d. d .trend) (replaces p c) p c);
-      }
+-- a path that finds is one that took, where it is the path of the fit
+pub took-done : {I : Type 0} {f : I → Found} {y w₀ w c₀ c : List Float} {r : Finding} (a : Asked) (i : I) → Finds f y w₀ w c₀ c r → path a ≡ some (f i) → Took (path a) y w₀ w c₀ c (Done r)
+unfolding said reached
+took-done a i h e = record { says = ap some (h .says i) ∙ sym e; stands = h .stands; lost = λ z. absurd (some-none _ (sym e ∙ z)); changed = h .changed }

@@ -1,7 +1,6 @@
 // The paths of a fit, once its series is prepared at the start of work: L1 with lam 0, with lam at least lam_max and by the search, and L2.
-// Each writes behind the preparation, and answers what it found and where the trend stands (crate closed_paths).
-mod searched;
-
+// Each writes behind the preparation, and answers what it found and where the trend stands (crates closed_paths, search_path).
+use closed_paths::Finding;
 use closed_paths::Path;
 use closed_paths::Trend;
 ghost use mathlib.Core.Path.{_≡_};
@@ -12,7 +11,7 @@ ghost use Rattle.fit.specs.Fit.{path};
 ghost use Rattle.questions.specs.Questions.{marksPlaces};
 ghost use Rattle.questions.specs.Asking.{asking};
 ghost use Rattle.closed_paths.specs.Trends.{trendOf, reach};
-ghost use Rattle.closed_paths.specs.Taken.{Asks, Took};
+ghost use Rattle.closed_paths.specs.Taken.{AsksPath, Took};
 
 // The trend, where it stands.
 pub fn trend_of<'a>(y: &'a [f64], work: &'a [f64], t: Trend) -> &'a [f64]
@@ -48,8 +47,8 @@ pub fn take_path(
     penalty: u32,
     lam_max: f64,
 ) -> Path
-    requires { ⌜ Asks k (now y) «lam_max» (now work) (now cycle) (now marks) ⌝ }
-    ensures { λ r. ⌜ Took (path (asking (now (y .entry)) lam tol «max_iter» k penalty)) k (now (y .entry))
+    requires { ⌜ AsksPath k (now y) «lam_max» (now work) (now cycle) (now marks) ⌝ }
+    ensures { λ r. ⌜ Took (path (asking (now (y .entry)) lam tol «max_iter» k penalty)) (now (y .entry))
         (now (work .entry)) (now (work .exit)) (now (cycle .entry)) (now (cycle .exit)) r
         × KeptOf 0 0 (marksPlaces (length (now (y .entry)))) (now (marks .entry)) (now (marks .exit)) ⌝ }
 {
@@ -57,10 +56,14 @@ pub fn take_path(
         return closed_paths::l2_path(work, y, lam, k);
     }
     if lam == 0.0 {
-        return Path::Found(closed_paths::closed(Trend::Series, 0.0, 0.0));
+        let s = closed_paths::closed(0.0, 0.0);
+        return Path::Done(Finding {
+            trend: Trend::Series,
+            numbers: s,
+        });
     }
     if lam_max <= lam {
-        return Path::Found(closed_paths::flat_path(work, cycle, y, lam, k));
+        return Path::Done(closed_paths::flat_path(work, cycle, y, lam, k));
     }
-    Path::Found(searched::search_path(work, marks, cycle, y, lam, tol, max_iter, k))
+    Path::Done(search_path::search_path(work, marks, cycle, y, lam, tol, max_iter, k))
 }

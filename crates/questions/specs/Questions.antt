@@ -26,6 +26,7 @@ pub record Lent : Type 0 where
   pub work : ℕ
   pub marks : ℕ
 
+-- whether x is 1 or 2
 abbrev pub oneOrTwo : ℕ → Bool
 oneOrTwo x = eqb x 1 || eqb x 2
 
@@ -34,10 +35,11 @@ unfoldable pub finiteTo : List Float → ℕ → Bool
 finiteTo y zero = true
 finiteTo y (suc n) = finiteTo y n && isFinite (at y n)
 
--- the places of work and of marks that a series of n asks
+-- the places of work that a series of n asks
 abbrev pub workPlaces : ℕ → ℕ
 workPlaces n = 40 * n
 
+-- the places of marks that it asks
 abbrev pub marksPlaces : ℕ → ℕ
 marksPlaces n = 2 * n
 

@@ -1,82 +1,34 @@
--- Laws of answers: a refusal, a path that was written out, and that past the questions nothing is refused early. Assumes nothing.
+-- Laws of answers: a refusal, and the fit of a prepared series; that past the questions nothing is refused early. Assumes nothing.
 use mathlib.Core.Path.{_≡_, refl, sym, ap, ap₂, subst, _∙_}
 use mathlib.Core.Bool.{Bool, true, false, cond}
-use mathlib.Core.List.{List, _++_}
+use mathlib.Core.List.{List}
 use mathlib.Core.Option.{Option, none, some}
-use Prim.Native.Nat.{ℕ, _+_}
+use Prim.Native.Nat.{ℕ}
 use native.Mathlib.Omega.{arith}
-use lib.ListN.{length, drop, length-drop}
-use lib.Seq.{ext-getD, getD-drop}
-use lib.Ieee.{Float, nan}
+use lib.ListN.{length}
+use lib.Ieee.{Float}
 use Rattle.float64.proofs.Clash.{clash}
-use Rattle.vectors.specs.Vec.{put, Kept}
-use Rattle.differences.specs.Diff.{diffK}
-use Rattle.certificate.specs.Certificate.{minus}
-use Rattle.certificate.proofs.Laws.{length-minus}
-use Rattle.decomposition.specs.Knots.{knots as knotsOf}
-use Rattle.decomposition.specs.Written.{WroteOut, buffers as places}
-use Rattle.questions.specs.Questions.{Asked, Lent, question}
-use Rattle.fit.specs.Fit.{Fit as FitOf, Found as FoundOf, Outcome, refused, fitted, lamMaxOf, path, written, outcome, soundDD, fit}
+use Rattle.vectors.specs.Vec.{Kept}
+use Rattle.vectors.proofs.Laws.{kept-none, kept-then}
+use Rattle.decomposition.specs.Outputs.{Outputs}
+use Rattle.questions.specs.Questions.{Asked, Lent, workPlaces, marksPlaces, question}
+use Rattle.questions.proofs.Laws.{passed}
+use Rattle.fit.specs.Fit.{Found, Outcome, refused, fitted, lamMaxOf, path, written, outcome, soundDD, fit, after}
 use Rattle.fit.proofs.Lengths.{lengths}
-use Rattle.fit.proofs.Passed.{fit-passed, outcome-some}
-use Rattle.closed_paths.specs.declared.Found.{Found}
-use Rattle.closed_paths.specs.Trends.{trendOf, foundOf}
+use Rattle.fit.proofs.Demand3.{bounds}
+use Rattle.fit.proofs.Passed.{fit-passed}
+use Rattle.prepared_fit.specs.declared.Written.{Written}
+use Rattle.prepared_fit.specs.Fitted.{AsksFit, tallied, Fitted}
 use Rattle.trend_filter.specs.declared.Answer.{Answer}
-use Rattle.trend_filter.specs.declared.Answer.the-variants.{Fit, Refused}
-use Rattle.trend_filter.specs.Answers.{Buffers, summaryOf, answerOf, after, early, Gives, Sizes}
-use Rattle.trend_filter.specs.Inner.{buffers, summed}
-
--- a refusal: trend, cycle and knots are as found
-pub gives-refused : (q : ℕ) {b c : Buffers} → c .trend ≡ b .trend → c .cycle ≡ b .cycle → c .knots ≡ b .knots → Gives (refused q) (Refused q) b c
-unfolding answerOf after
-gives-refused q e f g = record { answer = refl; trend = e; cycle = f; knots = g }
-
-pub gives-same : {o p : Outcome} {r : Answer} {b c : Buffers} → o ≡ p → Gives p r b c → Gives o r b c
-gives-same {o} {p} {r} {b} {c} e g = subst (λ (q : Outcome). Gives q r b c) (sym e) g
-
--- another work and marks
-pub gives-through : {o : Outcome} {r : Answer} {t₀ t c₀ c w₀ w v₀ v : List Float} {k₀ k m₀ m i₀ i : List ℕ}
-    → Gives o r (buffers t₀ c₀ k₀ w₀ m₀) (buffers t c k w m) → Gives o r (buffers t₀ c₀ k₀ v₀ i₀) (buffers t c k v i)
-gives-through g = record { answer = g .answer; trend = g .trend; cycle = g .cycle; knots = g .knots }
-
--- ---- what is written out
-
-drop-kept : {n : ℕ} {s₀ s : List Float} → Kept 0 n s₀ s → drop n s ≡ drop n s₀
-drop-kept {n} {s₀} {s} w =
-    let size = w .size in
-    ext-getD nan (drop n s) (drop n s₀) (omega (arith, length-drop n s, length-drop n s₀))
-    (λ i l. getD-drop n s i nan ∙ w .above (n + i) (omega arith) ∙ sym (getD-drop n s₀ i nan))
-
--- u over whatever stood in its places
-pub put-kept : (n : ℕ) (s₀ s u : List Float) → Kept 0 n s₀ s → length u ≡ n → put s 0 u ≡ put s₀ 0 u
-put-kept n s₀ s u w e =
-    let z : 0 + length u ≡ n = omega arith in
-    ap (λ (r : List Float). u ++ r) (ap (λ (q : ℕ). drop q s) z ∙ drop-kept w ∙ ap (λ (q : ℕ). drop q s₀) (sym z))
-
--- the trend x of what was found was written out, over whatever a path left in cycle
-module _ (a : Asked) (w x : List Float) (f : Found) (count : ℕ) (top : Float) (t₀ t c₀ c₁ c w₀ w₁ : List Float) (k₀ k m₀ m : List ℕ)
-    (is : x ≡ trendOf (a .y) w (f .trend)) (top-is : top ≡ lamMaxOf a) (kept : Kept 0 (length (a .y)) c₀ c₁)
-    (o : WroteOut (a .order) (a .y) x count (places t₀ c₁ k₀) (places t c k)) where
-  pub written-gives : Gives (fitted (written a (foundOf (a .order) (a .y) w f))) (Fit (summed f count top)) (buffers t₀ c₀ k₀ w₀ m₀) (buffers t c k w₁ m)
-  unfolding answerOf after written summaryOf
-  written-gives = record {
-    answer = ap₂ (λ (n : ℕ) (p : Float). Fit (summed f n p)) (o .count-is ∙ ap (λ (v : List Float). length (knotsOf (a .order) (a .y) (diffK (a .order) v))) is) top-is;
-    trend = o .trend ∙ ap (put t₀ 0) is;
-    cycle = o .cycle ∙ put-kept (length (a .y)) c₀ c₁ (minus (a .y) x) kept (length-minus (a .y) x) ∙ ap (λ (v : List Float). put c₀ 0 (minus (a .y) v)) is;
-    knots = o .knots ∙ ap (λ (v : List Float). put k₀ 0 (knotsOf (a .order) (a .y) (diffK (a .order) v))) is;
-  }
-
-  pub found-gives : some (foundOf (a .order) (a .y) w f) ≡ path a → Gives (outcome a (path a)) (Fit (summed f count top)) (buffers t₀ c₀ k₀ w₀ m₀) (buffers t c k w₁ m)
-  found-gives e = gives-same (ap (outcome a) (sym e) ∙ outcome-some a (foundOf (a .order) (a .y) w f)) written-gives
-
--- a path that was lost
-pub lost-outcome : (a : Asked) → none ≡ path a → outcome a (path a) ≡ refused 10
-unfolding outcome
-lost-outcome a e = ap (outcome a) (sym e)
+use Rattle.trend_filter.specs.declared.Answer.the-variants.{Refused}
+use Rattle.trend_filter.specs.declared.Begun.{Begun}
+use Rattle.trend_filter.specs.declared.Begun.the-variants.{Stopped, Ready}
+use Rattle.trend_filter.specs.Answers.{Buffers, lent, summaryOf, answerOf, early, Gives, Answered}
+use Rattle.trend_filter.specs.Inner.{Stops, Readies, Begins, toldOf}
 
 -- ---- past the questions
 
-late-outcome : (a : Asked) (o : Option FoundOf) → early (outcome a o) ≡ false
+late-outcome : (a : Asked) (o : Option Found) → early (outcome a o) ≡ false
 unfolding early outcome
 late-outcome a none = refl
 late-outcome a (some f) = refl
@@ -96,6 +48,61 @@ sound-fit a l e s = fit-passed a l e ∙ ap (λ (b : Bool). cond b (outcome a (p
 pub unsound-fit : (a : Asked) (l : Lent) → question a l ≡ 0 → soundDD a ≡ false → fit a l ≡ refused 10
 unsound-fit a l e s = fit-passed a l e ∙ ap (λ (b : Bool). cond b (outcome a (path a)) (refused 10)) s
 
--- how many places a fit writes
-pub sizes : (a : Asked) (l : Lent) (f : FitOf) → fit a l ≡ fitted f → Sizes a f
-sizes a l f e = let s = lengths a l f e in record { trend = s .trend; cycle = s .cycle; knots = s .knots }
+-- which way a call began
+pub stops : {a : Asked} {l : Lent} {w₀ w : List Float} {b : Begun} {q : ℕ} → b ≡ Stopped q → Begins a l w₀ w b → Stops a l w₀ w q
+unfolding Begins
+stops {a} {l} {w₀} {w} e h = subst (Begins a l w₀ w) e h
+
+pub readies : {a : Asked} {l : Lent} {w₀ w : List Float} {b : Begun} {top : Float} → b ≡ Ready top → Begins a l w₀ w b → Readies a l w₀ w top
+unfolding Begins
+readies {a} {l} {w₀} {w} e h = subst (Begins a l w₀ w) e h
+
+-- ---- the answer
+
+same-told : (a : Asked) (o : Option Found) → toldOf (lamMaxOf a) (tallied a o) ≡ answerOf (outcome a o)
+unfolding toldOf tallied answerOf outcome summaryOf written
+same-told a none = refl
+same-told a (some f) = refl
+
+module _ (a : Asked) (b : Buffers) (w : List Float) where
+  -- a refusal: trend, cycle and knots are as found
+  pub answered-refused : (q : ℕ) → Stops a (lent b) (b .work) w q → Answered a (Refused q) b (record { out = b .out; work = w; marks = b .marks })
+  unfolding answerOf after
+  answered-refused q s = record {
+    gives = subst (λ (o : Outcome). Gives o (Refused q) (b .out) (b .out)) (sym (s .refuses)) (record { answer = refl; out = refl });
+    unused = λ e. (s .unused e, refl);
+    scratch = record { work = s .kept; marks = kept-none 0 (marksPlaces (length (a .y))) (b .marks) };
+    sizes = lengths a (lent b);
+    bounds = bounds a (lent b);
+  }
+
+  module _ (top : Float) (h : Readies a (lent b) (b .work) w top) where
+    pub asks-fit : AsksFit (a .order) (a .y) top (b .out) w (b .marks)
+    asks-fit =
+        let q = passed a (lent b) (h .passes) in
+        let room = q .work in
+        let size = h .kept .size in
+        record {
+          path = record {
+            search = record {
+              l1 = record { room = record { series = q .series; work = omega arith }; cycle = q .cycle; star = h .star; differences = h .differences };
+              marked = q .marks;
+            };
+            top-is = h .top-is;
+          };
+          trend = q .trend;
+          knots = q .knots;
+        }
+
+    pub answered-fit : (r : Written) (c : Outputs) (v : List Float) (marks : List ℕ) → Fitted a r (b .out) c w v (b .marks) marks → Answered a (toldOf top r) b (record { out = c; work = v; marks = marks })
+    answered-fit r c v marks f = record {
+      gives = subst (λ (o : Outcome). Gives o (toldOf top r) (b .out) c) (sym (sound-fit a (lent b) (h .passes) (h .sound)))
+          (record { answer = ap₂ toldOf (h .top-is) (f .tally) ∙ same-told a (path a); out = f .out });
+      unused = λ t. absurd (not-early a (lent b) (h .passes) t);
+      scratch = record {
+        work = kept-then 0 (workPlaces (length (a .y))) (h .kept) (f .work) (omega arith) (omega arith) (omega arith) (omega arith);
+        marks = f .marked;
+      };
+      sizes = lengths a (lent b);
+      bounds = bounds a (lent b);
+    }

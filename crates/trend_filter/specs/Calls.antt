@@ -5,18 +5,20 @@ use mathlib.Core.List.{List, [], _∷_}
 use Prim.Native.Nat.{ℕ}
 use lib.Ieee.{Float}
 use Rattle.questions.specs.Questions.{Asked}
-use Rattle.fit.specs.Fit.{fit}
-use Rattle.trend_filter.specs.Answers.{Buffers, lent, answerOf, Answered}
+use Rattle.trend_filter.specs.Answers.{Buffers, Answered}
 use Rattle.trend_filter.specs.declared.Summary.{Summary}
 use Rattle.trend_filter.specs.declared.Answer.{Answer}
 use Rattle.trend_filter.specs.declared.Answer.the-variants.{Fit, Refused}
 
+-- 1 for true, 0 for false
 abbrev pub oneIf : Bool → ℕ
 oneIf b = cond b 1 0
 
+-- the five numbers of a fit
 abbrev pub numbersOf : Summary → List Float
 numbersOf s = s .«lam_max» ∷ s .gap ∷ s .«first_gap» ∷ s .«best_gap» ∷ s .objective ∷ []
 
+-- its four counts
 abbrev pub countsOf : Summary → List ℕ
 countsOf s = s .knots ∷ s .«n_iter» ∷ s .improvements ∷ oneIf (s .converged) ∷ []
 
@@ -25,14 +27,15 @@ abbrev pub codeOf : Answer → ℕ
 codeOf (Fit s) = 0
 codeOf (Refused q) = q
 
--- what an array holds afterwards: as found after a refusal
+-- what an array that held v holds afterwards: as found after a refusal
 abbrev pub filled : {A : Type 0} → (Summary → List A) → Answer → List A → List A
 filled x (Fit s) v = x s
 filled x (Refused q) v = v
 
--- The whole of a call with the buffers b before and c after: an answer of the fit with all its promises, told by the code r, numbers n and counts d.
-pub record Called (a : Asked) (r : ℕ) (b c : Buffers) (n₀ n : List Float) (d₀ d : List ℕ) : Type 0 where
-  pub answered : Answered a (answerOf (fit a (lent b))) b c
-  pub code : r ≡ codeOf (answerOf (fit a (lent b)))
-  pub numbers : n ≡ filled numbersOf (answerOf (fit a (lent b))) n₀
-  pub counts : d ≡ filled countsOf (answerOf (fit a (lent b))) d₀
+-- The whole of a call: an answer with all its promises, told by the code r and by two arrays, which held v₀ and u₀ before and hold v and u after.
+pub record Called (a : Asked) (r : ℕ) (b c : Buffers) (v₀ v : List Float) (u₀ u : List ℕ) : Type 0 where
+  pub answer : Answer
+  pub answered : Answered a answer b c
+  pub code : r ≡ codeOf answer
+  pub numbers : v ≡ filled numbersOf answer v₀
+  pub counts : u ≡ filled countsOf answer u₀

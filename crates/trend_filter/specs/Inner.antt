@@ -1,33 +1,45 @@
--- What the functions below the entry ask of the buffers and leave in them. For the contracts inside this crate.
+-- What the functions below the entry leave. n is the length of the series. For the contracts inside this crate.
+use mathlib.Core.Path.{_≡_}
+use mathlib.Core.Bool.{true}
 use mathlib.Core.List.{List}
-use Prim.Native.Nat.{ℕ, _≤_}
+use Prim.Native.Nat.{ℕ, _-_}
 use lib.ListN.{length}
 use lib.Ieee.{Float}
-use Rattle.closed_paths.specs.Taken.{Asks}
-use Rattle.closed_paths.specs.declared.Found.{Found}
-use Rattle.trend_filter.specs.declared.Summary.{Summary}
-use Rattle.trend_filter.specs.Answers.{Buffers}
+use Rattle.vectors.specs.Vec.{part, Kept}
+use Rattle.differences.specs.Diff.{diffK, gramRow}
+use Rattle.gram.specs.Gram.{zstar}
+use Rattle.gram.specs.Prepared.{starLane, diffLane, preparation}
+use Rattle.questions.specs.Questions.{Asked, Lent, workPlaces, question}
+use Rattle.fit.specs.Fit.{refused, places, lamMaxOf, soundDD, fit}
+use Rattle.prepared_fit.specs.declared.Written.{Written}
+use Rattle.prepared_fit.specs.declared.Written.the-variants.{Lost, Done}
+use Rattle.trend_filter.specs.declared.Answer.{Answer}
+use Rattle.trend_filter.specs.declared.Answer.the-variants.{Fit, Refused}
+use Rattle.trend_filter.specs.declared.Begun.{Begun}
+use Rattle.trend_filter.specs.declared.Begun.the-variants.{Stopped, Ready}
+use Rattle.trend_filter.specs.Answers.{summed, early}
 
--- what the buffers hold, from a function's arguments
-abbrev pub buffers : List Float → List Float → List ℕ → List Float → List ℕ → Buffers
-buffers trend cycle knots work marks = record { trend = trend; cycle = cycle; knots = knots; work = work; marks = marks }
+-- the call is refused with q
+pub record Stops (a : Asked) (l : Lent) (w₀ w : List Float) (q : ℕ) : Type 0 where
+  pub refuses : fit a l ≡ refused q
+  pub unused : early (fit a l) ≡ true → w ≡ w₀
+  pub kept : Kept 0 (workPlaces (length (a .y))) w₀ w
 
--- the numbers of what was found, with so many knots
-abbrev pub summed : Found → ℕ → Float → Summary
-summed f count top = record {
-  knots = count;
-  «lam_max» = top;
-  gap = f .gap;
-  «first_gap» = f .«first_gap»;
-  «best_gap» = f .«best_gap»;
-  objective = f .objective;
-  «n_iter» = f .«n_iter»;
-  improvements = f .improvements;
-  converged = f .converged;
-}
+-- the questions are passed, the series is prepared at the start of w, and top is lam_max
+pub record Readies (a : Asked) (l : Lent) (w₀ w : List Float) (top : Float) : Type 0 where
+  pub passes : question a l ≡ 0
+  pub sound : soundDD a ≡ true
+  pub star : part (starLane (a .order) (length (a .y))) (places a) w ≡ zstar (a .order) (gramRow (a .order)) (places a) (a .y)
+  pub differences : part (diffLane (length (a .y))) (places a) w ≡ diffK (a .order) (a .y)
+  pub top-is : top ≡ lamMaxOf a
+  pub kept : Kept 0 (preparation (length (a .y))) w₀ w
 
--- the series is prepared, top is lam_max, and there is room in every buffer
-pub record Prepared (k : ℕ) (y : List Float) (top : Float) (b : Buffers) : Type 0 where
-  pub asks : Asks k y top (b .work) (b .cycle) (b .marks)
-  pub trend : length y ≤ length (b .trend)
-  pub knots : length y ≤ length (b .knots)
+-- one of the two
+unfoldable pub Begins : Asked → Lent → List Float → List Float → Begun → Type 0
+Begins a l w₀ w (Stopped q) = Stops a l w₀ w q
+Begins a l w₀ w (Ready top) = Readies a l w₀ w top
+
+-- what a caller is told of a prepared series, whose lam_max is top
+unfoldable pub toldOf : Float → Written → Answer
+toldOf top Lost = Refused 10
+toldOf top (Done t) = Fit (summed (t .numbers) (t .knots) top)

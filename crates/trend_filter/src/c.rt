@@ -2,7 +2,7 @@
 ghost use mathlib.Core.Path.{_≡_};
 ghost use Rattle.questions.specs.Asking.{asking};
 ghost use Rattle.trend_filter.specs.Calls.{oneIf, numbersOf, countsOf, Called};
-ghost use Rattle.trend_filter.specs.Inner.{buffers};
+ghost use Rattle.trend_filter.specs.Answers.{buffers};
 use crate::Answer;
 use crate::Summary;
 use crate::TrendFilterOptions;

@@ -1,14 +1,13 @@
-// The trend of a series: the questions, the preparation, the path, and what is written out, each once.
+// The trend of a series: the questions and the preparation, then the path and what is written out, each once.
 pub mod c;
 
+use fit::Numbers;
+use prepared_fit::Written;
 ghost use mathlib.Core.Path.{_≡_};
 ghost use lib.ListN.{length};
-ghost use Rattle.questions.specs.Asking.{asking};
-ghost use Rattle.fit.specs.Fit.{outcome, path};
-ghost use Rattle.trend_filter.specs.Answers.{Gives, Scratch, Answered};
-ghost use Rattle.trend_filter.specs.Inner.{buffers, summed as summed_of, Prepared};
-use closed_paths::Found;
-use closed_paths::Path;
+ghost use Rattle.questions.specs.Asking.{asking, lending};
+ghost use Rattle.trend_filter.specs.Answers.{buffers, summed as summed_of, Answered};
+ghost use Rattle.trend_filter.specs.Inner.{Begins, toldOf};
 
 // penalty 1 is L1, 2 is L2.
 pub struct TrendFilterOptions {
@@ -36,65 +35,77 @@ pub enum Answer {
     Refused(u32),
 }
 
-// The numbers of what was found, with so many knots.
-fn summed(f: Found, knots: usize, lam_max: f64) -> Summary
-    ensures { λ r. ⌜ r ≡ summed_of f knots «lam_max» ⌝ }
+// The numbers as a caller is told them.
+fn summed(s: Numbers, knots: usize, lam_max: f64) -> Summary
+    ensures { λ r. ⌜ r ≡ summed_of s knots «lam_max» ⌝ }
 {
     Summary {
         knots: knots,
         lam_max: lam_max,
-        gap: f.gap,
-        first_gap: f.first_gap,
-        best_gap: f.best_gap,
-        objective: f.objective,
-        n_iter: f.n_iter,
-        improvements: f.improvements,
-        converged: f.converged,
+        gap: s.gap,
+        first_gap: s.first_gap,
+        best_gap: s.best_gap,
+        objective: s.objective,
+        n_iter: s.n_iter,
+        improvements: s.improvements,
+        converged: s.converged,
     }
 }
 
-// The path of a prepared series, and what is written of it. A path that lost a pivot is refused.
-fn fit_prepared(
+// What a caller is told of a prepared series.
+fn told(w: Written, lam_max: f64) -> Answer
+    ensures { λ r. ⌜ r ≡ toldOf «lam_max» w ⌝ }
+{
+    match w {
+        Written::Lost => Answer::Refused(10),
+        Written::Done(t) => {
+            let s = t.numbers;
+            Answer::Fit(summed(s, t.knots, lam_max))
+        }
+    }
+}
+
+// A refusal's number, or lam_max of the series, which is prepared.
+enum Begun {
+    Stopped(u32),
+    Ready(f64),
+}
+
+// The questions, then the preparation at the start of work. trend, cycle, knots and marks are the lengths lent.
+fn begin(
+    work: &mut [f64],
     y: &[f64],
     lam: f64,
     opts: TrendFilterOptions,
-    k: usize,
-    lam_max: f64,
-    trend: &mut [f64],
-    cycle: &mut [f64],
-    knots: &mut [u32],
-    work: &mut [f64],
-    marks: &mut [u32],
-) -> Answer
-    requires { ⌜ Prepared k (now y) «lam_max» (buffers (now trend) (now cycle) (now knots) (now work) (now marks)) ⌝ }
-    ensures { λ r. ⌜ Gives (outcome (asking (now (y .entry)) lam (opts .tol) (opts .«max_iter») k (opts .penalty)) (path (asking (now (y .entry)) lam (opts .tol) (opts .«max_iter») k (opts .penalty)))) r
-        (buffers (now (trend .entry)) (now (cycle .entry)) (now (knots .entry)) (now (work .entry)) (now (marks .entry)))
-        (buffers (now (trend .exit)) (now (cycle .exit)) (now (knots .exit)) (now (work .exit)) (now (marks .exit)))
-        × Scratch (length (now (y .entry)))
-        (buffers (now (trend .entry)) (now (cycle .entry)) (now (knots .entry)) (now (work .entry)) (now (marks .entry)))
-        (buffers (now (trend .exit)) (now (cycle .exit)) (now (knots .exit)) (now (work .exit)) (now (marks .exit))) ⌝ }
+    trend: usize,
+    cycle: usize,
+    knots: usize,
+    marks: usize,
+) -> Begun
+    ensures { λ r. ⌜ Begins (asking (now (y .entry)) lam (opts .tol) (opts .«max_iter») (opts .order) (opts .penalty))
+        (lending trend cycle knots (length (now (work .entry))) marks) (now (work .entry)) (now (work .exit)) r ⌝ }
 {
-    let p = paths::take_path(
-        work,
-        marks,
-        cycle,
+    let q = questions::question(
         y,
         lam,
         opts.tol,
         opts.max_iter,
-        k,
+        opts.order,
         opts.penalty,
-        lam_max,
+        trend,
+        cycle,
+        knots,
+        work.len(),
+        marks,
     );
-    match p {
-        Path::Lost => Answer::Refused(10),
-        Path::Found(f) => {
-            let t = f.trend;
-            let x = paths::trend_of(y, work, t);
-            let count = decomposition::write_out(trend, cycle, knots, y, x, k);
-            Answer::Fit(summed(f, count, lam_max))
-        }
+    if q != 0 {
+        return Begun::Stopped(q);
     }
+    let p = gram::prepare(work, y, opts.order as usize);
+    if !p.good {
+        return Begun::Stopped(10);
+    }
+    Begun::Ready(p.top)
 }
 
 // The trend, the cycle and the knots of y, and the numbers of the fit; or a refusal's number. work and marks are scratch.
@@ -112,26 +123,34 @@ pub fn l1_trend_filter(
         (buffers (now (trend .entry)) (now (cycle .entry)) (now (knots .entry)) (now (work .entry)) (now (marks .entry)))
         (buffers (now (trend .exit)) (now (cycle .exit)) (now (knots .exit)) (now (work .exit)) (now (marks .exit))) ⌝ }
 {
-    let q = questions::question(
+    let b = begin(
+        work,
         y,
         lam,
-        opts.tol,
-        opts.max_iter,
-        opts.order,
-        opts.penalty,
+        opts,
         trend.len(),
         cycle.len(),
         knots.len(),
-        work.len(),
         marks.len(),
     );
-    if q != 0 {
-        return Answer::Refused(q);
+    match b {
+        Begun::Stopped(q) => Answer::Refused(q),
+        Begun::Ready(lam_max) => {
+            let w = prepared_fit::fit_prepared(
+                trend,
+                cycle,
+                knots,
+                work,
+                marks,
+                y,
+                lam,
+                opts.tol,
+                opts.max_iter,
+                opts.order as usize,
+                opts.penalty,
+                lam_max,
+            );
+            told(w, lam_max)
+        }
     }
-    let k = opts.order as usize;
-    let p = gram::prepare(work, y, k);
-    if !p.good {
-        return Answer::Refused(10);
-    }
-    fit_prepared(y, lam, opts, k, p.top, trend, cycle, knots, work, marks)
 }

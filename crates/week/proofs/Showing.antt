@@ -21,10 +21,10 @@ use Rattle.records.specs.declared.Settings.{Settings}
 use Rattle.records.specs.declared.Week.the-variants as week
 use Rattle.listing.specs.Listing.{listingOf, refusedLine}
 use Rattle.questions.specs.Questions.{Lent}
-use Rattle.fit.specs.Fit.{Fit, Outcome, refused, fitted, fit}
+use Rattle.fit.specs.Fit.{Outcome, refused, fitted, fit, after}
 use Rattle.fit.proofs.Lengths.{lengths}
-use Rattle.trend_filter.specs.Answers.{Buffers, summaryOf, answerOf, after, Gives}
-use Rattle.trend_filter.specs.Inner.{buffers}
+use Rattle.decomposition.specs.Outputs.{Outputs, outputs}
+use Rattle.trend_filter.specs.Answers.{summaryOf, answerOf, Gives}
 use Rattle.trend_filter.specs.declared.Summary.{Summary}
 use Rattle.trend_filter.specs.declared.Answer.{Answer}
 use Rattle.trend_filter.specs.declared.Answer.the-variants as fits
@@ -112,30 +112,31 @@ pub record Listed (st : Settings) (y : List Float) (s : Summary) (t c : List Flo
   pub text : fitText st y ≡ listingOf (shown st (length y) s) t c k
   pub few : s .knots ≤ length y
 
-was-fit : (st : Settings) (y : List Float) (o : Outcome) (before : Buffers) {r : Answer} {s : Summary} {t c w : List Float} {k m : List ℕ}
-    → fit (asked st y) lent ≡ o → r ≡ fits.Fit s → Gives o r before (buffers t c k w m) → Listed st y s t c k
+was-fit : (st : Settings) (y : List Float) (o : Outcome) (before : Outputs) {r : Answer} {s : Summary} {t c : List Float} {k : List ℕ}
+    → fit (asked st y) lent ≡ o → r ≡ fits.Fit s → Gives o r before (outputs t c k) → Listed st y s t c k
 unfolding fitText outcomeText listingOf summaryOf answerOf after
 was-fit st y (refused i) before {r} {s} g e h =
     let p : fits.Fit s ≡ answerOf (refused i) = sym e ∙ h .answer in
     let z : _≡_ {A = ℕ} 0 1 = cc in absurd (omega arith)
-was-fit st y (fitted f) before {r} {s} {t} {c} {w} {k} {m} g e h =
+was-fit st y (fitted f) before {r} {s} {t} {c} {k} g e h =
     let p : fits.Fit s ≡ answerOf (fitted f) = sym e ∙ h .answer in
     let es : summaryOf f ≡ s = cc in
     let l = lengths (asked st y) lent f g in
+    let trend-is = ap (λ (o : Outputs). o .trend) (h .out) in
+    let cycle-is = ap (λ (o : Outputs). o .cycle) (h .out) in
+    let knots-is = ap (λ (o : Outputs). o .knots) (h .out) in
     subst (λ (x : Summary). Listed st y x t c k) es (record {
-      text = ap (outcomeText st (length y)) g ∙ rw (h .trend, h .cycle, h .knots, hours-front (f .trend) (f .cycle) (before .trend) (before .cycle) (length y) (omega (arith, l .trend)) (omega (arith, l .cycle)), knots-front (f .knots) (before .knots) (length (f .knots)) (omega arith));
+      text = ap (outcomeText st (length y)) g ∙ rw (trend-is, cycle-is, knots-is, hours-front (f .trend) (f .cycle) (before .trend) (before .cycle) (length y) (omega (arith, l .trend)) (omega (arith, l .cycle)), knots-front (f .knots) (before .knots) (length (f .knots)) (omega arith));
       few = omega (arith, l .knots);
     })
 
 -- a call of the fit with what the program lends: its answer, and the places that it left
 pub record Fitted (st : Settings) (y : List Float) (r : Answer) (t c : List Float) (k : List ℕ) : Type 0 where
-  before : Buffers
-  work : List Float
-  marks : List ℕ
-  gives : Gives (fit (asked st y) lent) r before (buffers t c k work marks)
+  before : Outputs
+  gives : Gives (fit (asked st y) lent) r before (outputs t c k)
 
-pub fits-lent : (st : Settings) (y : List Float) (l : Lent) {r : Answer} {b : Buffers} {t c w : List Float} {k m : List ℕ} → Gives (fit (asked st y) l) r b (buffers t c k w m) → lent ≡ l → Fitted st y r t c k
-fits-lent st y l {r} {b} {t} {c} {w} {k} {m} h g = record { before = b; work = w; marks = m; gives = subst (λ (x : Lent). Gives (fit (asked st y) x) r b (buffers t c k w m)) (sym g) h }
+pub fits-lent : (st : Settings) (y : List Float) (l : Lent) {r : Answer} {b : Outputs} {t c : List Float} {k : List ℕ} → Gives (fit (asked st y) l) r b (outputs t c k) → lent ≡ l → Fitted st y r t c k
+fits-lent st y l {r} {b} {t} {c} {k} h g = record { before = b; gives = subst (λ (x : Lent). Gives (fit (asked st y) x) r b (outputs t c k)) (sym g) h }
 
 module _ {st : Settings} {y : List Float} {r : Answer} {t c : List Float} {k : List ℕ} (f : Fitted st y r t c k) where
   pub fit-listed : {s : Summary} → r ≡ fits.Fit s → Listed st y s t c k

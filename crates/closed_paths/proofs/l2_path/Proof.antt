@@ -1,41 +1,39 @@
 use borrow.Author.Needs.{needs}
 use borrow.Author.Tests.{not-true, not-false}
-use mathlib.Core.Path.{_≡_, refl, sym, ap, ap₂, _∙_}
+use mathlib.Core.Path.{_≡_, refl, sym, _∙_}
 use mathlib.Core.Bool.{true}
 use mathlib.Core.Option.{some}
 use Prim.Native.Nat.{_+_, _-_, _*_, _≤_}
 use native.Mathlib.Omega.{arith}
 use lib.ListN.{length, take, drop}
-use lib.Ieee.{Float, nan}
+use lib.Ieee.{nan}
 use Rattle.vectors.proofs.Laws.{kept-none, kept-then}
 use Rattle.vectors.proofs.Parts.{putBack, part-size, kept-put}
-use Rattle.differences.specs.Diff.{diffK}
 use Rattle.dual_point.specs.Lanes.{searchArea}
 use Rattle.gram.specs.Prepared.{preparation}
 use Rattle.l2.specs.L2.{trendL2}
 use Rattle.questions.specs.Asking.{asking}
-use Rattle.fit.specs.Fit.{closed}
-use Rattle.closed_paths.specs.declared.Trend.the-variants.{Solution}
+use Rattle.fit.specs.Fit.{Found, closed}
 use Rattle.closed_paths.specs.Trends.{trendOf, reach, said, reached}
-use Rattle.closed_paths.proofs.Areas.{kept-wide, closed-found, rows-fit, solution-stands, ends-gap, ends-objective, ends-trend, l2-sound, l2-unsound, some-none}
+use Rattle.closed_paths.proofs.Areas.{kept-wide, rows-fit, solution-stands, ends-gap, ends-objective, ends-trend, l2-sound, l2-unsound, some-none}
 use Rattle.closed_paths.proofs.l2_path.Statement.{statement}
 use Rattle.closed_paths.proofs.l2_path.Tie as tie
 
 mul-a : tie.Need-mul-a
 mul-a c = let st = c .before .before in
-    let p = st .pre .0 in
+    let p = st .pre .series in
     omega (arith, rows-fit (st .args .k) (length (st .args .y .now)) (p .order .high), p .short)
 
 sub-a : tie.Need-sub-a
-sub-a c = let st = c .before .before in omega (arith, rows-fit (st .args .k) (length (st .args .y .now)) (st .pre .0 .order .high))
+sub-a c = let st = c .before .before in omega (arith, rows-fit (st .args .k) (length (st .args .y .now)) (st .pre .series .order .high))
 
 solve-l2-requires : tie.Need-solve-l2-requires
 solve-l2-requires c κs = let st = c .before .before .before in
     let n = length (st .args .y .now) in
     let w = st .args .work .now in
-    let p = st .pre .0 in
+    let p = st .pre .series in
     let f = rows-fit (st .args .k) n (p .order .high) in
-    let r = st .pre .1 in
+    let r = st .pre .work in
     let a = 8 * n - n * (st .args .k + 1) in
     let q : length (take (9 * n - a) (drop a w)) ≡ 9 * n - a = part-size a (9 * n - a) w (take (9 * n - a) (drop a w)) (omega arith) refl in
     (p, omega arith)
@@ -50,8 +48,8 @@ returns c = let sl = c .before .before .before in
     let n = length y in
     let w = g .work .now in
     let x = sl .solve-l2 .last .0 in
-    let f = rows-fit k n (st .pre .0 .order .high) in
-    let r = st .pre .1 in
+    let f = rows-fit k n (st .pre .series .order .high) in
+    let r = st .pre .work in
     let a = 8 * n - n * (k + 1) in
     let size : length x ≡ 9 * n - a = part-size a (9 * n - a) w x (omega arith) (sl .solve-l2 .kept .0) in
     let made = kept-put a (9 * n - a) w x (omega arith) size nan in
@@ -75,8 +73,8 @@ returns-2 c = let ob = c .before .before .before in
     let w₀ = g .work .now in
     let x₁ = sl .solve-l2 .last .0 in
     let x₂ = ob .objectives .last .0 in
-    let h = rows-fit k n (st .pre .0 .order .high) in
-    let r = st .pre .1 in
+    let h = rows-fit k n (st .pre .series .order .high) in
+    let r = st .pre .work in
     let a = 8 * n - n * (k + 1) in
     let b = 8 * n in
     let e = 9 * n in
@@ -98,7 +96,7 @@ returns-2 c = let ob = c .before .before .before in
     (λ tol m p c′.
     let q = l2-sound (asking y (g .lam) tol m k p) (sym (sl .solve-l2 .ensures .sound) ∙ yes) in
     record {
-      says = ap some (closed-found k y _ Solution _ _ t tr ∙ ap₂ (λ (i j : Float). closed t (diffK k t) i j) ga oj) ∙ sym q;
+      says = (λ i. some (record { trend = tr i; numbers = closed (ga i) (oj i) })) ∙ sym q;
       stands = omega (arith, made₂ .size, made₁ .size);
       lost = λ z. absurd (some-none _ (sym q ∙ z));
       changed = record {

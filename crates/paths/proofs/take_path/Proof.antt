@@ -12,7 +12,7 @@ use Rattle.questions.specs.Asking.{asking}
 use Rattle.fit.specs.Fit.{pathZero}
 use Rattle.closed_paths.specs.Trends.{trendOf, reach, said, reached}
 use Rattle.closed_paths.proofs.Areas.{some-none}
-use Rattle.paths.proofs.Ways.{by-1, by-2, l1-zero, l1-high}
+use Rattle.paths.proofs.Ways.{by-1, by-2, l1-zero, l1-high, took-done}
 use Rattle.paths.proofs.take_path.Statement.{statement}
 use Rattle.paths.proofs.take_path.Tie as tie
 
@@ -45,7 +45,6 @@ returns-2 c = let th = c .before in
     )
 
 returns-3 : tie.Need-returns-3
-unfolding said reached
 returns-3 c = let fl = c .before .before .before .before in
     let th = fl .before .before .before in
     let e2 = th .before in
@@ -54,39 +53,22 @@ returns-3 c = let fl = c .before .before .before .before in
     let a = st .args in
     let y = a .y .now in
     let q = asking y (a .lam) (a .tol) (a .max-iter) (a .k) (a .penalty) in
-    let e = by-1 q (e1 .if1 .left) in
-    let f = fl .flat-path .ensures in
     let high = rw (st .pre .top-is) at (th .if3 .taken) in (
-      record {
-        says = ap some (f .says (a .tol, (a .max-iter, a .penalty)) ∙ sym (l1-high q true (e2 .if2 .left) high)) ∙ sym e;
-        stands = f .stands;
-        lost = λ z. absurd (some-none _ (sym e ∙ z));
-        changed = f .changed;
-      },
+      took-done q (a .tol, (a .max-iter, a .penalty)) (fl .flat-path .ensures) (by-1 q (e1 .if1 .left) ∙ ap some (l1-high q true (e2 .if2 .left) high)),
       kept-none 0 (marksPlaces (length y)) (a .marks .now),
     )
 
 returns-4 : tie.Need-returns-4
-unfolding said reached
 returns-4 c = let se = c .before .before .before .before .before .before in
     let e3 = se .before .before .before .before in
     let e2 = e3 .before in
     let e1 = e2 .before in
     let st = e1 .before .before .before .before .before in
     let a = st .args in
-    let y = a .y .now in
-    let q = asking y (a .lam) (a .tol) (a .max-iter) (a .k) (a .penalty) in
-    let e = by-1 q (e1 .if1 .left) in
+    let q = asking (a .y .now) (a .lam) (a .tol) (a .max-iter) (a .k) (a .penalty) in
+    let low = rw (st .pre .top-is) at (e3 .if3 .left) in
     let f = se .search-path .ensures in
-    let low = rw (st .pre .top-is) at (e3 .if3 .left) in (
-      record {
-        says = ap some (f .0 .says (a .penalty) ∙ sym (l1-high q false (e2 .if2 .left) low)) ∙ sym e;
-        stands = f .0 .stands;
-        lost = λ z. absurd (some-none _ (sym e ∙ z));
-        changed = f .0 .changed;
-      },
-      f .1,
-    )
+    (took-done q (a .penalty) (f .0) (by-1 q (e1 .if1 .left) ∙ ap some (l1-high q false (e2 .if2 .left) low)), f .1)
 
 pub take-path-spec : {M : Type 1} → statement M
 take-path-spec =

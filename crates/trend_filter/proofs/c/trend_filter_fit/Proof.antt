@@ -1,19 +1,33 @@
 use borrow.Author.Needs.{needs}
+use mathlib.Core.Path.{sym}
 use Rattle.trend_filter.proofs.Calling.{told-refused, told-fit}
 use Rattle.trend_filter.proofs.c.trend_filter_fit.Statement.{statement}
 use Rattle.trend_filter.proofs.c.trend_filter_fit.Tie as tie
 
+-- the steps back from the answer to the call
+abbrev knots : tie.After-slice-known10 → tie.After-slice-known8
+knots k = k .before .before .before .before
+
+abbrev called : tie.After-slice-known8 → tie.After-l1-trend-filter
+called k = k .before .before .before .before .before .before
+
+abbrev lent : tie.After-l1-trend-filter → tie.After-slice-known5
+lent l = l .before .before .before .before .before .before
+
+abbrev started : tie.After-slice-known5 → tie.Start
+started k = k .before .before .before .before .before .before
+
 returns : tie.Need-returns
-returns c = let lt = c .before .before .before .before .before .before .before .before .before .before .before .before .before in
-    let p = lt .before .before .before .before .before .before .before .before .before .before .before .before .args in
-    told-refused (lt .l1-trend-filter .ensures) _ (p .numbers .now) (p .counts .now) (c .before .a .given .1)
+returns c = let l = called (knots (c .before .before .before)) in
+    let p = started (lent l) .args in
+    told-refused (l .l1-trend-filter .ensures) _ (p .numbers .now) (p .counts .now) (sym (c .before .a .given .1))
 
 returns-2 : tie.Need-returns-2
 returns-2 c = let pn = c .before .before in
-    let ma = pn .before .before .before in
-    let lt = ma .before .before .before .before .before .before .before .before .before .before .before .before in
-    let p = lt .before .before .before .before .before .before .before .before .before .before .before .before .args in
-    told-fit (lt .l1-trend-filter .ensures) _ (p .numbers .now) _ (p .counts .now) _ (ma .a2 .given .1) (pn .put-numbers .ensures) (c .put-counts .ensures)
+    let a = pn .before .before .before in
+    let l = called (knots (a .before .before)) in
+    let p = started (lent l) .args in
+    told-fit (l .l1-trend-filter .ensures) _ (p .numbers .now) _ (p .counts .now) _ (sym (a .a2 .given .1)) (pn .put-numbers .ensures) (c .put-counts .ensures)
 
 pub trend-filter-fit-spec : {M : Type 1} → statement M
 trend-filter-fit-spec =

@@ -1,18 +1,18 @@
 // L1 with 0 < lam < lam_max: the search and its polish.
 ghost use mathlib.Core.Path.{_≡_};
 ghost use mathlib.Core.Bool.{cond};
-ghost use Prim.Native.Nat.{ℕ, _≤_};
+ghost use Prim.Native.Nat.{ℕ};
 ghost use lib.ListN.{length};
-ghost use Rattle.vectors.specs.Vec.{Kept, KeptOf};
-ghost use Rattle.certificate.specs.Ready.{Ready};
-ghost use Rattle.dual_point.specs.Lanes.{searchArea};
+ghost use Rattle.vectors.specs.Vec.{KeptOf};
+ghost use Rattle.polish.specs.Places.{Polishable};
 ghost use Rattle.questions.specs.Questions.{marksPlaces};
 ghost use Rattle.questions.specs.Asking.{asking};
 ghost use Rattle.fit.specs.Fit.{searchOf, pathEnd};
-ghost use Rattle.closed_paths.specs.Taken.{Prepared, Room, Finds};
-ghost use Rattle.paths.specs.Search.{Reached};
-use closed_paths::Found;
+ghost use Rattle.closed_paths.specs.Taken.{AsksSearch, Finds};
+ghost use Rattle.search_path.specs.Search.{SearchedArea};
+use closed_paths::Finding;
 use closed_paths::Trend;
+use fit::Numbers;
 
 fn pick(second: bool, a: f64, b: f64) -> f64
     ensures { λ r. ⌜ r ≡ cond second b a ⌝ }
@@ -30,19 +30,16 @@ fn search_polish(
     tol: f64,
     max_iter: u64,
     k: usize,
-) -> Found
-    requires { ⌜ Ready k (now y) (now dy) (searchArea (length (now y))) (length (now work)) × (marksPlaces (length (now y)) ≤ length (now marks)) ⌝ }
-    ensures { λ r. ⌜ ((p : ℕ) → Reached (asking (now (y .entry)) lam tol «max_iter» k p) (now (work .exit)) r)
-        × (Kept 0 (searchArea (length (now (y .entry)))) (now (work .entry)) (now (work .exit))
-        × KeptOf 0 0 (marksPlaces (length (now (y .entry)))) (now (marks .entry)) (now (marks .exit))) ⌝ }
+) -> Finding
+    requires { ⌜ Polishable k (now y) (now dy) (length (now work)) (length (now marks)) ⌝ }
+    ensures { λ r. ⌜ SearchedArea (now (y .entry)) lam tol «max_iter» k (now (work .entry)) (now (work .exit)) (now (marks .entry)) (now (marks .exit)) r ⌝ }
 {
     let r = interior_point::ipm_l1(work, y, dy, lam, tol, max_iter, k);
     let q = polish::polish_l1(work, marks, y, dy, lam, k);
     let second = polish::won(q, r.gap);
     let gap = pick(second, r.gap, q.gap);
     let primal = pick(second, r.primal, q.primal);
-    Found {
-        trend: Trend::Won(second),
+    let s = Numbers {
         gap: gap,
         first_gap: r.first,
         best_gap: r.best,
@@ -50,6 +47,10 @@ fn search_polish(
         n_iter: r.n_iter,
         improvements: r.improvements,
         converged: gap <= tol * primal,
+    };
+    Finding {
+        trend: Trend::Won(second),
+        numbers: s,
     }
 }
 
@@ -63,14 +64,14 @@ pub fn search_path(
     tol: f64,
     max_iter: u64,
     k: usize,
-) -> Found
-    requires { ⌜ Prepared k (now y) (now work) × (Room (length (now y)) (now work) (now cycle) × (marksPlaces (length (now y)) ≤ length (now marks))) ⌝ }
-    ensures { λ r. ⌜ Finds (λ (p : ℕ). pathEnd (asking (now (y .entry)) lam tol «max_iter» k p) (searchOf (asking (now (y .entry)) lam tol «max_iter» k p))) k (now (y .entry))
+) -> Finding
+    requires { ⌜ AsksSearch k (now y) (now work) (now cycle) (now marks) ⌝ }
+    ensures { λ r. ⌜ Finds (λ (p : ℕ). pathEnd (asking (now (y .entry)) lam tol «max_iter» k p) (searchOf (asking (now (y .entry)) lam tol «max_iter» k p))) (now (y .entry))
         (now (work .entry)) (now (work .exit)) (now (cycle .entry)) (now (cycle .exit)) r
         × KeptOf 0 0 (marksPlaces (length (now (y .entry)))) (now (marks .entry)) (now (marks .exit)) ⌝ }
 {
+    closed_paths::differences_to(cycle, work, y, k);
     let n = y.len();
-    closed_paths::differences_to(cycle, work, n, n - k);
     let a = 5 * n;
     let e = 18 * n;
     search_polish(&mut work[a..e], marks, y, cycle, lam, tol, max_iter, k)

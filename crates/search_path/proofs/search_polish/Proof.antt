@@ -14,20 +14,19 @@ use Rattle.vectors.proofs.Parts.{part-below}
 use Rattle.differences.specs.Diff.{diffK, gramRow}
 use Rattle.dual_point.specs.Dual.{Dual}
 use Rattle.dual_point.specs.Lanes.{candidateTrend, searchArea}
-use Rattle.certificate.specs.Certificate.{certify}
 use Rattle.polish.specs.Polish.{polish}
 use Rattle.polish.specs.Places.{isSome}
 use Rattle.questions.specs.Asking.{asking}
-use Rattle.fit.specs.Fit.{searchOf, keptOf}
-use Rattle.paths.proofs.Ways.{kept-of}
-use Rattle.paths.proofs.searched.search_polish.Statement.{statement}
-use Rattle.paths.proofs.searched.search_polish.Tie as tie
+use Rattle.fit.specs.Fit.{certificateAt, searchOf, keptOf}
+use Rattle.search_path.proofs.Kept.{kept-of}
+use Rattle.search_path.proofs.search_polish.Statement.{statement}
+use Rattle.search_path.proofs.search_polish.Tie as tie
 
 polish-l1-requires : tie.Need-polish-l1-requires
 polish-l1-requires c κs = let ip = c .before .before .before .before in
     let h = ip .before .before .before .before .before .before .pre in
-    let r = h .0 in
-    record { ready = record { series = r .series; room = omega (arith, r .room, ip .ipm-l1 .ensures .kept .size); known = r .known }; marked = h .1 }
+    let r = h .ready in
+    record { ready = record { series = r .series; room = omega (arith, r .room, ip .ipm-l1 .ensures .kept .size); known = r .known }; marked = h .marked }
 
 returns : tie.Need-returns
 unfolding searchOf keptOf
@@ -45,12 +44,13 @@ returns c = let pl = c .before .before .before .before .before .before .before i
     let r = ip .ipm-l1 .result in
     let v = pl .polish-l1 .result in
     let s = pl .polish-l1 .last .0 in
-    let of : Dual → Option (List Float) = λ d. polish k (gramRow k) (diffK k y) lam d in (
-      λ penalty.
+    let of : Dual → Option (List Float) = λ d. polish k (gramRow k) (diffK k y) lam d in
+    record {
+      reached = λ penalty.
           let a = asking y lam (p .tol) (p .max-iter) k penalty in
           let d = searchOf a .state .point in
           let t = part-below nan 0 n (g .kept) (omega arith) ∙ f .trend in
-          let e = kept-of a (certify k y lam (d .z)) v s (r .gap) (r .primal) (part 0 n s) (f .gap) (f .primal) t (of d)
+          let e = kept-of a (certificateAt a (d .z)) v s (r .gap) (r .primal) (part 0 n s) (f .gap) (f .primal) t (of d)
           (g .there ∙ ap (λ (u : Dual). isSome (of u)) (f .ends)) (λ z e. g .rated z (ap of (f .ends) ∙ e)) in
           let gap = c .before .pick .ensures ∙ ap (λ (b : Bool). cond b (v .gap) (r .gap)) wo ∙ e .gap-is in
           let primal = c .pick2 .ensures ∙ ap (λ (b : Bool). cond b (v .primal) (r .primal)) wo ∙ e .primal-is in
@@ -58,16 +58,19 @@ returns c = let pl = c .before .before .before .before .before .before .before i
             second = c .before .before .won .result;
             place = refl;
             trend = ap (λ (b : Bool). cond b (part (candidateTrend n) n s) (part 0 n s)) wo ∙ e .trend-is;
-            gap = gap;
-            objective = primal;
-            converged = λ i. le (gap i) (p .tol ⊗ primal i);
-            first = f .first;
-            best = f .best;
-            n-iter = f .n-iter;
-            improvements = f .improvements;
-          },
-      (kept-then 0 (searchArea n) (f .kept) (g .kept) (omega arith) (omega arith) (omega arith) (omega arith), g .marks),
-    )
+            numbers = λ i. record {
+              gap = gap i;
+              «first_gap» = f .first i;
+              «best_gap» = f .best i;
+              objective = primal i;
+              «n_iter» = f .n-iter i;
+              improvements = f .improvements i;
+              converged = le (gap i) (p .tol ⊗ primal i);
+            };
+          };
+      kept = kept-then 0 (searchArea n) (f .kept) (g .kept) (omega arith) (omega arith) (omega arith) (omega arith);
+      marked = g .marks;
+    }
 
 pub search-polish-spec : {M : Type 1} → statement M
 search-polish-spec =

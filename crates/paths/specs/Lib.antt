@@ -1,2 +1,0 @@
--- The definitions that the contracts of paths cite.
-pub mod Search

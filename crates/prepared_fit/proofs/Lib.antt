@@ -1,0 +1,2 @@
+-- The laws of prepared_fit.
+pub mod Laws

@@ -1,0 +1,2 @@
+-- The definitions that the contracts of prepared_fit cite.
+pub mod Fitted

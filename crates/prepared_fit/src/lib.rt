@@ -1,0 +1,87 @@
+// The fit of a prepared series: its path, and what is written of it.
+use closed_paths::Path;
+use closed_paths::Trend;
+use fit::Numbers;
+ghost use mathlib.Core.Path.{_≡_};
+ghost use lib.ListN.{length};
+ghost use Rattle.decomposition.specs.Outputs.{outputs};
+ghost use Rattle.decomposition.specs.Written.{WroteOut};
+ghost use Rattle.questions.specs.Asking.{asking};
+ghost use Rattle.closed_paths.specs.Trends.{trendOf};
+ghost use Rattle.prepared_fit.specs.Fitted.{AsksOut, AsksFit, Fitted};
+
+// A fit's numbers, and how many knots there are.
+pub struct Tally {
+    pub knots: usize,
+    pub numbers: Numbers,
+}
+
+// The path lost a pivot, or what was written of it.
+pub enum Written {
+    Lost,
+    Done(Tally),
+}
+
+// The trend where it stands, its cycle and its knots in the first places of trend, cycle and knots; how many knots there are.
+fn write_found<'a>(
+    trend: &mut [f64],
+    cycle: &mut [f64],
+    knots: &mut [u32],
+    y: &'a [f64],
+    work: &'a [f64],
+    t: Trend,
+    k: usize,
+) -> usize
+    requires { ⌜ AsksOut k (now y) (now work) t (outputs (now trend) (now cycle) (now knots)) ⌝ }
+    ensures { λ r. ⌜ WroteOut k (now (y .entry)) (trendOf (now (y .entry)) (now (work .entry)) t) r
+        (outputs (now (trend .entry)) (now (cycle .entry)) (now (knots .entry))) (outputs (now (trend .exit)) (now (cycle .exit)) (now (knots .exit))) ⌝ }
+{
+    let x = paths::trend_of(y, work, t);
+    decomposition::write_out(trend, cycle, knots, y, x, k)
+}
+
+// The path of a prepared series, and what is written of it.
+pub fn fit_prepared(
+    trend: &mut [f64],
+    cycle: &mut [f64],
+    knots: &mut [u32],
+    work: &mut [f64],
+    marks: &mut [u32],
+    y: &[f64],
+    lam: f64,
+    tol: f64,
+    max_iter: u64,
+    k: usize,
+    penalty: u32,
+    lam_max: f64,
+) -> Written
+    requires { ⌜ AsksFit k (now y) «lam_max» (outputs (now trend) (now cycle) (now knots)) (now work) (now marks) ⌝ }
+    ensures { λ r. ⌜ Fitted (asking (now (y .entry)) lam tol «max_iter» k penalty) r
+        (outputs (now (trend .entry)) (now (cycle .entry)) (now (knots .entry))) (outputs (now (trend .exit)) (now (cycle .exit)) (now (knots .exit)))
+        (now (work .entry)) (now (work .exit)) (now (marks .entry)) (now (marks .exit)) ⌝ }
+{
+    let p = paths::take_path(
+        work,
+        marks,
+        cycle,
+        y,
+        lam,
+        tol,
+        max_iter,
+        k,
+        penalty,
+        lam_max,
+    );
+    match p {
+        Path::Lost => Written::Lost,
+        Path::Done(f) => {
+            let t = f.trend;
+            let s = f.numbers;
+            let count = write_found(trend, cycle, knots, y, work, t, k);
+            Written::Done(Tally {
+                knots: count,
+                numbers: s,
+            })
+        }
+    }
+}

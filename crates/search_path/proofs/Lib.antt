@@ -1,0 +1,3 @@
+-- The laws of search_path.
+pub mod Kept
+pub mod Areas

@@ -1,0 +1,2 @@
+-- The definitions that the contracts of search_path cite.
+pub mod Search
