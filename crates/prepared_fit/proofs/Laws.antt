@@ -1,5 +1,5 @@
 -- A path that was lost, and one whose trend was written out. Assumes nothing.
-use mathlib.Core.Path.{_≡_, refl, sym, ap, ap₂, subst, _∙_}
+use mathlib.Core.Path.{_≡_, sym, ap, subst, _∙_}
 use mathlib.Core.List.{List, _++_}
 use mathlib.Core.Option.{none, some}
 use Prim.Native.Nat.{ℕ, _+_, _≤_}
@@ -8,16 +8,12 @@ use lib.ListN.{length, drop, length-drop}
 use lib.Seq.{ext-getD, getD-drop}
 use lib.Ieee.{Float, nan}
 use Rattle.vectors.specs.Vec.{put, Kept, KeptOf}
-use Rattle.differences.specs.Diff.{diffK}
-use Rattle.gram.specs.Prepared.{preparation}
-use Rattle.dual_point.specs.Lanes.{searchArea}
 use Rattle.certificate.specs.Certificate.{minus}
 use Rattle.certificate.proofs.Laws.{length-minus}
-use Rattle.decomposition.specs.Knots.{knots as knotsOf}
-use Rattle.decomposition.specs.Outputs.{Outputs, outputs}
+use Rattle.decomposition.specs.Outputs.{outputs}
 use Rattle.decomposition.specs.Written.{WroteOut}
 use Rattle.questions.specs.Questions.{Asked, marksPlaces}
-use Rattle.fit.specs.Fit.{Found, path, written, outcome, after}
+use Rattle.fit.specs.Fit.{path, written, outcome, after}
 use Rattle.closed_paths.specs.declared.Finding.{Finding}
 use Rattle.closed_paths.specs.declared.Path.{Path}
 use Rattle.closed_paths.specs.declared.Path.the-variants as path

@@ -2,8 +2,6 @@
 use closed_paths::Path;
 use closed_paths::Trend;
 use fit::Numbers;
-ghost use mathlib.Core.Path.{_≡_};
-ghost use lib.ListN.{length};
 ghost use Rattle.decomposition.specs.Outputs.{outputs};
 ghost use Rattle.decomposition.specs.Written.{WroteOut};
 ghost use Rattle.questions.specs.Asking.{asking};

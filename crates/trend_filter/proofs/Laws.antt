@@ -8,18 +8,16 @@ use native.Mathlib.Omega.{arith}
 use lib.ListN.{length}
 use lib.Ieee.{Float}
 use Rattle.float64.proofs.Clash.{clash}
-use Rattle.vectors.specs.Vec.{Kept}
 use Rattle.vectors.proofs.Laws.{kept-none, kept-then}
 use Rattle.decomposition.specs.Outputs.{Outputs}
 use Rattle.questions.specs.Questions.{Asked, Lent, workPlaces, marksPlaces, question}
 use Rattle.questions.proofs.Laws.{passed}
-use Rattle.fit.specs.Fit.{Found, Outcome, refused, fitted, lamMaxOf, path, written, outcome, soundDD, fit, after}
+use Rattle.fit.specs.Fit.{Found, Outcome, refused, lamMaxOf, path, written, outcome, soundDD, fit, after}
 use Rattle.fit.proofs.Lengths.{lengths}
 use Rattle.fit.proofs.Demand3.{bounds}
 use Rattle.fit.proofs.Passed.{fit-passed}
 use Rattle.prepared_fit.specs.declared.Written.{Written}
 use Rattle.prepared_fit.specs.Fitted.{AsksFit, tallied, Fitted}
-use Rattle.trend_filter.specs.declared.Answer.{Answer}
 use Rattle.trend_filter.specs.declared.Answer.the-variants.{Refused}
 use Rattle.trend_filter.specs.declared.Begun.{Begun}
 use Rattle.trend_filter.specs.declared.Begun.the-variants.{Stopped, Ready}

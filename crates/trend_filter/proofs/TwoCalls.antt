@@ -1,7 +1,7 @@
 -- Two calls alike but for max_iter and for the buffers agree. Assumes nothing.
 use mathlib.Core.Path.{_≡_, refl, sym, ap, _∙_}
 use mathlib.Core.List.{List}
-use Prim.Native.Nat.{ℕ, _+_, _<_}
+use Prim.Native.Nat.{ℕ, _+_}
 use native.Mathlib.Omega.{arith}
 use lib.ListN.{length, take, drop}
 use lib.Seq.{take-at}
@@ -14,7 +14,7 @@ use Rattle.fit.proofs.Demand3 as demand
 use Rattle.trend_filter.specs.declared.Summary.{Summary}
 use Rattle.trend_filter.specs.declared.Answer.{Answer}
 use Rattle.trend_filter.specs.declared.Answer.the-variants.{Fit}
-use Rattle.trend_filter.specs.Answers.{Buffers, lent, summaryOf, answerOf, Answered}
+use Rattle.trend_filter.specs.Answers.{Buffers, lent, summaryOf, answerOf}
 use Rattle.trend_filter.specs.TwoCalls.{TwoCalls, SamePlaces, Agree, Agreement}
 
 -- a fit reads the lengths lent in questions 8 and 9 alone
