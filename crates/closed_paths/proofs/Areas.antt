@@ -1,19 +1,17 @@
 -- Calls on an area of work: the certificate at z*, L2's system and its objectives, and what each leaves. Assumes nothing.
 use mathlib.Core.Path.{_≡_, refl, sym, ap, subst, _∙_}
 use mathlib.Core.Bool.{Bool, true, false}
-use mathlib.Core.List.{List, _++_}
+use mathlib.Core.List.{List}
 use mathlib.Core.Option.{Option, none, some}
 use Prim.Native.Nat.{ℕ, _+_, _-_, _*_, _≤_}
 use native.Mathlib.Nat.{add-zero, mul-le-mul-left}
 use native.Mathlib.Omega.{arith}
 use lib.Dec.{T}
-use lib.ListN.{length, take, drop, length-append, length-drop}
-use lib.Seq.{take-at, drop-at, drop-drop}
+use lib.ListN.{length, take, drop}
 use lib.Ieee.{Float, nan}
-use Rattle.vectors.specs.Vec.{part, put, Kept}
+use Rattle.vectors.specs.Vec.{part, Kept}
 use Rattle.vectors.proofs.Laws.{kept-none, kept-then}
-use Rattle.vectors.proofs.Parts.{length-part, putBack, partOf-range, part-put, part-below, kept-drop}
-use Rattle.differences.specs.Diff.{diffK}
+use Rattle.vectors.proofs.Parts.{length-part, putBack, partOf-range, part-put, part-below}
 use Rattle.certificate.specs.Certificate.{certify}
 use Rattle.certificate.specs.Run.{dualOf, Certified}
 use Rattle.dual_point.specs.Lanes.{candidateTrend}

@@ -16,7 +16,7 @@ use Rattle.interior_point.specs.InteriorPoint.{State, problem, origin, interior
 use Rattle.l2.specs.L2.{soundL2}
 use Rattle.questions.specs.Questions.{Asked, Lent, question}
 use Rattle.questions.proofs.Laws as questions
-use Rattle.fit.specs.Fit.{Found, FitResult, Outcome, refused, fitted, places, closed, pathL2, pathZero, pathFlat, polished, searchOf, keptOf, foundWith, pathEnd, lamZero, lamHigh, pathL1, path, written, outcome, soundDD, fit}
+use Rattle.fit.specs.Fit.{Found, FitResult, Outcome, refused, fitted, places, closed, pathL2, pathZero, pathFlat, polished, searchOf, keptOf, pathEnd, lamZero, lamHigh, pathL1, path, written, outcome, soundDD, fit}
 use Rattle.fit.specs.Demand3.{Bounds, withMaxIter, Demand3}
 use Rattle.fit.proofs.Sign.{tol-positive, lam-positive, primal-clear}
 use Rattle.fit.proofs.Passed.{same-questions, fit-passed, outcome-some, passed}
@@ -100,7 +100,7 @@ polished-other m a c (some z) = refl
 
 end-other : (m : ℕ) (a : Asked) (e : Ended State) → pathEnd (withMaxIter m a) e ≡ pathEnd a e
 unfolding pathEnd keptOf
-end-other m a e = ap (λ (c : Certificate). foundWith a c e) (polished-other m a _ _)
+end-other m a e = rw polished-other
 
 -- what the path finds, given where the search ended
 abbrev pathWith : Asked → Found → Option Found

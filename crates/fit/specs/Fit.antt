@@ -91,24 +91,22 @@ searchOf a = interiorPoint (a .order) (gramRow (a .order)) (places a) (a .y) (a 
 unfoldable pub keptOf : Asked → Ended State → Certificate
 keptOf a e = let k = a .order in polished a (certificateAt a (e .state .point .z)) (polish k (gramRow k) (diffK k (a .y)) (a .lam) (e .state .point))
 
--- L1 with 0 < lam < lam_max: what is found where the search ended at e and the certificate c is kept
-abbrev pub foundWith : Asked → Certificate → Ended State → Found
-foundWith a c e = record {
-  trend = c .trend;
-  numbers = record {
-    gap = gapOf c;
-    «first_gap» = e .first;
-    «best_gap» = e .best;
-    objective = c .primal;
-    «n_iter» = e .n-iter;
-    improvements = e .improvements;
-    converged = le (gapOf c) (a .tol ⊗ c .primal);
-  };
-}
-
--- the search that ended at e, then the polish
+-- L1 with 0 < lam < lam_max: the search that ended at e, then the polish
 unfoldable pub pathEnd : Asked → Ended State → Found
-pathEnd a e = foundWith a (keptOf a e) e
+pathEnd a e =
+    let c = keptOf a e in
+    record {
+      trend = c .trend;
+      numbers = record {
+        gap = gapOf c;
+        «first_gap» = e .first;
+        «best_gap» = e .best;
+        objective = c .primal;
+        «n_iter» = e .n-iter;
+        improvements = e .improvements;
+        converged = le (gapOf c) (a .tol ⊗ c .primal);
+      };
+    }
 
 -- whether lam is 0 or -0, which is tested before lam_max
 abbrev pub lamZero : Asked → Bool

@@ -36,8 +36,8 @@ abbrev pub usual : ℕ → ℕ → Float → List Float → Asked
 usual order penalty lam y = record { y = y; lam = lam; tol = ofBits binary64 0x3e45_798e_e230_8c3a; max-iter = 100; order = order; penalty = penalty }
 
 -- what a series of n asks for
-abbrev pub enough : ℕ → Lent
-enough n = record { trend = n; cycle = n; knots = n; work = workPlaces n; marks = marksPlaces n }
+abbrev pub roomFor : ℕ → Lent
+roomFor n = record { trend = n; cycle = n; knots = n; work = workPlaces n; marks = marksPlaces n }
 
 -- the outcome of a closed path whose three gaps are 0: no iteration and no improvement
 abbrev pub flat : List Float → List Float → List ℕ → Float → Float → Outcome
@@ -55,22 +55,22 @@ hours = whole 8000 ∷ whole 0 ∷ []
 abbrev pub table : List Case
 table =
     -- the listing
-    record { asked = usual 1 1 (whole 4000) hours; lent = enough 2; outcome = flat (whole 4000 ∷ whole 4000 ∷ []) (whole 4000 ∷ neg (whole 4000) ∷ []) [] (whole 4000) (whole 16000000) }
+    record { asked = usual 1 1 (whole 4000) hours; lent = roomFor 2; outcome = flat (whole 4000 ∷ whole 4000 ∷ []) (whole 4000 ∷ neg (whole 4000) ∷ []) [] (whole 4000) (whole 16000000) }
     -- the same with lam 0 and -0
-    ∷ record { asked = usual 1 1 (whole 0) hours; lent = enough 2; outcome = flat hours (whole 0 ∷ whole 0 ∷ []) (0 ∷ []) (whole 4000) (whole 0) }
-    ∷ record { asked = usual 1 1 (neg (whole 0)) hours; lent = enough 2; outcome = flat hours (whole 0 ∷ whole 0 ∷ []) (0 ∷ []) (whole 4000) (whole 0) }
+    ∷ record { asked = usual 1 1 (whole 0) hours; lent = roomFor 2; outcome = flat hours (whole 0 ∷ whole 0 ∷ []) (0 ∷ []) (whole 4000) (whole 0) }
+    ∷ record { asked = usual 1 1 (neg (whole 0)) hours; lent = roomFor 2; outcome = flat hours (whole 0 ∷ whole 0 ∷ []) (0 ∷ []) (whole 4000) (whole 0) }
     -- L2 with lam 1
-    ∷ record { asked = usual 1 2 (whole 1) (whole 6 ∷ whole 0 ∷ []); lent = enough 2; outcome = flat (whole 4 ∷ whole 2 ∷ []) (whole 2 ∷ neg (whole 2) ∷ []) (0 ∷ []) (whole 3) (whole 6) }
-    ∷ record { asked = usual 1 2 (whole 1) (whole 4 ∷ whole 4 ∷ []); lent = enough 2; outcome = flat (whole 4 ∷ whole 4 ∷ []) (whole 0 ∷ whole 0 ∷ []) [] (whole 0) (whole 0) }
+    ∷ record { asked = usual 1 2 (whole 1) (whole 6 ∷ whole 0 ∷ []); lent = roomFor 2; outcome = flat (whole 4 ∷ whole 2 ∷ []) (whole 2 ∷ neg (whole 2) ∷ []) (0 ∷ []) (whole 3) (whole 6) }
+    ∷ record { asked = usual 1 2 (whole 1) (whole 4 ∷ whole 4 ∷ []); lent = roomFor 2; outcome = flat (whole 4 ∷ whole 4 ∷ []) (whole 0 ∷ whole 0 ∷ []) [] (whole 0) (whole 0) }
     -- order 2 with n 2, and with n 3
-    ∷ record { asked = usual 2 1 (whole 1) hours; lent = enough 2; outcome = refused 2 }
-    ∷ record { asked = usual 2 1 (whole 1) zeros; lent = enough 3; outcome = flat zeros zeros [] (whole 0) (whole 0) }
+    ∷ record { asked = usual 2 1 (whole 1) hours; lent = roomFor 2; outcome = refused 2 }
+    ∷ record { asked = usual 2 1 (whole 1) zeros; lent = roomFor 3; outcome = flat zeros zeros [] (whole 0) (whole 0) }
     -- a NaN in y and lam -1
-    ∷ record { asked = usual 1 1 (neg (whole 1)) (whole 8000 ∷ nan ∷ []); lent = enough 2; outcome = refused 4 }
+    ∷ record { asked = usual 1 1 (neg (whole 1)) (whole 8000 ∷ nan ∷ []); lent = roomFor 2; outcome = refused 4 }
     -- lam -5e-324
-    ∷ record { asked = usual 1 1 (ofBits binary64 0x8000_0000_0000_0001) hours; lent = enough 2; outcome = refused 5 }
+    ∷ record { asked = usual 1 1 (ofBits binary64 0x8000_0000_0000_0001) hours; lent = roomFor 2; outcome = refused 5 }
     -- L2, order 2, lam 1e308
-    ∷ record { asked = usual 2 2 (ofBits binary64 0x7fe1_ccf3_85eb_c8a0) zeros; lent = enough 3; outcome = refused 10 }
+    ∷ record { asked = usual 2 2 (ofBits binary64 0x7fe1_ccf3_85eb_c8a0) zeros; lent = roomFor 3; outcome = refused 10 }
     ∷ []
 
 -- 4, 2^-1074 and 1 + 2^-52

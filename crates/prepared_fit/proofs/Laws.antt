@@ -1,5 +1,6 @@
--- A path that was lost, and one whose trend was written out. Assumes nothing.
-use mathlib.Core.Path.{_≡_, refl, sym, ap, ap₂, subst, _∙_}
+-- A bad pivot of D D'; a path that was lost, and one whose trend was written out. Assumes nothing.
+use mathlib.Core.Path.{_≡_, sym, ap, subst, _∙_}
+use mathlib.Core.Bool.{Bool, false, cond}
 use mathlib.Core.List.{List, _++_}
 use mathlib.Core.Option.{none, some}
 use Prim.Native.Nat.{ℕ, _+_, _≤_}
@@ -8,16 +9,13 @@ use lib.ListN.{length, drop, length-drop}
 use lib.Seq.{ext-getD, getD-drop}
 use lib.Ieee.{Float, nan}
 use Rattle.vectors.specs.Vec.{put, Kept, KeptOf}
-use Rattle.differences.specs.Diff.{diffK}
-use Rattle.gram.specs.Prepared.{preparation}
-use Rattle.dual_point.specs.Lanes.{searchArea}
 use Rattle.certificate.specs.Certificate.{minus}
 use Rattle.certificate.proofs.Laws.{length-minus}
-use Rattle.decomposition.specs.Knots.{knots as knotsOf}
-use Rattle.decomposition.specs.Outputs.{Outputs, outputs}
+use Rattle.decomposition.specs.Outputs.{outputs}
 use Rattle.decomposition.specs.Written.{WroteOut}
-use Rattle.questions.specs.Questions.{Asked, marksPlaces}
-use Rattle.fit.specs.Fit.{Found, path, written, outcome, after}
+use Rattle.questions.specs.Questions.{Asked, Lent, marksPlaces, question}
+use Rattle.fit.specs.Fit.{refused, path, written, outcome, soundDD, fit, after}
+use Rattle.fit.proofs.Passed.{fit-passed}
 use Rattle.closed_paths.specs.declared.Finding.{Finding}
 use Rattle.closed_paths.specs.declared.Path.{Path}
 use Rattle.closed_paths.specs.declared.Path.the-variants as path
@@ -25,6 +23,10 @@ use Rattle.closed_paths.specs.Trends.{trendOf, foundOf, reach, said, reached}
 use Rattle.closed_paths.specs.Taken.{Took}
 use Rattle.prepared_fit.specs.declared.Written.the-variants.{Lost, Done}
 use Rattle.prepared_fit.specs.Fitted.{tallied, Fitted}
+
+-- a bad pivot of D D'
+pub unsound-fit : (a : Asked) (l : Lent) → question a l ≡ 0 → soundDD a ≡ false → fit a l ≡ refused 10
+unsound-fit a l e s = fit-passed a l e ∙ ap (λ (b : Bool). cond b (outcome a (path a)) (refused 10)) s
 
 -- how far a found trend reaches
 pub reach-found : (r : Path) (f : Finding) (n w : ℕ) → r ≡ path.Done f → reached r n ≤ w → reach (f .trend) n ≤ w

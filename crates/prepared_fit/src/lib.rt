@@ -1,14 +1,60 @@
-// The fit of a prepared series: its path, and what is written of it.
+// The questions and the preparation of a series; then the fit of a prepared series: its path, and what is written of it.
 use closed_paths::Path;
 use closed_paths::Trend;
 use fit::Numbers;
-ghost use mathlib.Core.Path.{_≡_};
 ghost use lib.ListN.{length};
 ghost use Rattle.decomposition.specs.Outputs.{outputs};
 ghost use Rattle.decomposition.specs.Written.{WroteOut};
-ghost use Rattle.questions.specs.Asking.{asking};
+ghost use Rattle.questions.specs.Asking.{asking, lending};
 ghost use Rattle.closed_paths.specs.Trends.{trendOf};
+ghost use Rattle.prepared_fit.specs.Begun.{Begins};
 ghost use Rattle.prepared_fit.specs.Fitted.{AsksOut, AsksFit, Fitted};
+
+// A refusal's number, or lam_max of the series, which is prepared.
+pub enum Begun {
+    Stopped(u32),
+    Ready(f64),
+}
+
+// The questions, then the preparation at the start of work. trend, cycle, knots and marks are the lengths lent.
+pub fn begin(
+    work: &mut [f64],
+    y: &[f64],
+    lam: f64,
+    tol: f64,
+    max_iter: u64,
+    order: u32,
+    penalty: u32,
+    trend: usize,
+    cycle: usize,
+    knots: usize,
+    marks: usize,
+) -> Begun
+    ensures { λ r. ⌜ Begins (asking (now (y .entry)) lam tol «max_iter» order penalty) (lending trend cycle knots (length (now (work .entry))) marks)
+        (now (work .entry)) (now (work .exit)) r ⌝ }
+{
+    let q = questions::question(
+        y,
+        lam,
+        tol,
+        max_iter,
+        order,
+        penalty,
+        trend,
+        cycle,
+        knots,
+        work.len(),
+        marks,
+    );
+    if q != 0 {
+        return Begun::Stopped(q);
+    }
+    let p = gram::prepare(work, y, order as usize);
+    if !p.good {
+        return Begun::Stopped(10);
+    }
+    Begun::Ready(p.top)
+}
 
 // A fit's numbers, and how many knots there are.
 pub struct Tally {

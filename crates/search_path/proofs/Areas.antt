@@ -15,13 +15,13 @@ use Rattle.questions.specs.Questions.{Asked}
 use Rattle.fit.specs.Fit.{searchOf, pathEnd}
 use Rattle.closed_paths.specs.declared.Finding.{Finding}
 use Rattle.closed_paths.specs.Trends.{trendOf, foundOf}
-use Rattle.search_path.specs.Search.{wonOf, Reached}
+use Rattle.search_path.specs.Search.{Reached}
 
 module _ (a : Asked) (w x : List Float) (r : Finding) (fits : preparation (length (a .y)) + searchArea (length (a .y)) ≤ length w) (size : length x ≡ searchArea (length (a .y))) (h : Reached a x r) where
   abbrev after : List Float
   after = putBack (preparation (length (a .y))) (searchArea (length (a .y))) w x
 
-  won-trend : trendOf (a .y) after (r .trend) ≡ wonOf a .trend
+  won-trend : trendOf (a .y) after (r .trend) ≡ pathEnd a (searchOf a) .trend
   unfolding trendOf
   won-trend =
       let n = length (a .y) in

@@ -6,24 +6,19 @@ use Prim.Native.Nat.{ℕ}
 use lib.ListN.{length}
 use lib.Ieee.{Float}
 use Rattle.vectors.specs.Vec.{part, Kept, KeptOf}
-use Rattle.certificate.specs.Certificate.{Certificate}
 use Rattle.dual_point.specs.Lanes.{candidateTrend, searchArea}
 use Rattle.questions.specs.Questions.{Asked, marksPlaces}
 use Rattle.questions.specs.Asking.{asking}
-use Rattle.fit.specs.Fit.{searchOf, keptOf, foundWith}
+use Rattle.fit.specs.Fit.{searchOf, pathEnd}
 use Rattle.closed_paths.specs.declared.Trend.the-variants.{Won}
 use Rattle.closed_paths.specs.declared.Finding.{Finding}
 
--- the certificate that is kept
-abbrev pub wonOf : Asked → Certificate
-wonOf a = keptOf a (searchOf a)
-
--- r has its numbers, and says which of the two trends in the area s is its trend: the candidate's or the iterate's, at the start
+-- r has the numbers of the path, and says which of the two trends in the area s is its trend: the candidate's or the iterate's, at the start
 pub record Reached (a : Asked) (s : List Float) (r : Finding) : Type 0 where
   pub second : Bool
   pub place : r .trend ≡ Won second
-  pub trend : cond second (part (candidateTrend (length (a .y))) (length (a .y)) s) (part 0 (length (a .y)) s) ≡ wonOf a .trend
-  pub numbers : r .numbers ≡ foundWith a (wonOf a) (searchOf a) .numbers
+  pub trend : cond second (part (candidateTrend (length (a .y))) (length (a .y)) s) (part 0 (length (a .y)) s) ≡ pathEnd a (searchOf a) .trend
+  pub numbers : r .numbers ≡ pathEnd a (searchOf a) .numbers
 
 -- the same for whatever penalty is asked; all else in the area's run is as found, and so are the marks behind the first 2·n
 pub record SearchedArea (y : List Float) (lam tol : Float) (max-iter k : ℕ) (s₀ s : List Float) (marks₀ marks : List ℕ) (r : Finding) : Type 0 where

@@ -8,23 +8,22 @@ use native.Mathlib.Omega.{arith}
 use lib.ListN.{length}
 use lib.Ieee.{Float}
 use Rattle.float64.proofs.Clash.{clash}
-use Rattle.vectors.specs.Vec.{Kept}
 use Rattle.vectors.proofs.Laws.{kept-none, kept-then}
 use Rattle.decomposition.specs.Outputs.{Outputs}
 use Rattle.questions.specs.Questions.{Asked, Lent, workPlaces, marksPlaces, question}
 use Rattle.questions.proofs.Laws.{passed}
-use Rattle.fit.specs.Fit.{Found, Outcome, refused, fitted, lamMaxOf, path, written, outcome, soundDD, fit, after}
+use Rattle.fit.specs.Fit.{Found, Outcome, refused, lamMaxOf, path, written, outcome, soundDD, fit, after}
 use Rattle.fit.proofs.Lengths.{lengths}
 use Rattle.fit.proofs.Demand3.{bounds}
 use Rattle.fit.proofs.Passed.{fit-passed}
 use Rattle.prepared_fit.specs.declared.Written.{Written}
+use Rattle.prepared_fit.specs.Begun.{Stops, Readies, Begins}
 use Rattle.prepared_fit.specs.Fitted.{AsksFit, tallied, Fitted}
-use Rattle.trend_filter.specs.declared.Answer.{Answer}
 use Rattle.trend_filter.specs.declared.Answer.the-variants.{Refused}
-use Rattle.trend_filter.specs.declared.Begun.{Begun}
-use Rattle.trend_filter.specs.declared.Begun.the-variants.{Stopped, Ready}
+use Rattle.prepared_fit.specs.declared.Begun.{Begun}
+use Rattle.prepared_fit.specs.declared.Begun.the-variants.{Stopped, Ready}
 use Rattle.trend_filter.specs.Answers.{Buffers, lent, summaryOf, answerOf, early, Gives, Answered}
-use Rattle.trend_filter.specs.Inner.{Stops, Readies, Begins, toldOf}
+use Rattle.trend_filter.specs.Inner.{toldOf}
 
 -- ---- past the questions
 
@@ -37,16 +36,13 @@ pick-late : (b : Bool) (o p : Outcome) → early o ≡ false → early p ≡ fal
 pick-late true o p x y = x
 pick-late false o p x y = y
 
-pub not-early : (a : Asked) (l : Lent) → question a l ≡ 0 → early (fit a l) ≡ true → ⊥
+not-early : (a : Asked) (l : Lent) → question a l ≡ 0 → early (fit a l) ≡ true → ⊥
 unfolding early
 not-early a l e t = clash t (ap early (fit-passed a l e) ∙ pick-late (soundDD a) (outcome a (path a)) (refused 10) (late-outcome a (path a)) refl)
 
 -- the preparation
-pub sound-fit : (a : Asked) (l : Lent) → question a l ≡ 0 → soundDD a ≡ true → fit a l ≡ outcome a (path a)
+sound-fit : (a : Asked) (l : Lent) → question a l ≡ 0 → soundDD a ≡ true → fit a l ≡ outcome a (path a)
 sound-fit a l e s = fit-passed a l e ∙ ap (λ (b : Bool). cond b (outcome a (path a)) (refused 10)) s
-
-pub unsound-fit : (a : Asked) (l : Lent) → question a l ≡ 0 → soundDD a ≡ false → fit a l ≡ refused 10
-unsound-fit a l e s = fit-passed a l e ∙ ap (λ (b : Bool). cond b (outcome a (path a)) (refused 10)) s
 
 -- which way a call began
 pub stops : {a : Asked} {l : Lent} {w₀ w : List Float} {b : Begun} {q : ℕ} → b ≡ Stopped q → Begins a l w₀ w b → Stops a l w₀ w q
@@ -67,10 +63,10 @@ same-told a (some f) = refl
 module _ (a : Asked) (b : Buffers) (w : List Float) where
   -- a refusal: trend, cycle and knots are as found
   pub answered-refused : (q : ℕ) → Stops a (lent b) (b .work) w q → Answered a (Refused q) b (record { out = b .out; work = w; marks = b .marks })
-  unfolding answerOf after
+  unfolding answerOf after early
   answered-refused q s = record {
     gives = subst (λ (o : Outcome). Gives o (Refused q) (b .out) (b .out)) (sym (s .refuses)) (record { answer = refl; out = refl });
-    unused = λ e. (s .unused e, refl);
+    unused = λ e. (s .unused (sym (ap early (s .refuses)) ∙ e), refl);
     scratch = record { work = s .kept; marks = kept-none 0 (marksPlaces (length (a .y))) (b .marks) };
     sizes = lengths a (lent b);
     bounds = bounds a (lent b);

@@ -1,7 +1,7 @@
 -- Two calls alike but for max_iter and for the buffers agree. Assumes nothing.
 use mathlib.Core.Path.{_≡_, refl, sym, ap, _∙_}
 use mathlib.Core.List.{List}
-use Prim.Native.Nat.{ℕ, _+_, _<_}
+use Prim.Native.Nat.{ℕ, _+_}
 use native.Mathlib.Omega.{arith}
 use lib.ListN.{length, take, drop}
 use lib.Seq.{take-at}
@@ -14,8 +14,8 @@ use Rattle.fit.proofs.Demand3 as demand
 use Rattle.trend_filter.specs.declared.Summary.{Summary}
 use Rattle.trend_filter.specs.declared.Answer.{Answer}
 use Rattle.trend_filter.specs.declared.Answer.the-variants.{Fit}
-use Rattle.trend_filter.specs.Answers.{Buffers, lent, summaryOf, answerOf, Answered}
-use Rattle.trend_filter.specs.TwoCalls.{TwoCalls, SamePlaces, Agree, Agreement}
+use Rattle.trend_filter.specs.Answers.{Buffers, lent, summaryOf, answerOf}
+use Rattle.trend_filter.specs.TwoCalls.{TwoCalls, SamePlaces, Agree, Agreement, TwoCallsAgree}
 
 -- a fit reads the lengths lent in questions 8 and 9 alone
 same-lent : (a : Asked) (l k : Lent) → room (length (a .y)) l ≡ room (length (a .y)) k → fit a l ≡ fit a k
@@ -69,11 +69,14 @@ module _ (a : Asked) (other : ℕ) (r s : Answer) (b c d e : Buffers) (h : TwoCa
             (first .out ∙ ap (λ (o : Outcome). after o (b .out)) (g .is)) (second .out ∙ ap (λ (o : Outcome). after o (d .out)) (same ∙ g .is)));
       }
 
-  pub agreement : Agreement a other r s c e
-  agreement = record {
+  agreed : Agreement a other r s c e
+  agreed = record {
     alike = λ x t low one g.
         let f = came (fit a (lent b)) x (sym (h .first .gives .answer) ∙ t) in
         let n = steps-told (f .result) x (f .told) in
         agree (demand.alike a (lent b) (f .result) (f .is) (rw n low) other one (rw n g) ∙ sym (f .is));
     settled = λ low high. agree (demand.settled a (lent b) other (a .max-iter) high low);
   }
+
+pub agreement : TwoCallsAgree
+agreement a other r s b c d e h = agreed a other r s b c d e h

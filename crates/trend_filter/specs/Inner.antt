@@ -1,43 +1,10 @@
--- What the functions below the entry leave. n is the length of the series. For the contracts inside this crate.
-use mathlib.Core.Path.{_≡_}
-use mathlib.Core.Bool.{true}
-use mathlib.Core.List.{List}
-use Prim.Native.Nat.{ℕ, _-_}
-use lib.ListN.{length}
+-- What the function below the entry answers. For the contracts inside this crate.
 use lib.Ieee.{Float}
-use Rattle.vectors.specs.Vec.{part, Kept}
-use Rattle.differences.specs.Diff.{diffK, gramRow}
-use Rattle.gram.specs.Gram.{zstar}
-use Rattle.gram.specs.Prepared.{starLane, diffLane, preparation}
-use Rattle.questions.specs.Questions.{Asked, Lent, workPlaces, question}
-use Rattle.fit.specs.Fit.{refused, places, lamMaxOf, soundDD, fit}
 use Rattle.prepared_fit.specs.declared.Written.{Written}
 use Rattle.prepared_fit.specs.declared.Written.the-variants.{Lost, Done}
 use Rattle.trend_filter.specs.declared.Answer.{Answer}
 use Rattle.trend_filter.specs.declared.Answer.the-variants.{Fit, Refused}
-use Rattle.trend_filter.specs.declared.Begun.{Begun}
-use Rattle.trend_filter.specs.declared.Begun.the-variants.{Stopped, Ready}
-use Rattle.trend_filter.specs.Answers.{summed, early}
-
--- the call is refused with q
-pub record Stops (a : Asked) (l : Lent) (w₀ w : List Float) (q : ℕ) : Type 0 where
-  pub refuses : fit a l ≡ refused q
-  pub unused : early (fit a l) ≡ true → w ≡ w₀
-  pub kept : Kept 0 (workPlaces (length (a .y))) w₀ w
-
--- the questions are passed, the series is prepared at the start of w, and top is lam_max
-pub record Readies (a : Asked) (l : Lent) (w₀ w : List Float) (top : Float) : Type 0 where
-  pub passes : question a l ≡ 0
-  pub sound : soundDD a ≡ true
-  pub star : part (starLane (a .order) (length (a .y))) (places a) w ≡ zstar (a .order) (gramRow (a .order)) (places a) (a .y)
-  pub differences : part (diffLane (length (a .y))) (places a) w ≡ diffK (a .order) (a .y)
-  pub top-is : top ≡ lamMaxOf a
-  pub kept : Kept 0 (preparation (length (a .y))) w₀ w
-
--- one of the two
-unfoldable pub Begins : Asked → Lent → List Float → List Float → Begun → Type 0
-Begins a l w₀ w (Stopped q) = Stops a l w₀ w q
-Begins a l w₀ w (Ready top) = Readies a l w₀ w top
+use Rattle.trend_filter.specs.Answers.{summed}
 
 -- what a caller is told of a prepared series, whose lam_max is top
 unfoldable pub toldOf : Float → Written → Answer

@@ -34,3 +34,7 @@ pub record Agreement (a : Asked) (other : ℕ) (r s : Answer) (c e : Buffers) : 
   pub alike : (x : Summary) → r ≡ Fit x → x .«n_iter» < a .max-iter → 1 ≤ other → x .«n_iter» ≤ other → Agree a r s c e
   -- If both limits are above 1,447,640, they agree, be it in a fit or in a refusal.
   pub settled : 1447640 < a .max-iter → 1447640 < other → Agree a r s c e
+
+-- of any two such calls
+abbrev pub TwoCallsAgree : Type 0
+TwoCallsAgree = (a : Asked) (other : ℕ) (r s : Answer) (b c d e : Buffers) → TwoCalls a other r s b c d e → Agreement a other r s c e

@@ -1,13 +1,13 @@
-// The trend of a series: the questions and the preparation, then the path and what is written out, each once.
+// The trend of a series: the questions and the preparation, then the fit of what is prepared, each once (crate prepared_fit).
 pub mod c;
 
 use fit::Numbers;
+use prepared_fit::Begun;
 use prepared_fit::Written;
 ghost use mathlib.Core.Path.{_≡_};
-ghost use lib.ListN.{length};
-ghost use Rattle.questions.specs.Asking.{asking, lending};
+ghost use Rattle.questions.specs.Asking.{asking};
 ghost use Rattle.trend_filter.specs.Answers.{buffers, summed as summed_of, Answered};
-ghost use Rattle.trend_filter.specs.Inner.{Begins, toldOf};
+ghost use Rattle.trend_filter.specs.Inner.{toldOf};
 
 // penalty 1 is L1, 2 is L2.
 pub struct TrendFilterOptions {
@@ -65,49 +65,6 @@ fn told(w: Written, lam_max: f64) -> Answer
     }
 }
 
-// A refusal's number, or lam_max of the series, which is prepared.
-enum Begun {
-    Stopped(u32),
-    Ready(f64),
-}
-
-// The questions, then the preparation at the start of work. trend, cycle, knots and marks are the lengths lent.
-fn begin(
-    work: &mut [f64],
-    y: &[f64],
-    lam: f64,
-    opts: TrendFilterOptions,
-    trend: usize,
-    cycle: usize,
-    knots: usize,
-    marks: usize,
-) -> Begun
-    ensures { λ r. ⌜ Begins (asking (now (y .entry)) lam (opts .tol) (opts .«max_iter») (opts .order) (opts .penalty))
-        (lending trend cycle knots (length (now (work .entry))) marks) (now (work .entry)) (now (work .exit)) r ⌝ }
-{
-    let q = questions::question(
-        y,
-        lam,
-        opts.tol,
-        opts.max_iter,
-        opts.order,
-        opts.penalty,
-        trend,
-        cycle,
-        knots,
-        work.len(),
-        marks,
-    );
-    if q != 0 {
-        return Begun::Stopped(q);
-    }
-    let p = gram::prepare(work, y, opts.order as usize);
-    if !p.good {
-        return Begun::Stopped(10);
-    }
-    Begun::Ready(p.top)
-}
-
 // The trend, the cycle and the knots of y, and the numbers of the fit; or a refusal's number. work and marks are scratch.
 pub fn l1_trend_filter(
     y: &[f64],
@@ -123,11 +80,14 @@ pub fn l1_trend_filter(
         (buffers (now (trend .entry)) (now (cycle .entry)) (now (knots .entry)) (now (work .entry)) (now (marks .entry)))
         (buffers (now (trend .exit)) (now (cycle .exit)) (now (knots .exit)) (now (work .exit)) (now (marks .exit))) ⌝ }
 {
-    let b = begin(
+    let b = prepared_fit::begin(
         work,
         y,
         lam,
-        opts,
+        opts.tol,
+        opts.max_iter,
+        opts.order,
+        opts.penalty,
         trend.len(),
         cycle.len(),
         knots.len(),

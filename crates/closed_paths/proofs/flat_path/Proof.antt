@@ -1,12 +1,10 @@
 use borrow.Author.Needs.{needs}
 use mathlib.Core.Logic.{inl}
-use mathlib.Core.Path.{_≡_, refl, ap₂, _∙_}
-use mathlib.Core.List.{List}
-use mathlib.Core.Bool.{false}
+use mathlib.Core.Path.{_≡_, refl, _∙_}
 use Prim.Native.Nat.{_+_, _-_, _*_, _≤_}
 use native.Mathlib.Omega.{arith}
 use lib.ListN.{length, take, drop}
-use lib.Ieee.{Float, nan}
+use lib.Ieee.{nan}
 use Rattle.float64.specs.Ops.{_⊖_}
 use Rattle.vectors.proofs.Laws.{kept-then}
 use Rattle.vectors.proofs.Parts.{part-size, kept-put}
@@ -14,8 +12,7 @@ use Rattle.differences.specs.Diff.{gramRow}
 use Rattle.gram.specs.Gram.{zstar}
 use Rattle.gram.specs.Prepared.{preparation}
 use Rattle.dual_point.specs.Lanes.{searchArea}
-use Rattle.fit.specs.Fit.{Found, closed, pathFlat}
-use Rattle.closed_paths.specs.declared.Trend.the-variants.{Won}
+use Rattle.fit.specs.Fit.{closed, pathFlat}
 use Rattle.closed_paths.specs.Trends.{trendOf, reach}
 use Rattle.closed_paths.proofs.Areas.{rows-fit, flat-primal, flat-dual, flat-trend}
 use Rattle.closed_paths.proofs.flat_path.Statement.{statement}

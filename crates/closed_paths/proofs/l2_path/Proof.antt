@@ -13,7 +13,7 @@ use Rattle.dual_point.specs.Lanes.{searchArea}
 use Rattle.gram.specs.Prepared.{preparation}
 use Rattle.l2.specs.L2.{trendL2}
 use Rattle.questions.specs.Asking.{asking}
-use Rattle.fit.specs.Fit.{Found, closed}
+use Rattle.fit.specs.Fit.{closed}
 use Rattle.closed_paths.specs.Trends.{trendOf, reach, said, reached}
 use Rattle.closed_paths.proofs.Areas.{kept-wide, rows-fit, solution-stands, ends-gap, ends-objective, ends-trend, l2-sound, l2-unsound, some-none}
 use Rattle.closed_paths.proofs.l2_path.Statement.{statement}

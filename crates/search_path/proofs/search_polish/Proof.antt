@@ -17,7 +17,7 @@ use Rattle.dual_point.specs.Lanes.{candidateTrend, searchArea}
 use Rattle.polish.specs.Polish.{polish}
 use Rattle.polish.specs.Places.{isSome}
 use Rattle.questions.specs.Asking.{asking}
-use Rattle.fit.specs.Fit.{certificateAt, searchOf, keptOf}
+use Rattle.fit.specs.Fit.{certificateAt, searchOf, keptOf, pathEnd}
 use Rattle.search_path.proofs.Kept.{kept-of}
 use Rattle.search_path.proofs.search_polish.Statement.{statement}
 use Rattle.search_path.proofs.search_polish.Tie as tie
@@ -29,7 +29,7 @@ polish-l1-requires c κs = let ip = c .before .before .before .before in
     record { ready = record { series = r .series; room = omega (arith, r .room, ip .ipm-l1 .ensures .kept .size); known = r .known }; marked = h .marked }
 
 returns : tie.Need-returns
-unfolding searchOf keptOf
+unfolding searchOf keptOf pathEnd
 returns c = let pl = c .before .before .before .before .before .before .before in
     let ip = pl .before .before .before .before .before in
     let st = ip .before .before .before .before .before .before in

@@ -3,24 +3,25 @@ use borrow.Author.Tests.{ne-eqb, not-true, not-false}
 use mathlib.Core.Path.{_≡_, refl, sym, _∙_}
 use native.Mathlib.Omega.{arith}
 use lib.ListN.{length}
+use Rattle.float64.proofs.Clash.{clash}
 use Rattle.vectors.proofs.Laws.{kept-none}
 use Rattle.questions.specs.Questions.{Asked, Lent, workPlaces, question}
 use Rattle.questions.specs.Asking.{asking, lending}
 use Rattle.questions.proofs.Laws.{passed}
 use Rattle.fit.proofs.Passed.{fit-refused}
 use Rattle.closed_paths.proofs.Areas.{kept-wide}
-use Rattle.trend_filter.specs.Inner.{Begins}
-use Rattle.trend_filter.proofs.Laws.{not-early, unsound-fit}
-use Rattle.trend_filter.proofs.begin.Statement.{statement}
-use Rattle.trend_filter.proofs.begin.Tie as tie
+use Rattle.prepared_fit.specs.Begun.{Begins}
+use Rattle.prepared_fit.proofs.Laws.{unsound-fit}
+use Rattle.prepared_fit.proofs.begin.Statement.{statement}
+use Rattle.prepared_fit.proofs.begin.Tie as tie
 
 -- the questions are passed
-abbrev asked : tie.After-struct-known → tie.Else1
-asked s = s .before .before
+abbrev asked : tie.After-prepare-arg → tie.Else1
+asked p = p .before
 
 -- what is asked and lent
 abbrev ask : tie.Start → Asked
-ask s = let p = s .args in let o = p .opts in asking (p .y .now) (p .lam) (o .tol) (o .«max_iter») (o .order) (o .penalty)
+ask s = let p = s .args in asking (p .y .now) (p .lam) (p .tol) (p .max-iter) (p .order) (p .penalty)
 
 abbrev lend : tie.Start → Lent
 lend s = let p = s .args in lending (p .trend) (p .cycle) (p .knots) (length (p .work .now)) (p .marks)
@@ -55,7 +56,7 @@ returns-2 c = let pr = c .before .before .before .before in
     let d = pr .prepare .ensures in
     record {
       refuses = unsound-fit (ask st) (lend st) (zero el) (sym (d .good) ∙ not-true _ (c .if2 .taken));
-      unused = λ t. absurd (not-early (ask st) (lend st) (zero el) t);
+      unused = λ t. absurd (clash t refl);
       kept = kept-wide 0 (workPlaces (length (st .args .y .now))) (d .kept) (omega arith) (omega arith);
     }
 
@@ -77,5 +78,5 @@ returns-3 c = let pr = c .before .before .before .before in
 pub begin-spec : {M : Type 1} → statement M
 begin-spec =
     tie.close
-    (tie.spec (λ c κs. search needs) returns (λ c. search needs) prepare-requires (λ c. search needs) returns-2
-    (λ c. search needs) returns-3)
+    (tie.spec (λ c κs. search needs) returns prepare-requires (λ c. search needs) returns-2 (λ c. search needs)
+    returns-3)
