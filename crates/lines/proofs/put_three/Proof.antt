@@ -1,8 +1,8 @@
-use Rattle.listing.specs.Listing.{three}
+use Rattle.lines.specs.Lines.{three}
 use Rattle.fields.proofs.Writers.{puts-then}
 use borrow.Author.Needs.{needs}
-use Rattle.listing.proofs.put_three.Statement.{statement}
-use Rattle.listing.proofs.put_three.Tie as tie
+use Rattle.lines.proofs.put_three.Statement.{statement}
+use Rattle.lines.proofs.put_three.Tie as tie
 
 returns : tie.Need-returns
 unfolding three

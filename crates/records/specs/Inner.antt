@@ -12,7 +12,7 @@ use Rattle.framing.specs.Bytes.{numberAt, signed32}
 use Rattle.framing.specs.declared.Head.{Head}
 use Rattle.framing.specs.declared.Head.the-variants.{End, Bad, Record}
 use Rattle.records.specs.Entries.{Entry, slot, settings, silent, sounding, millisecondsIn, settingsIn, slotsOf, countSettings, hoursOf}
-use Rattle.records.specs.Week.{Answer, refused, taken, entriesIn}
+use Rattle.records.specs.Week.{Reading, unread, read, entriesIn}
 use Rattle.records.specs.declared.Tally.{Tally}
 use Rattle.records.specs.declared.Tally.the-variants.{Broken, Whole}
 use Rattle.records.specs.declared.Opening.{Opening}
@@ -21,16 +21,16 @@ use Rattle.records.specs.declared.Week.{Week}
 use Rattle.records.specs.declared.Week.the-variants.{Refused, Read}
 
 -- the answer of `read_week`
-abbrev pub answer : Answer → Week
-answer (refused k) = Refused k
-answer (taken st ws) = Read st (length (hoursOf ws))
+abbrev pub answer : Reading → Week
+answer (unread k) = Refused k
+answer (read st ws) = Read st (length (hoursOf ws))
 
 -- what stands in the lent slice then: after a refusal what it held, else the series in its first places
-abbrev pub series : Answer → List Float → List Float
-series (refused k) y = y
-series (taken st ws) y = put y 0 (hoursOf ws)
+abbrev pub series : Reading → List Float → List Float
+series (unread k) y = y
+series (read st ws) y = put y 0 (hoursOf ws)
 
-pub record Reads (a : Answer) (r : Week) (y₀ y : List Float) : Type 0 where
+pub record Reads (a : Reading) (r : Week) (y₀ y : List Float) : Type 0 where
   pub said : r ≡ answer a
   pub wrote : y ≡ series a y₀
 

@@ -1,8 +1,8 @@
-use Rattle.listing.specs.Listing.{numbersLine}
+use Rattle.lines.specs.Lines.{numbersLine}
 use Rattle.fields.proofs.Writers.{puts-then}
 use borrow.Author.Needs.{needs}
-use Rattle.listing.proofs.put_numbers_line.Statement.{statement}
-use Rattle.listing.proofs.put_numbers_line.Tie as tie
+use Rattle.lines.proofs.put_numbers_line.Statement.{statement}
+use Rattle.lines.proofs.put_numbers_line.Tie as tie
 
 returns : tie.Need-returns
 unfolding numbersLine
