@@ -12,10 +12,10 @@ use Rattle.stored.proofs.load.Statement.{statement}
 use Rattle.stored.proofs.load.Tie as tie
 
 abbrev Inv-loop : tie.InvT-loop
-Inv-loop y₀ s a i₀ y i = (i ≤ length y₀) × (length y ≡ length y₀) × Written 0 i (doubleFrom s a) y₀ y
+Inv-loop y₀ s a n i₀ y i = (i ≤ n) × (length y ≡ length y₀) × Written 0 i (doubleFrom s a) y₀ y
 
 abbrev μ-loop : tie.MeasureT-loop
-μ-loop y₀ s a i₀ y i = length y₀ - i
+μ-loop y₀ s a n i₀ y i = n - i
 
 loop-holds : tie.Need-loop-holds Inv-loop μ-loop
 loop-holds c = (search needs, search needs, none)
@@ -32,7 +32,8 @@ same-length c = c .before .loop .inv .1
 returns : tie.Need-returns Inv-loop μ-loop
 returns c = let l = c .before in
     let a = l .before .before .args in
-    loaded (now (a .s)) (a .a) (l .loop .i) (l .loop .inv .2) (omega arith)
+    let e : l .loop .i ≡ a .n = omega arith in
+    loaded (now (a .s)) (a .a) (a .n) (rw e at (l .loop .inv .2)) (omega arith)
 
 pub load-spec : {M : Type 1} → statement M
 load-spec =
