@@ -12,12 +12,12 @@ use Rattle.vectors.proofs.Laws.{length-list}
 use Rattle.questions.specs.Asking.{asking, lending}
 use Rattle.fit.specs.Fit.{fit}
 use Rattle.stored.specs.Words.{wordAt, doublesAt, lentAt}
-use Rattle.stored.specs.declared.Lent as lengths
+use Rattle.stored.specs.declared.Lengths.{Lengths}
 use Rattle.compared.specs.Outcomes.{sameOutcome}
 use Rattle.rerun.specs.Cases.{optionAt, askedAt, lendingOf, equalAt}
 
 -- lengths lent
-pub lending-is : {t c k w m : ℕ} (l : lengths.Lent) → t ≡ l .trend → c ≡ l .cycle → k ≡ l .knots → w ≡ l .work → m ≡ l .marks → lending t c k w m ≡ lendingOf l
+pub lending-is : {t c k w m : ℕ} (l : Lengths) → t ≡ l .trend → c ≡ l .cycle → k ≡ l .knots → w ≡ l .work → m ≡ l .marks → lending t c k w m ≡ lendingOf l
 lending-is l et ec ek ew em = rw (et, ec, ek, ew, em)
 
 -- the first t places of an array of n
@@ -34,7 +34,7 @@ unfolding doublesAt
 loaded-long s a n u v e = sym (ap length (loaded s a n u v e) ∙ length-list n _)
 
 -- the whole case
-pub case-is : (s : List ℕ) (a : ℕ) {l : lengths.Lent} {y : List Float} {lam tol : Float} {max-iter order penalty : ℕ} {r : Bool}
+pub case-is : (s : List ℕ) (a : ℕ) {l : Lengths} {y : List Float} {lam tol : Float} {max-iter order penalty : ℕ} {r : Bool}
     → l ≡ lentAt s a → y ≡ doublesAt s (a + 12) (l .n) → lam ≡ ofBits binary64 (wordAt s (a + 9)) → tol ≡ ofBits binary64 (wordAt s (a + 10)) → max-iter ≡ wordAt s (a + 11)
     → order ≡ optionAt s (a + 1) → penalty ≡ optionAt s (a + 2)
     → r ≡ sameOutcome (fit (asking y lam tol max-iter order penalty) (lendingOf l)) s (a + 12 + l .n) → r ≡ equalAt s a

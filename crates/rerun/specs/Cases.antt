@@ -7,7 +7,7 @@ use Rattle.questions.specs.Questions.{Asked, Lent}
 use Rattle.questions.specs.Asking.{lending}
 use Rattle.fit.specs.Fit.{fit}
 use Rattle.stored.specs.Words.{wordAt, doublesAt, lentAt}
-use Rattle.stored.specs.declared.Lent as lengths
+use Rattle.stored.specs.declared.Lengths.{Lengths}
 use Rattle.compared.specs.Outcomes.{sameOutcome}
 
 -- an option of 32 bits
@@ -26,7 +26,7 @@ askedAt s a = record {
 }
 
 -- what it lends
-abbrev pub lendingOf : lengths.Lent → Lent
+abbrev pub lendingOf : Lengths → Lent
 lendingOf l = lending (l .trend) (l .cycle) (l .knots) (l .work) (l .marks)
 
 -- whether the outcome of its fit is the stored one

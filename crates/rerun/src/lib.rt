@@ -1,5 +1,5 @@
 // A stored case, fitted again and compared with the answer that is stored with it.
-use stored::Lent;
+use stored::Lengths;
 use trend_filter::TrendFilterOptions;
 ghost use mathlib.Core.Path.{_≡_};
 ghost use Prim.Native.Nat.{_≤_, _<_};
@@ -14,7 +14,7 @@ ghost use Rattle.rerun.specs.Cases.{optionAt, lendingOf, equalAt};
 // Fits y with buffers of these lengths: whether the outcome is the one that is stored from word a on.
 fn fit_at(
     y: &[f64],
-    l: Lent,
+    l: Lengths,
     lam: f64,
     opts: TrendFilterOptions,
     s: &[u8; 131072],

@@ -7,7 +7,7 @@ use lib.Dec.{ltb, eqb}
 use lib.Ieee.{Float, binary64, ofBits, toBits}
 use Rattle.framing.specs.Bytes.{numberAt}
 use Rattle.vectors.specs.Vec.{at, list}
-use Rattle.stored.specs.declared.Lent.{Lent}
+use Rattle.stored.specs.declared.Lengths.{Lengths}
 
 -- word i; 0 beyond the end
 unfoldable pub wordAt : List ℕ → ℕ → ℕ
@@ -42,11 +42,11 @@ unfoldable pub pastAt : List ℕ → ℕ → ℕ → ℕ
 pastAt s a n = cond (eqb (wordAt s a) 0) (a + 10 + 2 * n + countAt s (a + 6) 168) (a + 1)
 
 -- the lengths of the case that starts at word a, cut where the buffers of a week end
-unfoldable pub lentAt : List ℕ → ℕ → Lent
+unfoldable pub lentAt : List ℕ → ℕ → Lengths
 lentAt s a = record { n = countAt s (a + 3) 168; trend = countAt s (a + 4) 168; cycle = countAt s (a + 5) 168; knots = countAt s (a + 6) 168; work = countAt s (a + 7) 6720; marks = countAt s (a + 8) 336 }
 
 -- lengths that those buffers have
-pub record Within (l : Lent) : Type 0 where
+pub record Within (l : Lengths) : Type 0 where
   pub n-in : l .n ≤ 168
   pub trend-in : l .trend ≤ 168
   pub cycle-in : l .cycle ≤ 168

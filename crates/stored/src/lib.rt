@@ -116,7 +116,7 @@ pub fn past(s: &[u8; 131072], a: usize, n: usize) -> usize
 }
 
 // The lengths of a series and of what is lent with it, cut where the buffers of a week end.
-pub struct Lent {
+pub struct Lengths {
     pub n: usize,
     pub trend: usize,
     pub cycle: usize,
@@ -126,11 +126,11 @@ pub struct Lent {
 }
 
 // The lengths of the case that starts at word a.
-pub fn lent_at(s: &[u8; 131072], a: usize) -> Lent
+pub fn lent_at(s: &[u8; 131072], a: usize) -> Lengths
     requires { ⌜ a < 65536 ⌝ }
     ensures { λ r. ⌜ (r ≡ lentAt (now (s .entry)) a) × Within r ⌝ }
 {
-    Lent {
+    Lengths {
         n: count_at(s, a + 3, 168),
         trend: count_at(s, a + 4, 168),
         cycle: count_at(s, a + 5, 168),
