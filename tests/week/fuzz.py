@@ -2,9 +2,11 @@
 """fuzz.py [COUNT [SEED [PROGRAM]]]: random and mutated inputs of the weekly program, 100,000 unless COUNT is given.
 
 Each run must end within ten seconds, with status 0, and print a listing or one line `refused N`, nothing else.
-Beside that form, a plain reading of document 01's questions 11 to 13, 1, 2, 5, 6 and 7 says for each input
+Beside that form, a plain reading of document 01's questions 11 to 13, 1, 2, 5, 6, 7 and 10 says for each input
 which refusal is right, and of a fit n, order, penalty, the bounds of n_iter and the rising knots are checked.
+Refusal 10 is right exactly where the Rust's elimination, done here in doubles, meets a pivot that isn't finite and above 0.
 """
+import functools
 import math
 import multiprocessing
 import random
@@ -55,7 +57,51 @@ def expected(data):
         return 6
     if limit < 1:
         return 7
+    if not (sound_dd(order, n - order) and (penalty == 1 or sound_l2(order, n, lam))):
+        return 10
     return n, order, penalty, limit
+
+
+def sound(a, bandwidth):
+    """Whether the L D L' elimination of a banded matrix, as the Rust does it, meets good pivots only."""
+    low, d = [{} for _ in a], []
+    for i in range(len(a)):
+        pivot = a[i][i]
+        for j in range(max(0, i - bandwidth), i):
+            pivot -= low[i][j] * low[i][j] * d[j]
+        if not (math.isfinite(pivot) and pivot > 0):
+            return False
+        d.append(pivot)
+        for r in range(i + 1, min(len(a), i + bandwidth + 1)):
+            v = a[r][i]
+            for j in range(max(0, r - bandwidth), i):
+                v -= low[r][j] * low[i][j] * d[j]
+            low[r][i] = v / pivot
+    return True
+
+
+STENCIL = {1: (-1.0, 1.0), 2: (1.0, -2.0, 1.0)}
+
+
+@functools.cache
+def sound_dd(k, m):
+    """Whether the pivots of D D' are good."""
+    c = STENCIL[k]
+    g = [sum(c[j] * c[j + t] for j in range(k + 1 - t)) for t in range(k + 1)]
+    return sound([{j: g[i - j] for j in range(max(0, i - k), i + 1)} for i in range(m)], k)
+
+
+def sound_l2(k, n, lam):
+    """Whether the pivots of I + lam D'D are good: a row of D adds (lam·c[a])·c[b] to the places (t + a, t + b)."""
+    c = STENCIL[k]
+    rows = [{j: 0.0 for j in range(max(0, i - k), i + 1)} for i in range(n)]
+    for i in range(n):
+        rows[i][i] += 1.0
+    for t in range(n - k):
+        for a in range(k + 1):
+            for b in range(a + 1):
+                rows[t + a][t + b] += lam * c[a] * c[b]
+    return sound(rows, k)
 
 
 def fault(data, run):
@@ -66,16 +112,14 @@ def fault(data, run):
     if isinstance(want, int):
         return None if run.stdout == b"refused %d\n" % want else f"refused {want} is right"
     n, order, penalty, limit = want
-    if run.stdout == b"refused 10\n":
-        return None
     m = FIT.fullmatch(run.stdout.decode("ascii", "replace"))
     if not m:
         return "neither a listing nor a refusal"
     head = [int(m.group(i)) for i in range(1, 7)]
-    steps, gains = head[3], head[4]
+    n_iter, improvements = head[3], head[4]
     if head[:3] != [n, order, penalty]:
         return "another n, order or penalty"
-    if steps > limit or steps > 10 * gains + 10:
+    if n_iter > limit or n_iter > 10 * improvements + 10:
         return "more steps than allowed"
     if [int(line.split()[1]) for line in m.group(7).splitlines()] != list(range(n)):
         return "the hours are not numbered from 0"
@@ -160,6 +204,8 @@ def main():
     count = int(sys.argv[1]) if len(sys.argv) > 1 else 100_000
     first = int(sys.argv[2]) if len(sys.argv) > 2 else 1
     program = sys.argv[3] if len(sys.argv) > 3 else "target/bin/weektrend"
+    if count < 1:
+        sys.exit("fuzz.py: no input was tried: COUNT is at least 1")
     wrong = 0
     with multiprocessing.Pool() as pool:
         for seed, what in pool.imap_unordered(one, ((s, program) for s in range(first, first + count)), 200):

@@ -1,3 +1,2 @@
--- Laws of lines, and known listings.
-mod Lines
+-- Known listings.
 mod Known

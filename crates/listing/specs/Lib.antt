@@ -1,2 +1,2 @@
--- What is printed for a fit and for a refusal.
-pub mod Listing
+-- What `put_listing` prints. `week` relates it to the listing of a fit.
+pub mod Shown

@@ -6,7 +6,8 @@ ghost use Prim.Native.Nat.{_+_, _*_, _≤_};
 ghost use lib.ListN.{length};
 ghost use Rattle.vectors.specs.Vec.{Wrote};
 ghost use Rattle.fields.specs.Puts.{Puts};
-ghost use Rattle.listing.specs.Listing.{hourLine, knotLine, hourLines, knotLines, three, fitLine, numbersLine, listingOf, refusedLine};
+ghost use Rattle.lines.specs.Lines.{refusedLine};
+ghost use Rattle.listing.specs.Shown.{shownLine, firstHours, firstKnots, shownListing};
 
 // What is shown of a fit besides its trend, its cycle and its knots: n hours, and so many knots.
 pub struct Shown {
@@ -22,38 +23,16 @@ pub struct Shown {
     pub knots: usize,
 }
 
-// The line of an hour.
-fn put_hour_line(out: &mut [u8], at: usize, i: u64, t: f64, c: f64) -> usize
-    requires { ⌜ at + 57 ≤ length (now out) ⌝ }
-    ensures { λ r. ⌜ Puts (now (out .entry)) at (hourLine i t c) (now (out .exit)) r 57 ⌝ }
-{
-    let a1 = fields::put_byte(out, at, 104);
-    let a2 = fields::put_field(out, a1, i);
-    let a3 = fields::put_hex_field(out, a2, t);
-    let a4 = fields::put_hex_field(out, a3, c);
-    fields::put_byte(out, a4, 10)
-}
-
-// The line of a knot.
-fn put_knot_line(out: &mut [u8], at: usize, i: u64) -> usize
-    requires { ⌜ at + 26 ≤ length (now out) ⌝ }
-    ensures { λ r. ⌜ Puts (now (out .entry)) at (knotLine i) (now (out .exit)) r 26 ⌝ }
-{
-    let a1 = fields::put_all(out, at, b"knot");
-    let a2 = fields::put_field(out, a1, i);
-    fields::put_byte(out, a2, 10)
-}
-
 // The lines of the first n hours.
 fn put_hours(out: &mut [u8], at: usize, trend: &[f64], cycle: &[f64], n: usize) -> usize
     requires { ⌜ (n ≤ length (now trend)) × (n ≤ length (now cycle)) ⌝ }
     requires { ⌜ at + 57 * n ≤ length (now out) ⌝ }
-    ensures { λ r. ⌜ Puts (now (out .entry)) at (hourLines (now (trend .entry)) (now (cycle .entry)) n) (now (out .exit)) r (57 * n) ⌝ }
+    ensures { λ r. ⌜ Puts (now (out .entry)) at (firstHours (now (trend .entry)) (now (cycle .entry)) n) (now (out .exit)) r (57 * n) ⌝ }
 {
     let mut i: usize = 0;
     let mut pos = at;
     while i < n {
-        pos = put_hour_line(out, pos, i as u64, trend[i], cycle[i]);
+        pos = lines::put_hour_line(out, pos, i as u64, trend[i], cycle[i]);
         i += 1;
     }
     pos
@@ -69,25 +48,15 @@ fn wide(x: u32) -> u64
 fn put_knots(out: &mut [u8], at: usize, knots: &[u32], n: usize) -> usize
     requires { ⌜ n ≤ length (now knots) ⌝ }
     requires { ⌜ at + 26 * n ≤ length (now out) ⌝ }
-    ensures { λ r. ⌜ Puts (now (out .entry)) at (knotLines (now (knots .entry)) n) (now (out .exit)) r (26 * n) ⌝ }
+    ensures { λ r. ⌜ Puts (now (out .entry)) at (firstKnots (now (knots .entry)) n) (now (out .exit)) r (26 * n) ⌝ }
 {
     let mut i: usize = 0;
     let mut pos = at;
     while i < n {
-        pos = put_knot_line(out, pos, wide(knots[i]));
+        pos = lines::put_knot_line(out, pos, wide(knots[i]));
         i += 1;
     }
     pos
-}
-
-// Three fields.
-fn put_three(out: &mut [u8], at: usize, a: u64, b: u64, c: u64) -> usize
-    requires { ⌜ at + 63 ≤ length (now out) ⌝ }
-    ensures { λ r. ⌜ Puts (now (out .entry)) at (three a b c) (now (out .exit)) r 63 ⌝ }
-{
-    let a1 = fields::put_field(out, at, a);
-    let a2 = fields::put_field(out, a1, b);
-    fields::put_field(out, a2, c)
 }
 
 fn bit(b: bool) -> u64
@@ -99,22 +68,11 @@ fn bit(b: bool) -> u64
 // The first line of a fit.
 fn put_fit_line(out: &mut [u8], at: usize, f: Shown) -> usize
     requires { ⌜ at + 130 ≤ length (now out) ⌝ }
-    ensures { λ r. ⌜ Puts (now (out .entry)) at (fitLine f) (now (out .exit)) r 130 ⌝ }
+    ensures { λ r. ⌜ Puts (now (out .entry)) at (shownLine f) (now (out .exit)) r 130 ⌝ }
 {
     let a1 = fields::put_all(out, at, b"fit");
-    let a2 = put_three(out, a1, f.n as u64, f.order as u64, f.penalty as u64);
-    let a3 = put_three(out, a2, f.n_iter, f.improvements, bit(f.converged));
-    fields::put_byte(out, a3, 10)
-}
-
-// The line of a fit's doubles.
-fn put_numbers_line(out: &mut [u8], at: usize, a: f64, b: f64, c: f64) -> usize
-    requires { ⌜ at + 51 ≤ length (now out) ⌝ }
-    ensures { λ r. ⌜ Puts (now (out .entry)) at (numbersLine a b c) (now (out .exit)) r 51 ⌝ }
-{
-    let a1 = fields::put_hex(out, at, a);
-    let a2 = fields::put_hex_field(out, a1, b);
-    let a3 = fields::put_hex_field(out, a2, c);
+    let a2 = lines::put_three(out, a1, f.n as u64, f.order as u64, f.penalty as u64);
+    let a3 = lines::put_three(out, a2, f.n_iter, f.improvements, bit(f.converged));
     fields::put_byte(out, a3, 10)
 }
 
@@ -127,12 +85,12 @@ pub fn put_listing(
     knots: &[u32; 168],
 ) -> usize
     requires { ⌜ (f .n ≤ 168) × (f .knots ≤ 168) ⌝ }
-    ensures { λ r. ⌜ Wrote (now (out .entry)) 0 (listingOf f (now (trend .entry)) (now (cycle .entry)) (now (knots .entry))) (now (out .exit)) r ⌝ }
+    ensures { λ r. ⌜ Wrote (now (out .entry)) 0 (shownListing f (now (trend .entry)) (now (cycle .entry)) (now (knots .entry))) (now (out .exit)) r ⌝ }
 {
     let n = f.n;
     let k = f.knots;
     let a1 = put_fit_line(out, 0, f);
-    let a2 = put_numbers_line(out, a1, f.lam_max, f.gap, f.objective);
+    let a2 = lines::put_numbers_line(out, a1, f.lam_max, f.gap, f.objective);
     let a3 = put_hours(out, a2, trend, cycle, n);
     put_knots(out, a3, knots, k)
 }
@@ -141,7 +99,5 @@ pub fn put_listing(
 pub fn put_refused(out: &mut [u8; 16384], number: u32) -> usize
     ensures { λ r. ⌜ Wrote (now (out .entry)) 0 (refusedLine number) (now (out .exit)) r ⌝ }
 {
-    let word = fields::put_all(out, 0, b"refused");
-    let end = fields::put_field(out, word, number as u64);
-    fields::put_byte(out, end, 10)
+    lines::put_refused_line(out, 0, number as u64)
 }

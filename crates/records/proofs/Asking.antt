@@ -9,8 +9,8 @@ use lib.Ieee.{Float}
 use borrow.Author.Tests.{lt-ltb, le-ltb, le-leb, lt-leb, eq-eqb, ne-eqb}
 use Rattle.vectors.specs.Vec.{Wrote}
 use Rattle.records.specs.Entries.{Entry, slot, settings, slotsOf, countSettings}
-use Rattle.records.specs.Week.{refused, taken, entriesIn, askEntries, readWeek}
-use Rattle.records.specs.Reading.{answer, Reads, hoursIn, tallyOf, openingOf}
+use Rattle.records.specs.Week.{unread, read, entriesIn, askEntries, readWeek}
+use Rattle.records.specs.Inner.{answer, Reads, hoursIn, tallyOf, openingOf}
 use Rattle.records.specs.declared.Settings.{Settings}
 use Rattle.records.specs.declared.Tally.the-variants.{Broken, Whole}
 use Rattle.records.specs.declared.Opening.the-variants.{Other, Set}
@@ -32,7 +32,7 @@ broken none e = refl
 broken (some es) e = let z : _≡_ {A = ℕ} 0 1 = cc in absurd (omega arith)
 
 -- questions 12 and 13, by what comes first and the counts over all entries
-ask-other : (es : List Entry) → Other ≡ openingOf es → askEntries (some es) ≡ refused 12
+ask-other : (es : List Entry) → Other ≡ openingOf es → askEntries (some es) ≡ unread 12
 unfolding askEntries
 ask-other [] e = refl
 ask-other (slot w ∷ es) e = refl
@@ -46,20 +46,20 @@ module _ {st : Settings} where
   first (settings sd ∷ es) e = (es, ap (λ (x : Settings). settings x ∷ es) (let f : sd ≡ st = cc in f))
 
 module _ (st : Settings) (t : List Entry) where
-  ask-settings : (countSettings (settings st ∷ t) ≡ 1 → ⊥) → askEntries (some (settings st ∷ t)) ≡ refused 12
+  ask-settings : (countSettings (settings st ∷ t) ≡ 1 → ⊥) → askEntries (some (settings st ∷ t)) ≡ unread 12
   unfolding askEntries countSettings
   ask-settings n = simp (ne-eqb (countSettings t) 0 (λ (z : countSettings t ≡ 0). n (ap suc z)))
 
   module _ (c : countSettings (settings st ∷ t) ≡ 1) where
-    ask-hours : 168 < length (hoursIn (settings st ∷ t)) → askEntries (some (settings st ∷ t)) ≡ refused 13
+    ask-hours : 168 < length (hoursIn (settings st ∷ t)) → askEntries (some (settings st ∷ t)) ≡ unread 13
     unfolding askEntries countSettings slotsOf
     ask-hours l = simp (eq-eqb (countSettings t) 0 (omega (arith, c)), lt-leb _ _ l)
 
-    ask-taken : length (hoursIn (settings st ∷ t)) ≤ 168 → askEntries (some (settings st ∷ t)) ≡ taken st (slotsOf (settings st ∷ t))
+    ask-taken : length (hoursIn (settings st ∷ t)) ≤ 168 → askEntries (some (settings st ∷ t)) ≡ read st (slotsOf (settings st ∷ t))
     unfolding askEntries countSettings slotsOf
     ask-taken l = simp (eq-eqb (countSettings t) 0 (omega (arith, c)), le-leb _ _ l)
 
-pub week-long : (s : List ℕ) → 4096 < length s → readWeek s ≡ refused 11
+pub week-long : (s : List ℕ) → 4096 < length s → readWeek s ≡ unread 11
 unfolding readWeek
 week-long s h = simp (lt-ltb _ _ h)
 
@@ -68,30 +68,30 @@ module _ (s : List ℕ) (h : length s ≤ 4096) where
   unfolding readWeek
   asked = simp (le-ltb _ _ h)
 
-  pub week-broken : entriesIn s ≡ none → readWeek s ≡ refused 11
+  pub week-broken : entriesIn s ≡ none → readWeek s ≡ unread 11
   unfolding askEntries
   week-broken e = asked ∙ ap askEntries e
 
   module _ {es : List Entry} (e : entriesIn s ≡ some es) where
-    pub week-other : Other ≡ openingOf es → readWeek s ≡ refused 12
+    pub week-other : Other ≡ openingOf es → readWeek s ≡ unread 12
     week-other f = asked ∙ ap askEntries e ∙ ask-other es f
 
     module _ {st : Settings} (f : Set st ≡ openingOf es) where
-      pub week-settings : (countSettings es ≡ 1 → ⊥) → readWeek s ≡ refused 12
+      pub week-settings : (countSettings es ≡ 1 → ⊥) → readWeek s ≡ unread 12
       week-settings c = let g = first es f in asked ∙ ap askEntries (e ∙ ap some (g .1)) ∙ ask-settings st (g .0) (λ z. c (ap countSettings (g .1) ∙ z))
 
       module _ (c : countSettings es ≡ 1) where
-        pub week-hours : 168 < length (hoursIn es) → readWeek s ≡ refused 13
+        pub week-hours : 168 < length (hoursIn es) → readWeek s ≡ unread 13
         week-hours l = let g = first es f in asked ∙ ap askEntries (e ∙ ap some (g .1)) ∙ ask-hours st (g .0) (rw (g .1) at c) (rw (g .1) at l)
 
-        pub week-taken : length (hoursIn es) ≤ 168 → readWeek s ≡ taken st (slotsOf es)
-        week-taken l = let g = first es f in asked ∙ ap askEntries (e ∙ ap some (g .1)) ∙ ask-taken st (g .0) (rw (g .1) at c) (rw (g .1) at l) ∙ ap (λ (x : List Entry). taken st (slotsOf x)) (sym (g .1))
+        pub week-taken : length (hoursIn es) ≤ 168 → readWeek s ≡ read st (slotsOf es)
+        week-taken l = let g = first es f in asked ∙ ap askEntries (e ∙ ap some (g .1)) ∙ ask-taken st (g .0) (rw (g .1) at c) (rw (g .1) at l) ∙ ap (λ (x : List Entry). read st (slotsOf x)) (sym (g .1))
 
 -- a refusal, as the contract has it, and a week that is taken
-pub refuses : (s : List ℕ) {k : ℕ} {y : List Float} → readWeek s ≡ refused k → Reads (readWeek s) (answer (refused k)) y y
+pub refuses : (s : List ℕ) {k : ℕ} {y : List Float} → readWeek s ≡ unread k → Reads (readWeek s) (answer (unread k)) y y
 refuses s {k} {y} e = rw e (record { said = refl; wrote = refl })
 
-pub takes : (s : List ℕ) (es : List Entry) {st : Settings} {y z : List Float} {n : ℕ} → readWeek s ≡ taken st (slotsOf es) → Wrote y 0 (hoursIn es) z n → Reads (readWeek s) (Read st n) y z
+pub takes : (s : List ℕ) (es : List Entry) {st : Settings} {y z : List Float} {n : ℕ} → readWeek s ≡ read st (slotsOf es) → Wrote y 0 (hoursIn es) z n → Reads (readWeek s) (Read st n) y z
 takes s es {st} {y} {z} {n} e w =
     let m : n ≡ length (hoursIn es) = omega (arith, w .next) in
     rw e (record { said = ap (Read st) m; wrote = w .text })

@@ -22,7 +22,7 @@ use Rattle.records.specs.Entries.{Entry, slot, settings, silent, soundin
 use Rattle.records.specs.Week.{saidBy, entriesIn}
 use Rattle.records.specs.declared.Settings.{Settings}
 use Rattle.records.specs.declared.Opening.the-variants.{Other, Set}
-use Rattle.records.specs.Reading.{known, hoursIn, openingOf, hourAt, Says, hour, quiet, setup, Found}
+use Rattle.records.specs.Inner.{known, hoursIn, openingOf, hourAt, Says, hour, quiet, setup, Found}
 
 -- an entry and the record that says it
 record Entered (k n : ℕ) (b : List ℕ) : Type 0 where

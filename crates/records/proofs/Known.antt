@@ -9,7 +9,7 @@ use lib.ListN.{length, take, length-append}
 use Rattle.framing.specs.Bytes.{littleEndian, signed32}
 use Rattle.framing.specs.Frames.{recordsPast}
 use Rattle.records.specs.Entries.{Slot, silent, sounding, settingsIn, entryOf, entries, slotsOf, countSettings, hoursOf}
-use Rattle.records.specs.Week.{Answer, refused, taken, readWeek, askEntries}
+use Rattle.records.specs.Week.{Reading, unread, read, readWeek, askEntries}
 use Rattle.records.proofs.Asking.{week-long}
 
 -- no double's pattern: a silent hour's
@@ -23,9 +23,9 @@ patterns (silent ∷ ws) = pause ∷ patterns ws
 patterns (sounding x ∷ ws) = toBits binary64 x ∷ patterns ws
 
 -- a refusal is its number; a week that is taken is 0, its settings (doubles by their bits), its slots and how many hours it has
-numbers : Answer → List ℕ
-numbers (refused k) = k ∷ []
-numbers (taken st ws) = 0 ∷ toBits binary64 (st .lam) ∷ toBits binary64 (st .tol) ∷ st .«max_iter» ∷ st .order ∷ st .penalty ∷ patterns ws ++ (length (hoursOf ws) ∷ [])
+numbers : Reading → List ℕ
+numbers (unread k) = k ∷ []
+numbers (read st ws) = 0 ∷ toBits binary64 (st .lam) ∷ toBits binary64 (st .tol) ∷ st .«max_iter» ∷ st .order ∷ st .penalty ∷ patterns ws ++ (length (hoursOf ws) ∷ [])
 
 -- x, n times over
 times : ℕ → List ℕ → List ℕ
@@ -109,8 +109,8 @@ unfolding times
 length-times zero x = omega arith
 length-times (suc n) x = length-append x (times n x) ∙ omega (arith, length-times n x)
 
-known-long : readWeek (settings ++ times 1017 quiet) ≡ refused 11
+known-long : readWeek (settings ++ times 1017 quiet) ≡ unread 11
 known-long = week-long (settings ++ times 1017 quiet) (omega (arith, length-append settings (times 1017 quiet), length-times 1017 quiet))
 
-known-longer : readWeek (times 4097 (0 ∷ [])) ≡ refused 11
+known-longer : readWeek (times 4097 (0 ∷ [])) ≡ unread 11
 known-longer = week-long (times 4097 (0 ∷ [])) (omega (arith, length-times 4097 (0 ∷ [])))

@@ -12,7 +12,7 @@ use Rattle.vectors.specs.Vec.{Wrote}
 use Rattle.vectors.proofs.Texts.{wrote-none, wrote-then, wrote-length}
 use Rattle.records.specs.Entries.{silent, sounding, Entry, slot, settings, slotsOf, countSettings, hoursOf}
 use Rattle.records.specs.Week.{entriesIn}
-use Rattle.records.specs.Reading.{hoursIn, hourAt, Found, Room}
+use Rattle.records.specs.Inner.{hoursIn, hourAt, Found, Room}
 use Rattle.records.proofs.Entries.{says-count, found-hours}
 
 -- P, and then what is still to come

@@ -9,10 +9,10 @@ use Rattle.framing.specs.Frames.{Rec, records}
 use Rattle.records.specs.Entries.{Slot, Entry, slot, settings, entries, slotsOf, countSettings, hoursOf}
 use Rattle.records.specs.declared.Settings.{Settings}
 
--- a refusal's number, or the settings and the week
-pub data Answer : Type 0 where
-  refused : ℕ → Answer
-  taken : Settings → List Slot → Answer
+-- what is read: a refusal's number, or the settings and the week
+pub data Reading : Type 0 where
+  unread : ℕ → Reading
+  read : Settings → List Slot → Reading
 
 -- what the bytes say; none where they do not split into whole records of these kinds and lengths
 abbrev pub saidBy : Option (List Rec) → Option (List Entry)
@@ -23,15 +23,15 @@ abbrev pub entriesIn : List ℕ → Option (List Entry)
 entriesIn s = saidBy (records s)
 
 -- 12: the first record is the settings and no other is. 13: at most 168 hours
-unfoldable pub askEntries : Option (List Entry) → Answer
-askEntries none = refused 11
-askEntries (some []) = refused 12
-askEntries (some (slot w ∷ es)) = refused 12
+unfoldable pub askEntries : Option (List Entry) → Reading
+askEntries none = unread 11
+askEntries (some []) = unread 12
+askEntries (some (slot w ∷ es)) = unread 12
 askEntries (some (settings st ∷ es)) =
     cond (eqb (countSettings es) 0)
-    (cond (leb (length (hoursOf (slotsOf es))) 168) (taken st (slotsOf es)) (refused 13))
-    (refused 12)
+    (cond (leb (length (hoursOf (slotsOf es))) 168) (read st (slotsOf es)) (unread 13))
+    (unread 12)
 
 -- 11: at most 4,096 bytes, and whole records only. The first question answered no gives its number
-unfoldable pub readWeek : List ℕ → Answer
-readWeek s = cond (ltb 4096 (length s)) (refused 11) (askEntries (entriesIn s))
+unfoldable pub readWeek : List ℕ → Reading
+readWeek s = cond (ltb 4096 (length s)) (unread 11) (askEntries (entriesIn s))

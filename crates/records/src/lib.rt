@@ -10,7 +10,7 @@ ghost use lib.ListN.{length, take, drop};
 ghost use Rattle.vectors.specs.Vec.{Wrote};
 ghost use Rattle.records.specs.Entries.{Entry, settingsIn};
 ghost use Rattle.records.specs.Week.{readWeek, entriesIn};
-ghost use Rattle.records.specs.Reading.{Reads, Room, hoursIn, tallyOf, openingOf, known, hourAt, Stands};
+ghost use Rattle.records.specs.Inner.{Reads, Room, hoursIn, tallyOf, openingOf, known, hourAt, Stands};
 
 // What a walk over the input finds: how many records of settings and how many hours there are.
 enum Tally {

@@ -31,10 +31,8 @@ use Rattle.framing.specs.Frames.{recordsPast}
 use Rattle.records.specs.Entries.{settingsIn, entryOf, entries, slotsOf, countSettings, hoursOf}
 use Rattle.records.specs.Week.{readWeek, askEntries}
 use Rattle.fields.specs.Fields.{decimalIn, decimal, hexOf, field, hexField}
-use Rattle.listing.specs.Listing.{hourLine, knotLine, lines, three, fitLine, numbersLine, listingOf, refusedLine}
-use Rattle.trend_filter.specs.Answers.{summaryOf}
-use Rattle.week.specs.Printed.{outcomeText, fitText}
-use Rattle.week.specs.Week.{answerText, weekText}
+use Rattle.lines.specs.Lines.{three, fitLine, numbersLine, hourLine, hourLinesFrom, knotLine, knotLines, refusedLine}
+use Rattle.week.specs.Week.{listingOf, outcomeText, fitText, readingText, weekText}
 
 table : List (List ℕ × List ℕ)
 table =
@@ -74,5 +72,5 @@ expected [] = []
 expected (p ∷ ps) = p .1 ∷ expected ps
 
 known : printed table ≡ expected table
-unfolding table printed expected weekText answerText outcomeText fitText summaryOf readWeek askEntries entries entryOf settingsIn slotsOf countSettings hoursOf recordsPast littleEndian signed32 toBits decimalIn decimal hexOf field hexField hourLine knotLine lines three fitLine numbersLine listingOf refusedLine absOf isFinite maxOf minOf clampOf isqrtOf isqrt nearestRoot sqrtOf list sumTo maxTo norm2Sq dot sumAbs maxAbs diff diffK diffT diffKT less lessFrom reduced entry placed rowTo row rows sound forwardAt forward divided backAt back solve gram more moreFrom product zstar lamMax ridge minus clamped certify threshold aboveTo knots iterate run diagonalShift rhsAt dmu1At dmu2At residualSquareAt stepCapBy system rhs direction residualSquare residualNorm stepCapTo stepped along insideTo accepted trials newtonZ searchLine nextT move problem origin interiorPoint holdAt freeTo compressed lessTo compressedRhsAt solved candidateAt candidate polish soundL2 trendL2 scaled objectiveL2 dualL2 gapL2 finiteTo sizes values room question pathL2 pathZero pathFlat polished searchOf keptOf pathEnd pathL1 path written outcome fit ofBits ofInt add sub mul div neg lt le eq isNan
+unfolding table printed expected weekText readingText outcomeText fitText readWeek askEntries entries entryOf settingsIn slotsOf countSettings hoursOf recordsPast littleEndian signed32 toBits decimalIn decimal hexOf field hexField three fitLine numbersLine hourLine hourLinesFrom knotLine knotLines listingOf refusedLine absOf isFinite maxOf minOf clampOf isqrtOf isqrt nearestRoot sqrtOf list sumTo maxTo norm2Sq dot sumAbs maxAbs diff diffK diffT diffKT less lessFrom reduced entry placed rowTo row rows sound forwardAt forward divided backAt back solve gram more moreFrom product zstar lamMax ridge minus clamped certify threshold aboveTo knots iterate run diagonalShift rhsAt dmu1At dmu2At residualSquareAt stepCapBy system rhs direction residualSquare residualNorm stepCapTo stepped along insideTo accepted trials newtonZ searchLine nextT move problem origin interiorPoint holdAt freeTo compressed lessTo compressedRhsAt solved candidateAt candidate polish soundL2 trendL2 scaled objectiveL2 dualL2 gapL2 finiteTo sizes values room question pathL2 pathZero pathFlat polished searchOf keptOf pathEnd pathL1 path written outcome fit ofBits ofInt add sub mul div neg lt le eq isNan
 known = refl

@@ -1,4 +1,3 @@
 -- Laws of what is printed, and known weeks.
-mod Fronts
 mod Showing
 mod Known

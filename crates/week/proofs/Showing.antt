@@ -6,31 +6,31 @@ use native.Mathlib.Omega.{arith}
 use mathlib.Core.List.{List, [], _∷_}
 use mathlib.Core.Option.{Option, none, some}
 use lib.ListN.{length, take, drop, length-append}
-use lib.Seq.{take-append-seam, length-take-le}
+use lib.Seq.{take-append-seam, take-at, length-take-le}
 use lib.Dec.{leb, ltb, eqb}
 use lib.Ieee.{Float}
 use borrow.Author.Tests.{leb-true}
 use Rattle.io.specs.Counts.{Counts}
-use Rattle.vectors.specs.Vec.{Wrote}
+use Rattle.vectors.specs.Vec.{put, Wrote}
 use Rattle.vectors.proofs.Texts.{wrote-length}
 use Rattle.records.specs.Entries.{Slot, Entry, slot, settings, slotsOf, countSettings, hoursOf}
 use Rattle.records.specs.Week.{readWeek, askEntries, entriesIn}
-use Rattle.records.specs.Reading.{answer, Reads}
+use Rattle.records.specs.Inner.{answer, Reads}
 use Rattle.records.specs.Week as read
 use Rattle.records.specs.declared.Settings.{Settings}
 use Rattle.records.specs.declared.Week.the-variants as week
-use Rattle.listing.specs.Listing.{listingOf, refusedLine}
-use Rattle.questions.specs.Questions.{Lent}
-use Rattle.fit.specs.Fit.{Outcome, refused, fitted, fit, after}
+use Rattle.lines.specs.Lines.{refusedLine}
+use Rattle.listing.specs.Shown.{shownLine, shownListing}
+use Rattle.questions.specs.Questions.{Asked, Lent}
+use Rattle.fit.specs.Fit.{FitResult, Outcome, refused, fitted, fit, after}
 use Rattle.fit.proofs.Lengths.{lengths}
 use Rattle.decomposition.specs.Outputs.{Outputs, outputs}
 use Rattle.trend_filter.specs.Answers.{summaryOf, answerOf, Gives}
 use Rattle.trend_filter.specs.declared.Summary.{Summary}
 use Rattle.trend_filter.specs.declared.Answer.{Answer}
 use Rattle.trend_filter.specs.declared.Answer.the-variants as fits
-use Rattle.week.specs.Printed.{asked, lent, shown, outcomeText, fitText}
-use Rattle.week.specs.Week.{answerText, weekText}
-use Rattle.week.proofs.Fronts.{hours-front, knots-front}
+use Rattle.week.specs.Shown.{shown}
+use Rattle.week.specs.Week.{askedBy, weekLent, listingOf, outcomeText, fitText, readingText, weekText}
 
 -- what lending the written part asks
 pub wrote-counts : {d t e : List ℕ} {at r : ℕ} → Wrote d at t e r → Counts r e
@@ -39,11 +39,11 @@ wrote-counts {d} {t} {e} {at} {r} w =
     (h, sym (length-take-le r e h))
 
 -- a week that is taken has at most 168 hours
-abbrev Short : read.Answer → Type 0
-Short (read.refused k) = Unit
-Short (read.taken st ws) = length (hoursOf ws) ≤ 168
+abbrev Short : read.Reading → Type 0
+Short (read.unread k) = Unit
+Short (read.read st ws) = length (hoursOf ws) ≤ 168
 
-cond-case : (P : read.Answer → Type 0) (b : Bool) (x y : read.Answer) → (b ≡ true → P x) → P y → P (cond b x y)
+cond-case : (P : read.Reading → Type 0) (b : Bool) (x y : read.Reading) → (b ≡ true → P x) → P y → P (cond b x y)
 cond-case P true x y f g = f refl
 cond-case P false x y f g = g
 
@@ -54,28 +54,28 @@ ask-short (some []) = tt
 ask-short (some (slot w ∷ es)) = tt
 ask-short (some (settings st ∷ es)) =
     cond-case Short (eqb (countSettings es) 0) _ _
-    (λ _. cond-case Short (leb (length (hoursOf (slotsOf es))) 168) (read.taken st (slotsOf es)) (read.refused 13) (λ e. leb-true _ _ e) tt) tt
+    (λ _. cond-case Short (leb (length (hoursOf (slotsOf es))) 168) (read.read st (slotsOf es)) (read.unread 13) (λ e. leb-true _ _ e) tt) tt
 
 short : (s : List ℕ) → Short (readWeek s)
 unfolding readWeek
-short s = cond-case Short (ltb 4096 (length s)) (read.refused 11) (askEntries (entriesIn s)) (λ _. tt) (ask-short (entriesIn s))
+short s = cond-case Short (ltb 4096 (length s)) (read.unread 11) (askEntries (entriesIn s)) (λ _. tt) (ask-short (entriesIn s))
 
 -- what an answer of `read_week` says
-was-refused : (a : read.Answer) {k : ℕ} → week.Refused k ≡ answer a → a ≡ read.refused k
-was-refused (read.refused j) e = ap read.refused (sym (let f : _ ≡ j = cc in f))
-was-refused (read.taken st ws) e = let z : _≡_ {A = ℕ} 0 1 = cc in absurd (omega arith)
+was-refused : (a : read.Reading) {k : ℕ} → week.Refused k ≡ answer a → a ≡ read.unread k
+was-refused (read.unread j) e = ap read.unread (sym (let f : _ ≡ j = cc in f))
+was-refused (read.read st ws) e = let z : _≡_ {A = ℕ} 0 1 = cc in absurd (omega arith)
 
-pub record Taken (a : read.Answer) (st : Settings) (n : ℕ) (z : List Float) : Type 0 where
+pub record Taken (a : read.Reading) (st : Settings) (n : ℕ) (z : List Float) : Type 0 where
   pub slots : List Slot
-  pub week : a ≡ read.taken st slots
+  pub week : a ≡ read.read st slots
   pub count : n ≡ length (hoursOf slots)
   pub front : take n z ≡ hoursOf slots
   pub room : n ≤ length z
   pub few : n ≤ 168
 
-was-taken : (a : read.Answer) (y : List Float) {st : Settings} {n : ℕ} {z : List Float} → Reads a (week.Read st n) y z → Short a → Taken a st n z
-was-taken (read.refused j) y r h = let e = r .said in let z : _≡_ {A = ℕ} 0 1 = cc in absurd (omega arith)
-was-taken (read.taken sd ws) y {st} {n} {z} r h =
+was-taken : (a : read.Reading) (y : List Float) {st : Settings} {n : ℕ} {z : List Float} → Reads a (week.Read st n) y z → Short a → Taken a st n z
+was-taken (read.unread j) y r h = let e = r .said in let z : _≡_ {A = ℕ} 0 1 = cc in absurd (omega arith)
+was-taken (read.read sd ws) y {st} {n} {z} r h =
     let e = r .said in
     let p = r .wrote in
     let hs = hoursOf ws in
@@ -83,7 +83,7 @@ was-taken (read.taken sd ws) y {st} {n} {z} r h =
     let en : n ≡ length hs = cc in
     record {
       slots = ws;
-      week = ap (λ (x : Settings). read.taken x ws) es;
+      week = ap (λ (x : Settings). read.read x ws) es;
       count = en;
       front = ap₂ (λ (i : ℕ) (l : List Float). take i l) en p ∙ take-append-seam hs (drop (0 + length hs) y);
       room = omega (arith, en, ap length p, length-append hs (drop (0 + length hs) y));
@@ -95,56 +95,60 @@ taken-week s y r = was-taken (readWeek s) y r (short s)
 
 -- the text of a week
 pub text-refused : (s : List ℕ) {k : ℕ} → week.Refused k ≡ answer (readWeek s) → weekText s ≡ refusedLine k
-unfolding weekText answerText
-text-refused s e = ap answerText (was-refused (readWeek s) e)
+unfolding weekText readingText
+text-refused s e = ap readingText (was-refused (readWeek s) e)
 
 pub text-taken : (s : List ℕ) {st : Settings} {n : ℕ} {z : List Float} → Taken (readWeek s) st n z → weekText s ≡ fitText st (take n z)
-unfolding weekText answerText
-text-taken s {st} w = ap answerText (w .week) ∙ ap (fitText st) (sym (w .front))
+unfolding weekText readingText
+text-taken s {st} w = ap readingText (w .week) ∙ ap (fitText st) (sym (w .front))
+
+-- only the first places of a buffer are shown: what lies past them does not matter
+front : {A : Type 0} (t s : List A) (n : ℕ) → length t ≡ n → take n (put s 0 t) ≡ t
+front t s n e = take-at t (drop (0 + length t) s) n e
 
 -- what an answer of the fit says
-was-no-fit : (st : Settings) (n : ℕ) (o : Outcome) {k : ℕ} → fits.Refused k ≡ answerOf o → outcomeText st n o ≡ refusedLine k
+was-no-fit : (a : Asked) (o : Outcome) {k : ℕ} → fits.Refused k ≡ answerOf o → outcomeText a o ≡ refusedLine k
 unfolding outcomeText answerOf
-was-no-fit st n (refused j) e = ap refusedLine (sym (let f : _ ≡ j = cc in f))
-was-no-fit st n (fitted f) e = let z : _≡_ {A = ℕ} 0 1 = cc in absurd (omega arith)
+was-no-fit a (refused j) e = ap refusedLine (sym (let f : _ ≡ j = cc in f))
+was-no-fit a (fitted f) e = let z : _≡_ {A = ℕ} 0 1 = cc in absurd (omega arith)
 
 pub record Listed (st : Settings) (y : List Float) (s : Summary) (t c : List Float) (k : List ℕ) : Type 0 where
-  pub text : fitText st y ≡ listingOf (shown st (length y) s) t c k
+  pub text : fitText st y ≡ shownListing (shown st (length y) s) t c k
   pub few : s .knots ≤ length y
 
 was-fit : (st : Settings) (y : List Float) (o : Outcome) (before : Outputs) {r : Answer} {s : Summary} {t c : List Float} {k : List ℕ}
-    → fit (asked st y) lent ≡ o → r ≡ fits.Fit s → Gives o r before (outputs t c k) → Listed st y s t c k
-unfolding fitText outcomeText listingOf summaryOf answerOf after
+    → fit (askedBy st y) weekLent ≡ o → r ≡ fits.Fit s → Gives o r before (outputs t c k) → Listed st y s t c k
+unfolding fitText outcomeText listingOf shownLine shownListing summaryOf answerOf after
 was-fit st y (refused i) before {r} {s} g e h =
     let p : fits.Fit s ≡ answerOf (refused i) = sym e ∙ h .answer in
     let z : _≡_ {A = ℕ} 0 1 = cc in absurd (omega arith)
 was-fit st y (fitted f) before {r} {s} {t} {c} {k} g e h =
     let p : fits.Fit s ≡ answerOf (fitted f) = sym e ∙ h .answer in
     let es : summaryOf f ≡ s = cc in
-    let l = lengths (asked st y) lent f g in
+    let l = lengths (askedBy st y) weekLent f g in
     let trend-is = ap (λ (o : Outputs). o .trend) (h .out) in
     let cycle-is = ap (λ (o : Outputs). o .cycle) (h .out) in
     let knots-is = ap (λ (o : Outputs). o .knots) (h .out) in
     subst (λ (x : Summary). Listed st y x t c k) es (record {
-      text = ap (outcomeText st (length y)) g ∙ rw (trend-is, cycle-is, knots-is, hours-front (f .trend) (f .cycle) (before .trend) (before .cycle) (length y) (omega (arith, l .trend)) (omega (arith, l .cycle)), knots-front (f .knots) (before .knots) (length (f .knots)) (omega arith));
+      text = ap (outcomeText (askedBy st y)) g ∙ rw (trend-is, cycle-is, knots-is, front (f .trend) (before .trend) (length y) (l .trend), front (f .cycle) (before .cycle) (length y) (l .cycle), front (f .knots) (before .knots) (length (f .knots)) refl);
       few = omega (arith, l .knots);
     })
 
 -- a call of the fit with what the program lends: its answer, and the places that it left
 pub record Fitted (st : Settings) (y : List Float) (r : Answer) (t c : List Float) (k : List ℕ) : Type 0 where
   before : Outputs
-  gives : Gives (fit (asked st y) lent) r before (outputs t c k)
+  gives : Gives (fit (askedBy st y) weekLent) r before (outputs t c k)
 
-pub fits-lent : (st : Settings) (y : List Float) (l : Lent) {r : Answer} {b : Outputs} {t c : List Float} {k : List ℕ} → Gives (fit (asked st y) l) r b (outputs t c k) → lent ≡ l → Fitted st y r t c k
-fits-lent st y l {r} {b} {t} {c} {k} h g = record { before = b; gives = subst (λ (x : Lent). Gives (fit (asked st y) x) r b (outputs t c k)) (sym g) h }
+pub fits-lent : (st : Settings) (y : List Float) (l : Lent) {r : Answer} {b : Outputs} {t c : List Float} {k : List ℕ} → Gives (fit (askedBy st y) l) r b (outputs t c k) → weekLent ≡ l → Fitted st y r t c k
+fits-lent st y l {r} {b} {t} {c} {k} h g = record { before = b; gives = subst (λ (x : Lent). Gives (fit (askedBy st y) x) r b (outputs t c k)) (sym g) h }
 
 module _ {st : Settings} {y : List Float} {r : Answer} {t c : List Float} {k : List ℕ} (f : Fitted st y r t c k) where
   pub fit-listed : {s : Summary} → r ≡ fits.Fit s → Listed st y s t c k
-  fit-listed {s} e = was-fit st y (fit (asked st y) lent) (f .before) refl e (f .gives)
+  fit-listed {s} e = was-fit st y (fit (askedBy st y) weekLent) (f .before) refl e (f .gives)
 
   pub fit-refused : {j : ℕ} → r ≡ fits.Refused j → fitText st y ≡ refusedLine j
   unfolding fitText
-  fit-refused e = was-no-fit st (length y) (fit (asked st y) lent) (sym e ∙ f .gives .answer)
+  fit-refused e = was-no-fit (askedBy st y) (fit (askedBy st y) weekLent) (sym e ∙ f .gives .answer)
 
-pub lent-is : {t c k w m : ℕ} → 168 ≡ t → 168 ≡ c → 168 ≡ k → 6720 ≡ w → 336 ≡ m → lent ≡ record { trend = t; cycle = c; knots = k; work = w; marks = m }
+pub lent-is : {t c k w m : ℕ} → 168 ≡ t → 168 ≡ c → 168 ≡ k → 6720 ≡ w → 336 ≡ m → weekLent ≡ record { trend = t; cycle = c; knots = k; work = w; marks = m }
 lent-is et ec ek ew em = rw (sym et, sym ec, sym ek, sym ew, sym em)

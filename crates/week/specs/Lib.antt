@@ -1,3 +1,3 @@
--- What the weekly program prints.
-pub mod Printed
+-- What the weekly program prints; apart, what the code's own contracts cite.
 pub mod Week
+pub mod Shown

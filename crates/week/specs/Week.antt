@@ -1,14 +1,44 @@
 -- Document 01, "The weekly program": from the bytes of the input to the bytes that are printed. Questions 11 to 13 come first, then 1 to 10.
-use mathlib.Core.List.{List}
 use Prim.Native.Nat.{ℕ}
+use mathlib.Core.Bool.{cond}
+use mathlib.Core.List.{List, _++_}
+use lib.ListN.{length}
+use lib.Ieee.{Float}
+use Rattle.questions.specs.Questions.{Asked, Lent}
+use Rattle.fit.specs.Fit.{Fit, Outcome, refused, fitted, fit}
+use Rattle.records.specs.declared.Settings.{Settings}
 use Rattle.records.specs.Entries.{hoursOf}
-use Rattle.records.specs.Week.{Answer, refused, taken, readWeek}
-use Rattle.listing.specs.Listing.{refusedLine}
-use Rattle.week.specs.Printed.{fitText}
+use Rattle.records.specs.Week.{Reading, unread, read, readWeek}
+use Rattle.lines.specs.Lines.{three, fitLine, numbersLine, hourLinesFrom, knotLines, refusedLine}
 
-unfoldable pub answerText : Answer → List ℕ
-answerText (refused k) = refusedLine k
-answerText (taken st ws) = fitText st (hoursOf ws)
+-- what the settings ask of the fit of a series
+abbrev pub askedBy : Settings → List Float → Asked
+askedBy st y = record { y = y; lam = st .lam; tol = st .tol; max-iter = st .«max_iter»; order = st .order; penalty = st .penalty }
+
+-- the lengths lent to it: enough for 168 hours, so that questions 8 and 9 are always answered yes
+abbrev pub weekLent : Lent
+weekLent = record { trend = 168; cycle = 168; knots = 168; work = 6720; marks = 336 }
+
+-- the listing of a fit: n, order, penalty, n_iter, improvements, converged (0 or 1); lam_max, gap, objective; each hour; each knot
+unfoldable pub listingOf : Asked → Fit → List ℕ
+listingOf a f =
+    fitLine (three (length (a .y)) (a .order) (a .penalty) ++ three (f .n-iter) (f .improvements) (cond (f .converged) 1 0))
+    ++ numbersLine (f .lam-max) (f .gap) (f .objective)
+    ++ hourLinesFrom 0 (f .trend) (f .cycle)
+    ++ knotLines (f .knots)
+
+unfoldable pub outcomeText : Asked → Outcome → List ℕ
+outcomeText a (refused q) = refusedLine q
+outcomeText a (fitted f) = listingOf a f
+
+-- the text of a series under its settings
+unfoldable pub fitText : Settings → List Float → List ℕ
+fitText st y = outcomeText (askedBy st y) (fit (askedBy st y) weekLent)
+
+-- of what is read of the input
+unfoldable pub readingText : Reading → List ℕ
+readingText (unread q) = refusedLine q
+readingText (read st ws) = fitText st (hoursOf ws)
 
 unfoldable pub weekText : List ℕ → List ℕ
-weekText s = answerText (readWeek s)
+weekText s = readingText (readWeek s)

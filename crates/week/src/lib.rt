@@ -10,8 +10,8 @@ ghost use Prim.Native.Nat.{_≤_};
 ghost use lib.ListN.{length};
 ghost use Rattle.vectors.specs.Vec.{Wrote};
 ghost use Rattle.io.specs.Counts.{Counts};
-ghost use Rattle.week.specs.Printed.{shown, fitText};
-ghost use Rattle.week.specs.Week.{weekText};
+ghost use Rattle.week.specs.Shown.{shown};
+ghost use Rattle.week.specs.Week.{fitText, weekText};
 
 // What is shown of the fit of n hours under their settings.
 fn shown(st: Settings, n: usize, s: Summary) -> Shown

@@ -1,16 +1,17 @@
-use Rattle.listing.specs.Listing.{fitLine}
+use Rattle.lines.specs.Lines.{fitLine}
+use Rattle.listing.specs.Shown.{shownLine}
 use Rattle.fields.proofs.Writers.{puts-then}
 use borrow.Author.Needs.{needs}
 use Rattle.listing.proofs.put_fit_line.Statement.{statement}
 use Rattle.listing.proofs.put_fit_line.Tie as tie
 
 returns : tie.Need-returns
-unfolding fitLine
+unfolding shownLine fitLine
 returns c = let w4 = c .before .before in
     let w3 = w4 .before .before .before .before in
     let w2 = w3 .before .before .before .before .before in
     let w1 = w2 .before .before .before .before .before .before in
-    rw (w3 .before .bit .ensures) at (puts-then (puts-then (puts-then (w1 .put-all .ensures) (w2 .put-three .ensures)) (w3 .put-three2 .ensures)) (w4 .put-byte .ensures))
+    rw (w3 .before .bit .ensures) at (puts-then (puts-then (w1 .put-all .ensures) (puts-then (w2 .put-three .ensures) (w3 .put-three2 .ensures))) (w4 .put-byte .ensures))
 
 pub put-fit-line-spec : {M : Type 1} → statement M
 put-fit-line-spec =

@@ -1,37 +1,29 @@
 use native.Mathlib.Omega.{arith}
 use borrow.Author.Needs.{needs}
 use mathlib.Core.Path.{_≡_}
-use mathlib.Core.List.{List}
 use Prim.Native.Nat.{ℕ, _≤_, _-_, _*_}
-use lib.ListN.{length, getD}
+use lib.ListN.{length}
 use Rattle.fields.specs.Puts.{Puts}
-use Rattle.listing.specs.Listing.{knotLine, knotLines}
+use Rattle.listing.specs.Shown.{firstKnots}
 use Rattle.vectors.proofs.Texts.{wrote-length}
-use Rattle.listing.proofs.Lines.{lines-none, lines-more}
+use Rattle.lines.proofs.More.{knots-none, knots-more}
 use denote.Ref.{now}
 use Rattle.listing.proofs.put_knots.Statement.{statement}
 use Rattle.listing.proofs.put_knots.Tie as tie
 
 abbrev Inv-loop : tie.InvT-loop
-Inv-loop out₀ at knots n i₀ pos₀ out i pos = (i ≤ n) × (length out ≡ length out₀) × Puts out₀ at (knotLines knots i) out pos (26 * i)
+Inv-loop out₀ at knots n i₀ pos₀ out i pos = (i ≤ n) × (length out ≡ length out₀) × Puts out₀ at (firstKnots knots i) out pos (26 * i)
 
 abbrev μ-loop : tie.MeasureT-loop
 μ-loop out₀ at knots n i₀ pos₀ out i pos = n - i
 
--- pre{
--- the line of knot i
-abbrev line : tie.Start Inv-loop μ-loop → ℕ → List ℕ
-line c i = knotLine (getD (now (c .args .knots)) i 0)
-
--- }pre
-
 loop-holds : tie.Need-loop-holds Inv-loop μ-loop
-loop-holds c = (search needs, search needs, lines-none (line (c .before .before)) 26 _ _ (omega arith))
+loop-holds c = (search needs, search needs, knots-none (now (c .before .before .args .knots)) _ _ (omega arith))
 
 loop-again : tie.Need-loop-again Inv-loop μ-loop
 loop-again c = let p = c .before .before in
     let l = p .before .before .before .before .before in
-    let w = lines-more (line (l .before .before .before)) 26 (l .loop .i) (l .loop .inv .2) (rw (p .before .wide .ensures) at (p .put-knot-line .ensures)) in
+    let w = knots-more (now (l .before .before .before .args .knots)) (l .loop .i) (omega arith) (l .loop .inv .2) (rw (p .before .wide .ensures) at (p .put-knot-line .ensures)) in
     (search needs, wrote-length (w .wrote), w)
 
 same-length : tie.Need-same-length Inv-loop μ-loop

@@ -1,11 +1,11 @@
-use Rattle.listing.specs.Listing.{listingOf}
+use Rattle.listing.specs.Shown.{shownListing}
 use Rattle.fields.proofs.Writers.{puts-then}
 use borrow.Author.Needs.{needs}
 use Rattle.listing.proofs.put_listing.Statement.{statement}
 use Rattle.listing.proofs.put_listing.Tie as tie
 
 returns : tie.Need-returns
-unfolding listingOf
+unfolding shownListing
 returns c = let w3 = c .before .before .before in
     let w2 = w3 .before .before .before .before in
     let w1 = w2 .before .before in

@@ -5,7 +5,7 @@ use native.Mathlib.Omega.{arith}
 use mathlib.Core.Path.{_≡_, sym, _∙_}
 use denote.Ref.{now}
 use Rattle.records.specs.Week.{entriesIn}
-use Rattle.records.specs.Reading.{openingOf}
+use Rattle.records.specs.Inner.{openingOf}
 use Rattle.records.specs.declared.Opening.the-variants.{Set}
 use Rattle.records.proofs.Asking.{Walked, walked, broken, week-long, week-broken, week-other, week-settings, week-hours, week-taken, refuses, takes}
 use borrow.Author.Needs.{needs}

@@ -36,7 +36,8 @@ fitted m =
     let work = marks .before in
     let knots = work .before in
     let cycle = knots .before in
-    fits-lent _ _ _ (f .l1-trend-filter .ensures .gives)
+    let a = begun marks .args in
+    fits-lent (a .st) (now (a .y)) _ (f .l1-trend-filter .ensures .gives)
     (lent-is (slice-aggregate-l1-trend-filter (cycle .before)) (slice-aggregate-l1-trend-filter-2 cycle) (slice-aggregate-l1-trend-filter-3 knots) (slice-aggregate-l1-trend-filter-4 work) (slice-aggregate-l1-trend-filter-5 marks))
 
 -- }pre

@@ -1,0 +1,2 @@
+-- Laws of what a fit left.
+mod Told

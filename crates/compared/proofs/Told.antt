@@ -1,0 +1,97 @@
+-- What an answer of the fit says of its outcome, and of the places that it left. Assumes nothing.
+use mathlib.Core.Path.{_≡_, refl, sym, ap, _∙_, subst}
+use Prim.Native.Nat.{ℕ, _+_, _-_, _≤_}
+use native.Mathlib.Omega.{arith}
+use mathlib.Core.List.{List}
+use lib.ListN.{length, take, drop, length-append}
+use lib.Seq.{take-at, length-take-le}
+use lib.Dec.{eqb}
+use Rattle.vectors.specs.Vec.{put}
+use Rattle.questions.specs.Questions.{Asked}
+use Rattle.fit.specs.Fit.{Fit, Outcome, refused, fitted, fit}
+use Rattle.trend_filter.specs.declared.Summary.{Summary}
+use Rattle.trend_filter.specs.declared.Answer.{Answer}
+use Rattle.trend_filter.specs.declared.Answer.the-variants as answers
+use Rattle.trend_filter.specs.Answers.{Buffers, lent, summaryOf, answerOf, after, Gives, Sizes, Answered}
+use Rattle.stored.specs.Words.{wordAt}
+use Rattle.compared.specs.Outcomes.{sameFit, sameOutcome}
+
+refused-at : (s : List ℕ) (i : ℕ) (o : Outcome) {q : ℕ} → answers.Refused q ≡ answerOf o → eqb q (wordAt s i) ≡ sameOutcome o s i
+unfolding sameOutcome answerOf
+refused-at s i (refused j) e = ap (λ (q : ℕ). eqb q (wordAt s i)) (let f : _ ≡ j = cc in f)
+refused-at s i (fitted f) e = let z : _≡_ {A = ℕ} 0 1 = cc in absurd (omega arith)
+
+-- a refusal is compared by its number
+pub told-refused : (s : List ℕ) (i : ℕ) {a : Asked} {r : Answer} {b c : Buffers} {q : ℕ} → Answered a r b c → r ≡ answers.Refused q → eqb q (wordAt s i) ≡ sameOutcome (fit a (lent b)) s i
+told-refused s i {a} {r} {b} h e = refused-at s i (fit a (lent b)) (sym e ∙ h .gives .answer)
+
+-- the answer is the outcome's
+pub told-answered : {a : Asked} {r : Answer} {b c : Buffers} → Answered a r b c → Answered a (answerOf (fit a (lent b))) b c
+told-answered {a} {r} {b} {c} h = subst (λ (x : Answer). Answered a x b c) (h .gives .answer) h
+
+-- the first places of a buffer
+front : {A : Type 0} (t s : List A) (n : ℕ) {u : List A} → length t ≡ n → u ≡ put s 0 t → take n u ≡ t
+front t s n e p = ap (take n) p ∙ take-at t (drop (0 + length t) s) n e
+
+within : {A : Type 0} (t s : List A) {u : List A} → u ≡ put s 0 t → length t ≤ length u
+within t s p = omega (arith, ap length p, length-append t (drop (0 + length t) s))
+
+-- an answer with the numbers f: the fit, and where its places stand
+pub record Told (a : Asked) (b c : Buffers) (f : Summary) : Type 0 where
+  pub whole : Fit
+  pub outcome : fit a (lent b) ≡ fitted whole
+  pub numbers : f ≡ summaryOf whole
+  pub trend : take (length (a .y)) (c .trend) ≡ whole .trend
+  pub cycle : take (length (a .y)) (c .cycle) ≡ whole .cycle
+  pub knots : take (f .knots) (c .knots) ≡ whole .knots
+  pub trend-in : length (a .y) ≤ length (c .trend)
+  pub cycle-in : length (a .y) ≤ length (c .cycle)
+  pub knots-in : f .knots ≤ length (c .knots)
+  pub few : f .knots ≤ length (a .y)
+
+told-of : (a : Asked) (b c : Buffers) (o : Outcome) {r : Answer} {f : Summary} → fit a (lent b) ≡ o → r ≡ answers.Fit f → Gives o r b c
+    → ((g : Fit) → fit a (lent b) ≡ fitted g → Sizes a g) → Told a b c f
+unfolding answerOf after summaryOf
+told-of a b c (refused q) {r} {f} e p h z =
+    let m : answers.Fit f ≡ answerOf (refused q) = sym p ∙ h .answer in
+    let x : _≡_ {A = ℕ} 0 1 = cc in absurd (omega arith)
+told-of a b c (fitted g) {r} {f} e p h z =
+    let m : answers.Fit f ≡ answerOf (fitted g) = sym p ∙ h .answer in
+    let n : f ≡ summaryOf g = cc in
+    let k : f .knots ≡ length (g .knots) = ap (λ (x : Summary). x .knots) n in
+    let l = z g e in
+    record {
+      whole = g;
+      outcome = e;
+      numbers = n;
+      trend = front (g .trend) (b .trend) (length (a .y)) (l .trend) (h .trend);
+      cycle = front (g .cycle) (b .cycle) (length (a .y)) (l .cycle) (h .cycle);
+      knots = front (g .knots) (b .knots) (f .knots) (sym k) (h .knots);
+      trend-in = omega (arith, within (g .trend) (b .trend) (h .trend), l .trend);
+      cycle-in = omega (arith, within (g .cycle) (b .cycle) (h .cycle), l .cycle);
+      knots-in = omega (arith, within (g .knots) (b .knots) (h .knots), k);
+      few = omega (arith, l .knots, k);
+    }
+
+pub told : {a : Asked} {b c : Buffers} {r : Answer} {f : Summary} → Answered a r b c → r ≡ answers.Fit f → Told a b c f
+told {a} {b} {c} h e = told-of a b c (fit a (lent b)) refl e (h .gives) (h .sizes)
+
+-- the parts of the buffers that are compared
+module _ {a : Asked} {b c : Buffers} {f : Summary} (t : Told a b c f) where
+  y-long : length (a .y) - 0 ≡ length (a .y)
+  y-long = omega arith
+
+  k-long : f .knots - 0 ≡ f .knots
+  k-long = omega arith
+
+  pub told-short : length (a .y) ≤ 168 → (length (take (length (a .y) - 0) (c .trend)) ≤ 168) × (length (take (length (a .y) - 0) (c .cycle)) ≤ 168) × (length (take (f .knots - 0) (c .knots)) ≤ 168)
+  told-short h =
+      rw (y-long, k-long) (
+        omega (arith, length-take-le _ (c .trend) (t .trend-in)),
+        omega (arith, length-take-le _ (c .cycle) (t .cycle-in)),
+        omega (arith, length-take-le _ (c .knots) (t .knots-in), t .few),
+      )
+
+  pub told-fit : (s : List ℕ) (i : ℕ) → sameFit f (take (length (a .y) - 0) (c .trend)) (take (length (a .y) - 0) (c .cycle)) (take (f .knots - 0) (c .knots)) s i ≡ sameOutcome (fit a (lent b)) s i
+  unfolding sameOutcome
+  told-fit s i = rw (y-long, k-long, t .trend, t .cycle, t .knots, t .outcome, t .numbers)

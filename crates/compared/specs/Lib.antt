@@ -1,0 +1,2 @@
+-- Outcomes, and whether they are the stored ones.
+pub mod Outcomes

@@ -1,2 +1,0 @@
--- What the program's own contracts cite.
-pub mod Room

@@ -1,0 +1,2 @@
+-- Laws of stored cases.
+mod Cases

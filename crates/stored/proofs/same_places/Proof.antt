@@ -1,0 +1,17 @@
+use borrow.Author.Needs.{needs}
+use Rattle.stored.specs.Words.{samePlaces}
+use Rattle.stored.proofs.same_places.Statement.{statement}
+use Rattle.stored.proofs.same_places.Tie as tie
+
+returns : tie.Need-returns
+unfolding samePlaces
+returns c = let b = c .before in
+    let k = b .before in
+    let y = k .before in
+    rw (c .both2 .ensures, b .both .ensures, k .same-knots .ensures, y .same-doubles2 .ensures, y .before .same-doubles .ensures)
+
+pub same-places-spec : {M : Type 1} → statement M
+same-places-spec =
+    tie.close
+    (tie.spec (λ c κs. search needs) (λ c. search needs) (λ c κs. search needs) (λ c. search needs) (λ c. search needs)
+    (λ c κs. search needs) (λ c κs. search needs) (λ c κs. search needs) returns)

@@ -1,0 +1,2 @@
+-- Stored words, and numbers compared with them.
+pub mod Words
