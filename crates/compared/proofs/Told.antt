@@ -8,11 +8,12 @@ use lib.Seq.{take-at, length-take-le}
 use lib.Dec.{eqb}
 use Rattle.vectors.specs.Vec.{put}
 use Rattle.questions.specs.Questions.{Asked}
-use Rattle.fit.specs.Fit.{Fit, Outcome, refused, fitted, fit}
+use Rattle.decomposition.specs.Outputs.{Outputs}
+use Rattle.fit.specs.Fit.{FitResult, Outcome, refused, fitted, fit, after, Lengths}
 use Rattle.trend_filter.specs.declared.Summary.{Summary}
 use Rattle.trend_filter.specs.declared.Answer.{Answer}
 use Rattle.trend_filter.specs.declared.Answer.the-variants as answers
-use Rattle.trend_filter.specs.Answers.{Buffers, lent, summaryOf, answerOf, after, Gives, Sizes, Answered}
+use Rattle.trend_filter.specs.Answers.{Buffers, lent, summaryOf, answerOf, Gives, Answered}
 use Rattle.stored.specs.Words.{wordAt}
 use Rattle.compared.specs.Outcomes.{sameFit, sameOutcome}
 
@@ -38,19 +39,19 @@ within t s p = omega (arith, ap length p, length-append t (drop (0 + length t) s
 
 -- an answer with the numbers f: the fit, and where its places stand
 pub record Told (a : Asked) (b c : Buffers) (f : Summary) : Type 0 where
-  pub whole : Fit
+  pub whole : FitResult
   pub outcome : fit a (lent b) ≡ fitted whole
   pub numbers : f ≡ summaryOf whole
-  pub trend : take (length (a .y)) (c .trend) ≡ whole .trend
-  pub cycle : take (length (a .y)) (c .cycle) ≡ whole .cycle
-  pub knots : take (f .knots) (c .knots) ≡ whole .knots
-  pub trend-in : length (a .y) ≤ length (c .trend)
-  pub cycle-in : length (a .y) ≤ length (c .cycle)
-  pub knots-in : f .knots ≤ length (c .knots)
+  pub trend : take (length (a .y)) (c .out .trend) ≡ whole .trend
+  pub cycle : take (length (a .y)) (c .out .cycle) ≡ whole .cycle
+  pub knots : take (f .knots) (c .out .knots) ≡ whole .knots
+  pub trend-in : length (a .y) ≤ length (c .out .trend)
+  pub cycle-in : length (a .y) ≤ length (c .out .cycle)
+  pub knots-in : f .knots ≤ length (c .out .knots)
   pub few : f .knots ≤ length (a .y)
 
-told-of : (a : Asked) (b c : Buffers) (o : Outcome) {r : Answer} {f : Summary} → fit a (lent b) ≡ o → r ≡ answers.Fit f → Gives o r b c
-    → ((g : Fit) → fit a (lent b) ≡ fitted g → Sizes a g) → Told a b c f
+told-of : (a : Asked) (b c : Buffers) (o : Outcome) {r : Answer} {f : Summary} → fit a (lent b) ≡ o → r ≡ answers.Fit f → Gives o r (b .out) (c .out)
+    → ((g : FitResult) → fit a (lent b) ≡ fitted g → Lengths a g) → Told a b c f
 unfolding answerOf after summaryOf
 told-of a b c (refused q) {r} {f} e p h z =
     let m : answers.Fit f ≡ answerOf (refused q) = sym p ∙ h .answer in
@@ -60,16 +61,19 @@ told-of a b c (fitted g) {r} {f} e p h z =
     let n : f ≡ summaryOf g = cc in
     let k : f .knots ≡ length (g .knots) = ap (λ (x : Summary). x .knots) n in
     let l = z g e in
+    let trend-is = ap (λ (x : Outputs). x .trend) (h .out) in
+    let cycle-is = ap (λ (x : Outputs). x .cycle) (h .out) in
+    let knots-is = ap (λ (x : Outputs). x .knots) (h .out) in
     record {
       whole = g;
       outcome = e;
       numbers = n;
-      trend = front (g .trend) (b .trend) (length (a .y)) (l .trend) (h .trend);
-      cycle = front (g .cycle) (b .cycle) (length (a .y)) (l .cycle) (h .cycle);
-      knots = front (g .knots) (b .knots) (f .knots) (sym k) (h .knots);
-      trend-in = omega (arith, within (g .trend) (b .trend) (h .trend), l .trend);
-      cycle-in = omega (arith, within (g .cycle) (b .cycle) (h .cycle), l .cycle);
-      knots-in = omega (arith, within (g .knots) (b .knots) (h .knots), k);
+      trend = front (g .trend) (b .out .trend) (length (a .y)) (l .trend) trend-is;
+      cycle = front (g .cycle) (b .out .cycle) (length (a .y)) (l .cycle) cycle-is;
+      knots = front (g .knots) (b .out .knots) (f .knots) (sym k) knots-is;
+      trend-in = omega (arith, within (g .trend) (b .out .trend) trend-is, l .trend);
+      cycle-in = omega (arith, within (g .cycle) (b .out .cycle) cycle-is, l .cycle);
+      knots-in = omega (arith, within (g .knots) (b .out .knots) knots-is, k);
       few = omega (arith, l .knots, k);
     }
 
@@ -84,14 +88,14 @@ module _ {a : Asked} {b c : Buffers} {f : Summary} (t : Told a b c f) where
   k-long : f .knots - 0 ≡ f .knots
   k-long = omega arith
 
-  pub told-short : length (a .y) ≤ 168 → (length (take (length (a .y) - 0) (c .trend)) ≤ 168) × (length (take (length (a .y) - 0) (c .cycle)) ≤ 168) × (length (take (f .knots - 0) (c .knots)) ≤ 168)
+  pub told-short : length (a .y) ≤ 168 → (length (take (length (a .y) - 0) (c .out .trend)) ≤ 168) × (length (take (length (a .y) - 0) (c .out .cycle)) ≤ 168) × (length (take (f .knots - 0) (c .out .knots)) ≤ 168)
   told-short h =
       rw (y-long, k-long) (
-        omega (arith, length-take-le _ (c .trend) (t .trend-in)),
-        omega (arith, length-take-le _ (c .cycle) (t .cycle-in)),
-        omega (arith, length-take-le _ (c .knots) (t .knots-in), t .few),
+        omega (arith, length-take-le _ (c .out .trend) (t .trend-in)),
+        omega (arith, length-take-le _ (c .out .cycle) (t .cycle-in)),
+        omega (arith, length-take-le _ (c .out .knots) (t .knots-in), t .few),
       )
 
-  pub told-fit : (s : List ℕ) (i : ℕ) → sameFit f (take (length (a .y) - 0) (c .trend)) (take (length (a .y) - 0) (c .cycle)) (take (f .knots - 0) (c .knots)) s i ≡ sameOutcome (fit a (lent b)) s i
+  pub told-fit : (s : List ℕ) (i : ℕ) → sameFit f (take (length (a .y) - 0) (c .out .trend)) (take (length (a .y) - 0) (c .out .cycle)) (take (f .knots - 0) (c .out .knots)) s i ≡ sameOutcome (fit a (lent b)) s i
   unfolding sameOutcome
   told-fit s i = rw (y-long, k-long, t .trend, t .cycle, t .knots, t .outcome, t .numbers)

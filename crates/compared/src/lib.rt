@@ -8,7 +8,7 @@ ghost use Prim.Native.Nat.{_≤_, _<_};
 ghost use lib.ListN.{length};
 ghost use Rattle.questions.specs.Asking.{asking};
 ghost use Rattle.trend_filter.specs.Calls.{oneIf};
-ghost use Rattle.trend_filter.specs.Inner.{buffers};
+ghost use Rattle.trend_filter.specs.Answers.{buffers};
 ghost use Rattle.compared.specs.Outcomes.{sameSummary, sameFit, Compares};
 
 fn one_if(b: bool) -> u64

@@ -5,7 +5,7 @@ use mathlib.Core.List.{List, _++_}
 use lib.ListN.{length}
 use lib.Ieee.{Float}
 use Rattle.questions.specs.Questions.{Asked, Lent}
-use Rattle.fit.specs.Fit.{Fit, Outcome, refused, fitted, fit}
+use Rattle.fit.specs.Fit.{FitResult, Outcome, refused, fitted, fit}
 use Rattle.records.specs.declared.Settings.{Settings}
 use Rattle.records.specs.Entries.{hoursOf}
 use Rattle.records.specs.Week.{Reading, unread, read, readWeek}
@@ -20,10 +20,10 @@ abbrev pub weekLent : Lent
 weekLent = record { trend = 168; cycle = 168; knots = 168; work = 6720; marks = 336 }
 
 -- the listing of a fit: n, order, penalty, n_iter, improvements, converged (0 or 1); lam_max, gap, objective; each hour; each knot
-unfoldable pub listingOf : Asked → Fit → List ℕ
+unfoldable pub listingOf : Asked → FitResult → List ℕ
 listingOf a f =
-    fitLine (three (length (a .y)) (a .order) (a .penalty) ++ three (f .n-iter) (f .improvements) (cond (f .converged) 1 0))
-    ++ numbersLine (f .lam-max) (f .gap) (f .objective)
+    fitLine (three (length (a .y)) (a .order) (a .penalty) ++ three (f .numbers .«n_iter») (f .numbers .improvements) (cond (f .numbers .converged) 1 0))
+    ++ numbersLine (f .lam-max) (f .numbers .gap) (f .numbers .objective)
     ++ hourLinesFrom 0 (f .trend) (f .cycle)
     ++ knotLines (f .knots)
 

@@ -6,15 +6,12 @@ use Rattle.compared.proofs.Told.{told, told-refused, told-answered, tol
 use Rattle.compared.proofs.same_outcome.Statement.{statement}
 use Rattle.compared.proofs.same_outcome.Tie as tie
 
--- pre{
 -- the call of the fit, from where its buffers are at hand again
 abbrev called : tie.After-slice-known10 → tie.After-l1-trend-filter
 called m = m .before .before .before .before .before .before .before .before .before .before
 
 abbrev begun : tie.After-l1-trend-filter → tie.Start
 begun f = f .before .before .before .before .before .before .before .before .before .before .before .before
-
--- }pre
 
 part-same-fit-end : tie.Need-part-same-fit-end
 part-same-fit-end c = let r = c .before .before in
