@@ -12,7 +12,8 @@ use lib.ListN.{length, set, take, drop, length-append, length-set, List·getD-ap
 use lib.Seq.{getD-at, getD-set-same, getD-set-other, getD-take, getD-append-add, ext-getD}
 use lib.Ieee.{Float, nan, binary64, ofBits, sub}
 use borrow.Author.Tests.{ltb-true, ltb-false, le-ltb}
-use Rattle.vectors.specs.Vec.{at, part}
+use Rattle.vectors.specs.Vec.{at}
+use Rattle.vectors.specs.Parts.{part}
 use Rattle.vectors.proofs.Laws.{cond-cong, kept-none}
 use Rattle.vectors.proofs.Parts.{length-part, at-part, partOf-range}
 use Rattle.banded.specs.Rows.{Matrix, line, less, lessFrom, reduced, entry, placed, rowTo, row, rows, sound}

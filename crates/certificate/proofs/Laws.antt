@@ -12,7 +12,8 @@ use lib.Ieee.{Float, nan, inf, fin, lt, neg, below, up, down}
 use Rattle.float64.specs.Ops.{_⊕_, _⊖_, _⊗_, c0, half}
 use Rattle.float64.specs.Helpers.{absOf, clampOf}
 use Rattle.float64.proofs.Clash.{clash}
-use Rattle.vectors.specs.Vec.{at, part, Written}
+use Rattle.vectors.specs.Vec.{at}
+use Rattle.vectors.specs.Parts.{part, Written}
 use Rattle.vectors.specs.Sums.{norm2Sq, dot, sumAbs, inside}
 use Rattle.vectors.proofs.Laws.{length-list, at-list, list-ext, list-is, cond-cong}
 use Rattle.vectors.proofs.Parts.{partOf-ext, range-part, length-part, part-above}

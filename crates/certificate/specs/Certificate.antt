@@ -8,6 +8,7 @@ use Rattle.float64.specs.Ops.{_⊕_, _⊖_, _⊗_, half}
 use Rattle.vectors.specs.Vec.{at, list}
 use Rattle.vectors.specs.Sums.{norm2Sq, dot, sumAbs}
 use Rattle.differences.specs.Diff.{diffK, diffKT}
+use Rattle.search.specs.Search.{gapBetween}
 
 -- the trend x, P and G
 pub record Certificate : Type 0 where
@@ -38,4 +39,4 @@ certify k y lam z =
 
 -- gap = P - G
 abbrev pub gapOf : Certificate → Float
-gapOf c = c .primal ⊖ c .dual
+gapOf c = gapBetween (c .primal) (c .dual)

@@ -2,7 +2,8 @@
 ghost use mathlib.Core.Path.{_≡_};
 ghost use Prim.Native.Nat.{_≤_, _<_, _-_, _+_};
 ghost use lib.ListN.{length};
-ghost use Rattle.vectors.specs.Vec.{at, part};
+ghost use Rattle.vectors.specs.Vec.{at};
+ghost use Rattle.vectors.specs.Parts.{part};
 ghost use Rattle.vectors.specs.Sums.{norm2Sq, dot, sumAbs};
 ghost use Rattle.differences.specs.Diff.{before, here, fall, diffK, diffKT};
 ghost use Rattle.certificate.specs.Certificate.{clamped};

@@ -5,7 +5,7 @@ use mathlib.Core.Option.{Option, none, some}
 use Prim.Native.Nat.{ℕ, _+_, _*_}
 use lib.ListN.{length}
 use lib.Ieee.{Float}
-use Rattle.vectors.specs.Vec.{part}
+use Rattle.vectors.specs.Parts.{part}
 use Rattle.gram.specs.Prepared.{preparation}
 use Rattle.dual_point.specs.Lanes.{candidateTrend, searchArea}
 use Rattle.fit.specs.Fit.{Found}

@@ -6,6 +6,7 @@ use mathlib.Core.List.{List}
 use lib.ListN.{length, take, drop, length-append}
 use lib.Seq.{take-at, length-take-le}
 use lib.Dec.{eqb}
+use Rattle.float64.proofs.Clash.{impossible}
 use Rattle.vectors.specs.Vec.{put}
 use Rattle.questions.specs.Questions.{Asked}
 use Rattle.decomposition.specs.Outputs.{Outputs}
@@ -20,7 +21,7 @@ use Rattle.compared.specs.Outcomes.{sameFit, sameOutcome}
 refused-at : (s : List ℕ) (i : ℕ) (o : Outcome) {q : ℕ} → answers.Refused q ≡ answerOf o → eqb q (wordAt s i) ≡ sameOutcome o s i
 unfolding sameOutcome answerOf
 refused-at s i (refused j) e = ap (λ (q : ℕ). eqb q (wordAt s i)) (let f : _ ≡ j = cc in f)
-refused-at s i (fitted f) e = let z : _≡_ {A = ℕ} 0 1 = cc in absurd (omega arith)
+refused-at s i (fitted f) e = impossible cc
 
 -- a refusal is compared by its number
 pub told-refused : (s : List ℕ) (i : ℕ) {a : Asked} {r : Answer} {b c : Buffers} {q : ℕ} → Answered a r b c → r ≡ answers.Refused q → eqb q (wordAt s i) ≡ sameOutcome (fit a (lent b)) s i
@@ -55,7 +56,7 @@ told-of : (a : Asked) (b c : Buffers) (o : Outcome) {r : Answer} {f : Summary} �
 unfolding answerOf after summaryOf
 told-of a b c (refused q) {r} {f} e p h z =
     let m : answers.Fit f ≡ answerOf (refused q) = sym p ∙ h .answer in
-    let x : _≡_ {A = ℕ} 0 1 = cc in absurd (omega arith)
+    impossible cc
 told-of a b c (fitted g) {r} {f} e p h z =
     let m : answers.Fit f ≡ answerOf (fitted g) = sym p ∙ h .answer in
     let n : f ≡ summaryOf g = cc in

@@ -8,7 +8,8 @@ use native.Mathlib.Omega.{arith}
 use lib.ListN.{length, length-append}
 use lib.Ieee.{Float, lt}
 use Rattle.float64.specs.Helpers.{absOf}
-use Rattle.vectors.specs.Vec.{at, Wrote}
+use Rattle.vectors.specs.Vec.{at}
+use Rattle.vectors.specs.Parts.{Wrote}
 use Rattle.vectors.proofs.Texts.{wrote-then}
 use Rattle.decomposition.specs.Knots.{aboveTo}
 

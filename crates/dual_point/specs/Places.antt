@@ -2,7 +2,7 @@
 use mathlib.Core.List.{List}
 use Prim.Native.Nat.{ℕ, _+_}
 use lib.Ieee.{Float}
-use Rattle.vectors.specs.Vec.{part}
+use Rattle.vectors.specs.Parts.{part}
 use Rattle.dual_point.specs.Dual.{Dual}
 
 -- the point, or the direction, whose three parts of m stand from a on

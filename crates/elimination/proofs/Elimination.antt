@@ -11,7 +11,8 @@ use lib.ListN.{length, set, List·getD-append}
 use lib.Seq.{getD-at, getD-set-other}
 use lib.Ieee.{Float, nan}
 use Rattle.float64.proofs.Clash.{clash}
-use Rattle.vectors.specs.Vec.{at, part}
+use Rattle.vectors.specs.Vec.{at}
+use Rattle.vectors.specs.Parts.{part}
 use Rattle.vectors.proofs.Parts.{length-part}
 use Rattle.banded.specs.Rows.{Matrix, entry, placed, rowTo, row, rows, sound, good}
 use Rattle.banded.specs.Solve.{forwardAt, forward}

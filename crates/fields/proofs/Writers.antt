@@ -3,7 +3,7 @@ use Prim.Native.Nat.{ℕ, _+_, _≤_}
 use native.Mathlib.Omega.{arith}
 use mathlib.Core.List.{List, _++_}
 use lib.ListN.{length}
-use Rattle.vectors.specs.Vec.{Wrote}
+use Rattle.vectors.specs.Parts.{Wrote}
 use Rattle.vectors.proofs.Texts.{wrote-then}
 use Rattle.fields.specs.Puts.{Puts}
 

@@ -2,7 +2,7 @@
 ghost use mathlib.Core.Path.{_≡_};
 ghost use Prim.Native.Nat.{_≤_, _<_, _-_, _+_, _*_};
 ghost use lib.ListN.{length};
-ghost use Rattle.vectors.specs.Vec.{Written};
+ghost use Rattle.vectors.specs.Parts.{Written};
 ghost use Rattle.banded.specs.Rows.{placed};
 ghost use Rattle.banded.specs.Layout.{Laid};
 ghost use Rattle.gram.specs.Gram.{gram, product as product_of};

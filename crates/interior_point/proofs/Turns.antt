@@ -9,9 +9,10 @@ use borrow.Author.Tests.{ltb-true, ltb-false}
 use lib.Dec.{eqb, ltb}
 use lib.ListN.{length}
 use lib.Ieee.{Float, nan, lt, le}
-use Rattle.float64.proofs.Clash.{clash}
+use Rattle.float64.proofs.Clash.{clash, impossible}
 use Rattle.float64.specs.Ops.{_⊖_, _⊗_, _⊘_, c0, c0·99, c1, c1e-10, infinity}
-use Rattle.vectors.specs.Vec.{at, partOf, part, Kept, Written}
+use Rattle.vectors.specs.Vec.{at, Kept}
+use Rattle.vectors.specs.Parts.{partOf, part, Written}
 use Rattle.vectors.proofs.Laws.{kept-then, kept-none, list-ext, written-kept}
 use Rattle.vectors.proofs.Parts.{length-part, part-below, part-above}
 use Rattle.differences.specs.Diff.{diffK, gramRow}
@@ -40,10 +41,10 @@ startRun v p = record { t = c1e-10; step = infinity; gap = v; primal = p; first 
 -- what a step's answer says
 was-moved : (b : Bool) (x step : Float) → stepOf b x ≡ Moved step → (b ≡ true) × (x ≡ step)
 was-moved true x step e = (refl, cc)
-was-moved false x step e = let z : _≡_ {A = ℕ} 0 1 = cc in absurd (omega arith)
+was-moved false x step e = impossible cc
 
 was-lost : (b : Bool) (x : Float) → stepOf b x ≡ Lost → b ≡ false
-was-lost true x e = let z : _≡_ {A = ℕ} 0 1 = cc in absurd (omega arith)
+was-lost true x e = impossible cc
 was-lost false x e = refl
 
 -- what is so where another iteration is made

@@ -7,7 +7,8 @@ use lib.Dec.{eqb, ltb}
 use lib.ListN.{length}
 use lib.Ieee.{Float, lt, le}
 use Rattle.float64.specs.Ops.{_⊖_, _⊗_, c0·99}
-use Rattle.vectors.specs.Vec.{part, Kept}
+use Rattle.vectors.specs.Vec.{Kept}
+use Rattle.vectors.specs.Parts.{part}
 use Rattle.differences.specs.Diff.{gramRow}
 use Rattle.certificate.specs.Certificate.{Certificate, certify, gapOf}
 use Rattle.certificate.specs.Ready.{Ready}

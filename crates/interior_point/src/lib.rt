@@ -3,7 +3,7 @@ ghost use mathlib.Core.Path.{_≡_};
 ghost use mathlib.Core.Bool.{true, false};
 ghost use Prim.Native.Nat.{_≤_, _<_, _+_, _-_, _*_, _^_};
 ghost use lib.ListN.{length};
-ghost use Rattle.vectors.specs.Vec.{Written};
+ghost use Rattle.vectors.specs.Parts.{Written};
 ghost use Rattle.differences.specs.Diff.{diffK};
 ghost use Rattle.certificate.specs.Ready.{Ready};
 ghost use Rattle.dual_point.specs.Dual.{Dual};

@@ -4,7 +4,7 @@ ghost use mathlib.Core.Path.{_≡_};
 ghost use mathlib.Core.Bool.{cond};
 ghost use Prim.Native.Nat.{_+_, _*_, _≤_};
 ghost use lib.ListN.{length};
-ghost use Rattle.vectors.specs.Vec.{Wrote};
+ghost use Rattle.vectors.specs.Parts.{Wrote};
 ghost use Rattle.fields.specs.Puts.{Puts};
 ghost use Rattle.lines.specs.Lines.{refusedLine};
 ghost use Rattle.listing.specs.Shown.{shownLine, firstHours, firstKnots, shownListing};

@@ -6,7 +6,8 @@ use native.Mathlib.Nat.{sub-self}
 use native.Mathlib.Omega.{arith}
 use borrow.Author.Tests.{lt-ltb, le-ltb, le-leb}
 use lib.Ieee.{Float, binary64, add}
-use Rattle.vectors.specs.Vec.{at, part}
+use Rattle.vectors.specs.Vec.{at}
+use Rattle.vectors.specs.Parts.{part}
 use Rattle.vectors.proofs.Parts.{at-part}
 use Rattle.gram.specs.Gram.{gram, product}
 use Rattle.dual_point.specs.Dual.{Dual, Values, valuesAt}

@@ -11,7 +11,8 @@ use lib.Ieee.{Float, nan, binary64, add}
 use borrow.Author.Tests.{lt-ltb, le-ltb}
 use Rattle.float64.proofs.Clash.{clash}
 use Rattle.vectors.specs.Sums.{sumTo}
-use Rattle.vectors.specs.Vec.{at, part, Kept}
+use Rattle.vectors.specs.Vec.{at, Kept}
+use Rattle.vectors.specs.Parts.{part}
 use Rattle.vectors.proofs.Laws.{length-list, at-list, kept-none, kept-then}
 use Rattle.vectors.proofs.Parts.{length-part, at-part, putBack, mid-put, length-put, kept-put, part-put, part-size}
 use Rattle.vectors.proofs.Sums.{sum-more}

@@ -5,7 +5,8 @@ use mathlib.Core.List.{List}
 use Prim.Native.Nat.{ℕ, _+_, _-_, _*_, _<_, _≤_}
 use lib.Dec.{ltb}
 use lib.Ieee.{Float}
-use Rattle.vectors.specs.Vec.{at, part, Kept}
+use Rattle.vectors.specs.Vec.{at, Kept}
+use Rattle.vectors.specs.Parts.{part}
 use Rattle.differences.specs.Series.{Order}
 use Rattle.banded.specs.Rows.{rows, sound}
 use Rattle.banded.specs.Solve.{forward}

@@ -7,7 +7,8 @@ use Prim.Native.Nat.{ℕ, _+_, _≤_, _<_}
 use native.Mathlib.Omega.{arith}
 use lib.ListN.{length}
 use lib.Ieee.{Float, nan}
-use Rattle.vectors.specs.Vec.{at, list, part}
+use Rattle.vectors.specs.Vec.{at, list}
+use Rattle.vectors.specs.Parts.{part}
 use Rattle.vectors.proofs.Laws.{list-ext, cond-cong}
 use Rattle.vectors.proofs.Parts.{at-part, putBack, part-put}
 use Rattle.banded.specs.Rows.{sound}

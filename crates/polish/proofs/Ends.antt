@@ -9,8 +9,10 @@ use native.Mathlib.Omega.{arith}
 use lib.ListN.{length, getD, take, drop}
 use lib.Seq.{getD-take}
 use lib.Ieee.{Float, nan}
+use Rattle.float64.proofs.Clash.{impossible}
 use Rattle.float64.specs.Ops.{_⊖_}
-use Rattle.vectors.specs.Vec.{at, part, Kept, KeptOf}
+use Rattle.vectors.specs.Vec.{at, Kept, KeptOf}
+use Rattle.vectors.specs.Parts.{part}
 use Rattle.vectors.proofs.Laws.{list-ext, kept-then}
 use Rattle.vectors.proofs.Parts.{length-part, partOf-range, putBack, part-put}
 use Rattle.differences.specs.Diff.{diffK, gramRow}
@@ -72,7 +74,7 @@ module _ (k : ℕ) (y : List Float) (lam : Float) {w₀ w₁ : List Float} {v₀
   pub ended-none : (r : Candidate) → r .there ≡ false → polishFrom k y lam w₀ ≡ none → Polished k y lam w₀ w₁ v₀ v r
   ended-none r e p = record {
     there = e ∙ rw p;
-    rated = λ z s. let x : _≡_ {A = ℕ} 0 1 = cc in absurd (omega arith);
+    rated = λ z s. impossible cc;
     kept = kept;
     marks = marks-all (length y) k marks;
   }

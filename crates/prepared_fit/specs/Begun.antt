@@ -6,7 +6,8 @@ use Prim.Native.Nat.{ℕ}
 use lib.Dec.{ltb}
 use lib.ListN.{length}
 use lib.Ieee.{Float}
-use Rattle.vectors.specs.Vec.{part, Kept}
+use Rattle.vectors.specs.Vec.{Kept}
+use Rattle.vectors.specs.Parts.{part}
 use Rattle.differences.specs.Diff.{diffK, gramRow}
 use Rattle.gram.specs.Gram.{zstar}
 use Rattle.gram.specs.Prepared.{starLane, diffLane, preparation}

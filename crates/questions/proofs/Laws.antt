@@ -14,12 +14,18 @@ use Rattle.float64.proofs.Clash.{clash}
 use Rattle.vectors.specs.Vec.{at}
 use Rattle.vectors.proofs.Sums.{both}
 use Rattle.differences.specs.Series.{Order, Series}
-use Rattle.questions.specs.Questions.{Asked, Lent, oneOrTwo, finiteTo, workPlaces, marksPlaces, kindsKnown, longEnough, shortEnough, allFinite, lamRight, tolRight, limitRight, answerRoom, scratchRoom, sizes, values, room, question}
+use Rattle.questions.specs.Questions.{Asked, Lent, oneOrTwo, finiteTo, workPlaces, marksPlaces, kindsKnown, longEnough, shortEnough, allFinite, lamRight, tolRight, limitRight, answerRoom, scratchRoom, ask, question}
+use Rattle.questions.specs.Groups.{sizes, values, room, next}
 use Rattle.questions.specs.Asking.{asking}
 
-next-zero : (q r : ℕ) (b : Bool) → eqb q 0 ≡ b → cond b r q ≡ 0 → (q ≡ 0) × (r ≡ 0)
-next-zero q r true e p = (eqb-true q 0 e, p)
-next-zero q r false e p = absurd (clash (eq-eqb q 0 p) e)
+-- ---- the questions in three groups
+next-ask : (k : ℕ) (b : Bool) (r s : ℕ) → eqb k 0 ≡ false → next (ask k b r) s ≡ ask k b (next r s)
+next-ask k true r s h = refl
+next-ask k false r s h = rw h
+
+pub grouped : (a : Asked) (l : Lent) → question a l ≡ next (sizes (length (a .y)) (a .order) (a .penalty)) (next (values (a .y) (a .lam) (a .tol) (a .max-iter)) (room (length (a .y)) l))
+unfolding question sizes values room
+grouped a l = rw (next-ask 1 _ _ _ refl, next-ask 2 _ _ _ refl, next-ask 3 _ _ _ refl, next-ask 4 _ _ _ refl, next-ask 5 _ _ _ refl, next-ask 6 _ _ _ refl, next-ask 7 _ _ _ refl)
 
 -- ---- a question answered yes
 past : (k : ℕ) (b : Bool) (r : ℕ) → cond b r (suc k) ≡ 0 → (b ≡ true) × (r ≡ 0)
@@ -68,19 +74,17 @@ pub record Passed (a : Asked) (l : Lent) : Type 0 where
   pub marks : marksPlaces (length (a .y)) ≤ l .marks
 
 pub passed : (a : Asked) (l : Lent) → question a l ≡ 0 → Passed a l
-unfolding question sizes values room
+unfolding question
 passed a l e =
     let n = length (a .y) in
-    let g = next-zero (sizes n (a .order) (a .penalty)) _ _ refl e in
-    let h = next-zero (values (a .y) (a .lam) (a .tol) (a .max-iter)) (room n l) _ refl (g .1) in
-    let q1 = past 0 (kindsKnown (a .order) (a .penalty)) _ (g .0) in
+    let q1 = past 0 (kindsKnown (a .order) (a .penalty)) _ e in
     let q2 = past 1 (longEnough n (a .order)) _ (q1 .1) in
-    let q3 = past 2 (shortEnough n) 0 (q2 .1) in
-    let q4 = past 3 (allFinite (a .y)) _ (h .0) in
+    let q3 = past 2 (shortEnough n) _ (q2 .1) in
+    let q4 = past 3 (allFinite (a .y)) _ (q3 .1) in
     let q5 = past 4 (lamRight (a .lam)) _ (q4 .1) in
     let q6 = past 5 (tolRight (a .tol)) _ (q5 .1) in
-    let q7 = past 6 (limitRight (a .max-iter)) 0 (q6 .1) in
-    let q8 = past 7 (answerRoom n l) _ (h .1) in
+    let q7 = past 6 (limitRight (a .max-iter)) _ (q6 .1) in
+    let q8 = past 7 (answerRoom n l) _ (q7 .1) in
     let q9 = past 8 (scratchRoom n l) 0 (q8 .1) in
     let kinds = both (oneOrTwo (a .order)) (oneOrTwo (a .penalty)) (q1 .0) in
     let lam = both (isFinite (a .lam)) (not (lt (a .lam) c0)) (q5 .0) in
@@ -107,18 +111,14 @@ passed a l e =
     }
 
 -- ---- the questions do not tell two limits from 1 up apart
-same-values : (y : List Float) (lam tol : Float) (m n : ℕ) → 1 ≤ m → 1 ≤ n → values y lam tol m ≡ values y lam tol n
-unfolding values
-same-values y lam tol m n h k = rw (le-leb 1 m h, le-leb 1 n k)
-
 pub same-question : (a : Asked) (l : Lent) (m : ℕ) → 1 ≤ a .max-iter → 1 ≤ m
     → question (asking (a .y) (a .lam) (a .tol) m (a .order) (a .penalty)) l ≡ question a l
 unfolding question
-same-question a l m h k = rw (same-values (a .y) (a .lam) (a .tol) m (a .max-iter))
+same-question a l m h k = rw (le-leb 1 m k, le-leb 1 (a .max-iter) h)
 
 -- ---- question 3: a series of more than 65,536 places is refused with 3 where order and penalty are right, and no shorter one is
 pub too-long : (a : Asked) (l : Lent) → oneOrTwo (a .order) ≡ true → oneOrTwo (a .penalty) ≡ true → 65536 < length (a .y) → question a l ≡ 3
-unfolding question sizes
+unfolding question
 too-long a l o p h =
     let k = one-or-two (a .order) o in
     rw (o, p, le-leb (a .order + 1) (length (a .y)) (omega arith), lt-leb (length (a .y)) 65536 h)
@@ -128,21 +128,12 @@ other : (k : ℕ) (b : Bool) (r : ℕ) → eqb k 3 ≡ false → cond b r k ≡ 
 other k true r h p = p
 other k false r h p = absurd (clash (eq-eqb k 3 p) h)
 
-next-three : (q r : ℕ) (b : Bool) → cond b r q ≡ 3 → (q ≡ 3 → ⊥) → r ≡ 3
-next-three q r true p h = p
-next-three q r false p h = absurd (h p)
-
 pub not-too-long : (a : Asked) (l : Lent) → length (a .y) ≤ 65536 → question a l ≡ 3 → ⊥
-unfolding question sizes values room
+unfolding question
 not-too-long a l h e =
     let n = length (a .y) in
-    let v = next-three (sizes n (a .order) (a .penalty)) _ (eqb (sizes n (a .order) (a .penalty)) 0) e
-    (λ p. let q = other 2 (longEnough n (a .order)) _ refl (other 1 (kindsKnown (a .order) (a .penalty)) _ refl p) in
-    zero-three (rw (le-leb n 65536 h) at q)) in
-    let r = next-three (values (a .y) (a .lam) (a .tol) (a .max-iter)) (room n l) (eqb (values (a .y) (a .lam) (a .tol) (a .max-iter)) 0) v
-    (λ p. let q = other 5 (lamRight (a .lam)) _ refl (other 4 (allFinite (a .y)) _ refl p) in
-    zero-three (other 7 (limitRight (a .max-iter)) 0 refl (other 6 (tolRight (a .tol)) _ refl q))) in
-    zero-three (other 9 (scratchRoom n l) 0 refl (other 8 (answerRoom n l) _ refl r))
-  where
-    zero-three : zero ≡ 3 → ⊥
-    zero-three w = omega arith
+    let q2 = other 2 (longEnough n (a .order)) _ refl (other 1 (kindsKnown (a .order) (a .penalty)) _ refl e) in
+    let q5 = other 5 (lamRight (a .lam)) _ refl (other 4 (allFinite (a .y)) _ refl (rw (le-leb n 65536 h) at q2)) in
+    let q7 = other 7 (limitRight (a .max-iter)) _ refl (other 6 (tolRight (a .tol)) _ refl q5) in
+    let z : zero ≡ 3 = other 9 (scratchRoom n l) 0 refl (other 8 (answerRoom n l) _ refl q7) in
+    omega arith

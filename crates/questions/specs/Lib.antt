@@ -1,3 +1,4 @@
 -- The definitions that the contracts of questions cite.
 pub mod Questions
 pub mod Asking
+pub mod Groups

@@ -83,24 +83,17 @@ scratchRoom n l = leb (workPlaces n) (l .work) && leb (marksPlaces n) (l .marks)
 abbrev pub ask : ℕ → Bool → ℕ → ℕ
 ask number answer rest = cond answer rest number
 
--- 1 to 3: the first answered no, and 0 where none is; so too the other groups
-unfoldable pub sizes : ℕ → ℕ → ℕ → ℕ
-sizes n order penalty = ask 1 (kindsKnown order penalty) (ask 2 (longEnough n order) (ask 3 (shortEnough n) 0))
-
--- 4 to 7
-unfoldable pub values : List Float → Float → Float → ℕ → ℕ
-values y lam tol max-iter = ask 4 (allFinite y) (ask 5 (lamRight lam) (ask 6 (tolRight tol) (ask 7 (limitRight max-iter) 0)))
-
--- 8 and 9
-unfoldable pub room : ℕ → Lent → ℕ
-room n l = ask 8 (answerRoom n l) (ask 9 (scratchRoom n l) 0)
-
--- what a group gives, or where it gives 0 what the next one does
-abbrev pub next : ℕ → ℕ → ℕ
-next q r = cond (eqb q 0) r q
-
 -- the first question of 1 to 9 answered no, and 0 where none is
 unfoldable pub question : Asked → Lent → ℕ
 question a l =
     let n = length (a .y) in
-    next (sizes n (a .order) (a .penalty)) (next (values (a .y) (a .lam) (a .tol) (a .max-iter)) (room n l))
+    ask 1 (kindsKnown (a .order) (a .penalty))
+    (ask 2 (longEnough n (a .order))
+    (ask 3 (shortEnough n)
+    (ask 4 (allFinite (a .y))
+    (ask 5 (lamRight (a .lam))
+    (ask 6 (tolRight (a .tol))
+    (ask 7 (limitRight (a .max-iter))
+    (ask 8 (answerRoom n l)
+    (ask 9 (scratchRoom n l)
+    0))))))))

@@ -7,7 +7,8 @@ use mathlib.Core.Option.{Option, none, some}
 use lib.ListN.{length}
 use lib.Ieee.{Float}
 use borrow.Author.Tests.{lt-ltb, le-ltb, le-leb, lt-leb, eq-eqb, ne-eqb}
-use Rattle.vectors.specs.Vec.{Wrote}
+use Rattle.float64.proofs.Clash.{impossible}
+use Rattle.vectors.specs.Parts.{Wrote}
 use Rattle.records.specs.Entries.{Entry, slot, settings, slotsOf, countSettings}
 use Rattle.records.specs.Week.{unread, read, entriesIn, askEntries, readWeek}
 use Rattle.records.specs.Inner.{answer, Reads, hoursIn, tallyOf, openingOf}
@@ -24,25 +25,25 @@ pub record Walked (o : Option (List Entry)) (m n : ℕ) : Type 0 where
   pub hours : n ≡ length (hoursIn entries)
 
 pub walked : (o : Option (List Entry)) {m n : ℕ} → Whole m n ≡ tallyOf o → Walked o m n
-walked none e = let z : _≡_ {A = ℕ} 0 1 = cc in absurd (omega arith)
+walked none e = impossible cc
 walked (some es) e = record { entries = es; splits = refl; settings = cc; hours = cc }
 
 pub broken : (o : Option (List Entry)) → Broken ≡ tallyOf o → o ≡ none
 broken none e = refl
-broken (some es) e = let z : _≡_ {A = ℕ} 0 1 = cc in absurd (omega arith)
+broken (some es) e = impossible cc
 
 -- questions 12 and 13, by what comes first and the counts over all entries
 ask-other : (es : List Entry) → Other ≡ openingOf es → askEntries (some es) ≡ unread 12
 unfolding askEntries
 ask-other [] e = refl
 ask-other (slot w ∷ es) e = refl
-ask-other (settings st ∷ es) e = let z : _≡_ {A = ℕ} 0 1 = cc in absurd (omega arith)
+ask-other (settings st ∷ es) e = impossible cc
 
 -- settings and then others
 module _ {st : Settings} where
   first : (es : List Entry) → Set st ≡ openingOf es → (t : List Entry) × (es ≡ settings st ∷ t)
-  first [] e = let z : _≡_ {A = ℕ} 0 1 = cc in absurd (omega arith)
-  first (slot w ∷ es) e = let z : _≡_ {A = ℕ} 0 1 = cc in absurd (omega arith)
+  first [] e = impossible cc
+  first (slot w ∷ es) e = impossible cc
   first (settings sd ∷ es) e = (es, ap (λ (x : Settings). settings x ∷ es) (let f : sd ≡ st = cc in f))
 
 module _ (st : Settings) (t : List Entry) where

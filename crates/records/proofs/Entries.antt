@@ -11,7 +11,7 @@ use lib.Seq.{length-take-le}
 use lib.Dec.{eqb}
 use lib.Ieee.{binary64, ofBits, ofInt}
 use borrow.Author.Tests.{eqb-true}
-use Rattle.float64.proofs.Clash.{clash}
+use Rattle.float64.proofs.Clash.{clash, impossible}
 use Rattle.framing.specs.Bytes.{numberAt, signed32}
 use Rattle.framing.specs.Frames.{Rec, rec, records}
 use Rattle.framing.specs.Places.{headAt}
@@ -143,7 +143,7 @@ same-opening (slot w) t = refl
 same-opening (settings st) t = refl
 
 opens-with : (e : Entry) (o : Option (List Entry)) (es : List Entry) → Option·map (λ (t : List Entry). e ∷ t) o ≡ some es → openingOf (e ∷ []) ≡ openingOf es
-opens-with e none es h = let z : _≡_ {A = ℕ} 0 1 = cc in absurd (omega arith)
+opens-with e none es h = impossible cc
 opens-with e (some t) es h = same-opening e t ∙ ap openingOf (let g : e ∷ t ≡ es = cc in g)
 
 module _ (s : List ℕ) (es : List Entry) (h : entriesIn s ≡ some es) where
@@ -151,7 +151,7 @@ module _ (s : List ℕ) (es : List Entry) (h : entriesIn s ≡ some es) where
   first-end e = ap openingOf (let g : [] ≡ es = cc in g)
 
   pub first-bad : entriesIn (drop 0 s) ≡ none → Other ≡ openingOf es
-  first-bad e = let z : _≡_ {A = ℕ} 0 1 = cc in absurd (omega arith)
+  first-bad e = impossible cc
 
   module _ {k b n : ℕ} (f : Found s 0 k b n) where
     first-is : openingOf (f .entry ∷ []) ≡ openingOf es

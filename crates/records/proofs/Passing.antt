@@ -8,7 +8,8 @@ use mathlib.Core.Option.{Option, none, some, Option·map}
 use lib.ListN.{length, drop, length-append}
 use lib.Dec.{eqb}
 use lib.Ieee.{Float}
-use Rattle.vectors.specs.Vec.{Wrote}
+use Rattle.float64.proofs.Clash.{impossible}
+use Rattle.vectors.specs.Parts.{Wrote}
 use Rattle.vectors.proofs.Texts.{wrote-none, wrote-then, wrote-length}
 use Rattle.records.specs.Entries.{silent, sounding, Entry, slot, settings, slotsOf, countSettings, hoursOf}
 use Rattle.records.specs.Week.{entriesIn}
@@ -119,11 +120,11 @@ module _ {s : List ℕ} {at : ℕ} {y₀ y : List Float} {m : ℕ} (w : Filled s
   filled-all e es h = let d : w .done ≡ es = cc (passed-end (w .passed) e) in rw d at (w .wrote)
 
   pub filled-bad : entriesIn (drop at s) ≡ none → (es : List Entry) → entriesIn s ≡ some es → Wrote y₀ 0 (hoursIn es) y m
-  filled-bad e es h = let z : _≡_ {A = ℕ} 0 1 = cc (passed-bad (w .passed) e) in absurd (omega arith)
+  filled-bad e es h = impossible (cc (passed-bad (w .passed) e))
 
 -- no more hours have been passed than there are
 within : (P : List Entry) (o : Option (List Entry)) (es : List Entry) → onto P o ≡ some es → length (hoursIn P) ≤ length (hoursIn es)
-within P none es h = let z : _≡_ {A = ℕ} 0 1 = cc in absurd (omega arith)
+within P none es h = impossible cc
 within P (some t) es h =
     let e : P ++ t ≡ es = cc in
     omega (arith, ap length (sym (ap hoursIn e) ∙ hours-append P t), length-append (hoursIn P) (hoursIn t))

@@ -7,7 +7,7 @@ ghost use mathlib.Core.Option.{some};
 ghost use Prim.Native.Nat.{_+_, _≤_};
 ghost use lib.Dec.{eqb};
 ghost use lib.ListN.{length, take, drop};
-ghost use Rattle.vectors.specs.Vec.{Wrote};
+ghost use Rattle.vectors.specs.Parts.{Wrote};
 ghost use Rattle.records.specs.Entries.{Entry, settingsIn};
 ghost use Rattle.records.specs.Week.{readWeek, entriesIn};
 ghost use Rattle.records.specs.Inner.{Reads, Room, hoursIn, tallyOf, openingOf, known, hourAt, Stands};

@@ -4,7 +4,7 @@ ghost use mathlib.Core.List.{List};
 ghost use Prim.Native.Nat.{_≤_, _-_, _+_, _*_};
 ghost use lib.ListN.{length};
 ghost use lib.Ieee.{Float};
-ghost use Rattle.vectors.specs.Vec.{Written};
+ghost use Rattle.vectors.specs.Parts.{Written};
 ghost use Rattle.differences.specs.Diff.{stencil};
 ghost use Rattle.differences.specs.Series.{Series};
 ghost use Rattle.banded.specs.Rows.{placed};

@@ -16,9 +16,13 @@ pub record Problem (S : Type 0) : Type 0 where
   pub dual : S → Float
   pub move : Float → S → Turn S
 
--- the gap is P - G
+-- P - G
+abbrev pub gapBetween : Float → Float → Float
+gapBetween p g = p ⊖ g
+
+-- the gap at a state
 abbrev pub gap : {S : Type 0} → Problem S → S → Float
-gap L s = L .primal s ⊖ L .dual s
+gap L s = gapBetween (L .primal s) (L .dual s)
 
 -- where the search stands before an iteration: its first gap, its best gap and its counts
 pub record Point (S : Type 0) : Type 0 where

@@ -7,7 +7,7 @@ use native.Mathlib.Nat.{add-zero}
 use native.Mathlib.Omega.{arith}
 use lib.ListN.{length}
 use lib.Ieee.{Float, nan}
-use Rattle.vectors.specs.Vec.{part}
+use Rattle.vectors.specs.Parts.{part}
 use Rattle.vectors.proofs.Parts.{putBack, part-put}
 use Rattle.dual_point.specs.Lanes.{searchArea, candidateTrend}
 use Rattle.gram.specs.Prepared.{preparation}

@@ -6,7 +6,7 @@ use mathlib.Core.Option.{Option, none, some}
 use lib.ListN.{length}
 use lib.Ieee.{Float, lt}
 use Rattle.float64.specs.Helpers.{isFinite}
-use Rattle.vectors.specs.Vec.{part}
+use Rattle.vectors.specs.Parts.{part}
 use Rattle.certificate.specs.Certificate.{Certificate, gapOf}
 use Rattle.dual_point.specs.Lanes.{candidateTrend}
 use Rattle.polish.specs.declared.Candidate.{Candidate}

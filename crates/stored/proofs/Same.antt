@@ -9,7 +9,8 @@ use lib.ListN.{length}
 use lib.Dec.{eqb}
 use lib.Ieee.{Float, binary64, ofBits}
 use borrow.Author.Tests.{lt-ltb, le-ltb}
-use Rattle.vectors.specs.Vec.{list, put, Written}
+use Rattle.vectors.specs.Vec.{list, put}
+use Rattle.vectors.specs.Parts.{Written}
 use Rattle.vectors.proofs.Laws.{length-list, at-list, written-put}
 use Rattle.stored.specs.Words.{wordAt, countAt, doublesAt, sameTo}
 

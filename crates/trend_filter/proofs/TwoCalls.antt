@@ -5,6 +5,7 @@ use Prim.Native.Nat.{ℕ, _+_}
 use native.Mathlib.Omega.{arith}
 use lib.ListN.{length, take, drop}
 use lib.Seq.{take-at}
+use Rattle.float64.proofs.Clash.{impossible}
 use Rattle.vectors.specs.Vec.{put}
 use Rattle.decomposition.specs.Outputs.{Outputs}
 use Rattle.questions.specs.Questions.{Asked, Lent, room, question}
@@ -30,7 +31,7 @@ record Came (o : Outcome) (x : Summary) : Type 0 where
 
 came : (o : Outcome) (x : Summary) → answerOf o ≡ Fit x → Came o x
 unfolding answerOf
-came (refused q) x e = let z : _≡_ {A = ℕ} 0 1 = cc in absurd (omega arith)
+came (refused q) x e = impossible cc
 came (fitted f) x e = record { result = f; is = refl; told = (let h : summaryOf f ≡ x = cc in h) }
 
 knots-told : (f : FitResult) (x : Summary) → summaryOf f ≡ x → length (f .knots) ≡ x .knots

@@ -10,7 +10,8 @@ use native.Mathlib.Omega.{arith}
 use lib.ListN.{length, getD, set, take, drop, length-append, length-drop, length-set, take-append-drop, List·getD-append}
 use lib.Seq.{getD-at, getD-set-same, getD-set-other, getD-take, getD-drop, length-take-le, ext-getD}
 use lib.Ieee.{Float, nan}
-use Rattle.vectors.specs.Vec.{at, list, put, WrittenOf, KeptOf}
+use Rattle.vectors.specs.Vec.{at, list, put, KeptOf}
+use Rattle.vectors.specs.Parts.{WrittenOf}
 
 pub length-list : {A : Type 0} (n : ℕ) (f : ℕ → A) → length (list n f) ≡ n
 unfolding list

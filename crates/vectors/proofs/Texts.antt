@@ -8,7 +8,7 @@ use lib.ListN.{length, getD, take, drop, set, length-append, length-drop, take-a
 use lib.Seq.{take-suc, take-all, set-split, append-snoc, length-take-le, take-at, drop-at, drop-drop}
 use native.Mathlib.Nat.{add-zero, add-assoc}
 use mathlib.Core.List.{append-nil}
-use Rattle.vectors.specs.Vec.{Wrote}
+use Rattle.vectors.specs.Parts.{Wrote}
 
 module _ {A : Type 0} where
   pub wrote-none : (d : List A) (at : ℕ) → at ≤ length d → Wrote d at [] d at

@@ -3,19 +3,20 @@ use mathlib.Core.List.{List}
 use Prim.Native.Nat.{ℕ, zero, suc, _+_, _-_}
 use lib.ListN.{length}
 use mathlib.Core.Bool.{Bool, true, _&&_}
-use lib.Ieee.{Float, binary64, add, mul, lt, ofBits}
+use lib.Ieee.{Float, lt}
+use Rattle.float64.specs.Ops.{_⊕_, _⊗_, c0}
 use Rattle.float64.specs.Helpers.{absOf, maxOf}
 use Rattle.vectors.specs.Vec.{at}
 
 -- +0, and f 0, f 1, .. , f (n - 1) added in that order
 unfoldable pub sumTo : (ℕ → Float) → ℕ → Float
-sumTo f zero = ofBits binary64 0
-sumTo f (suc n) = add binary64 (sumTo f n) (f n)
+sumTo f zero = c0
+sumTo f (suc n) = sumTo f n ⊕ f n
 
 -- v, and f 0, f 1, .. , f (n - 1) added in that order
 unfoldable pub more : Float → (ℕ → Float) → ℕ → Float
 more v f zero = v
-more v f (suc n) = add binary64 (more v f n) (f n)
+more v f (suc n) = more v f n ⊕ f n
 
 -- v, and f lo, f (lo + 1), .. , f (hi - 1) added in that order
 unfoldable pub moreFrom : Float → (ℕ → Float) → ℕ → ℕ → Float
@@ -23,16 +24,16 @@ moreFrom v f lo hi = more v (λ n. f (lo + n)) (hi - lo)
 
 -- the greatest of +0, f 0, f 1, .. , f (n - 1), NaN ignored
 unfoldable pub maxTo : (ℕ → Float) → ℕ → Float
-maxTo f zero = ofBits binary64 0
+maxTo f zero = c0
 maxTo f (suc n) = maxOf (maxTo f n) (f n)
 
 -- Σ v²
 unfoldable pub norm2Sq : List Float → Float
-norm2Sq v = sumTo (λ i. mul binary64 (at v i) (at v i)) (length v)
+norm2Sq v = sumTo (λ i. at v i ⊗ at v i) (length v)
 
 -- Σ a·b
 unfoldable pub dot : List Float → List Float → Float
-dot a b = sumTo (λ i. mul binary64 (at a i) (at b i)) (length a)
+dot a b = sumTo (λ i. at a i ⊗ at b i) (length a)
 
 -- Σ |v|
 unfoldable pub sumAbs : List Float → Float

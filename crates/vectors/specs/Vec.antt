@@ -1,7 +1,5 @@
--- A vector and its places; a part of a run; what a loop has written. Definitions only: their laws are in proofs/.
--- Each is given once for any element type. There z is the value that is read beyond the end: nan for doubles, 0 for bytes and counts.
+-- A vector and its places, and what is kept of it. Where the element type is any, z is what is read beyond the end: nan for doubles, 0 for counts and bytes.
 use mathlib.Core.Path.{_≡_}
-use mathlib.Core.Logic.{_⊎_}
 use mathlib.Core.List.{List, [], _∷_, _++_}
 use Prim.Native.Nat.{ℕ, zero, suc, _+_, _-_, _≤_, _<_}
 use lib.ListN.{length, getD, take, drop}
@@ -11,7 +9,7 @@ use lib.Ieee.{Float, nan}
 abbrev pub at : List Float → ℕ → Float
 at v i = getD v i nan
 
--- |i - j|
+-- |i - j|: one of the two differences stops at 0
 abbrev pub apart : ℕ → ℕ → ℕ
 apart i j = i - j + (j - i)
 
@@ -20,26 +18,9 @@ unfoldable pub list : {A : Type 0} → ℕ → (ℕ → A) → List A
 list zero f = []
 list (suc n) f = list n f ++ (f n ∷ [])
 
--- the n places of s from a on
-unfoldable pub partOf : {A : Type 0} → A → ℕ → ℕ → List A → List A
-partOf z a n s = list n (λ i. getD s (a + i) z)
-
-abbrev pub part : ℕ → ℕ → List Float → List Float
-part a n s = partOf nan a n s
-
 -- s with t in the places from a on
 abbrev pub put : {A : Type 0} → List A → ℕ → List A → List A
 put s a t = take a s ++ t ++ drop (a + length t) s
-
--- the places from lo up to, not including, hi hold f, and all others what v₀ held
-pub record WrittenOf {A : Type 0} (z : A) (lo hi : ℕ) (f : ℕ → A) (v₀ v : List A) : Type 0 where
-  pub size : length v ≡ length v₀
-  pub inside : (j : ℕ) → lo ≤ j → j < hi → getD v j z ≡ f j
-  pub below : (j : ℕ) → j < lo → getD v j z ≡ getD v₀ j z
-  pub above : (j : ℕ) → hi ≤ j → getD v j z ≡ getD v₀ j z
-
-abbrev pub Written : ℕ → ℕ → (ℕ → Float) → List Float → List Float → Type 0
-Written lo hi f v₀ v = WrittenOf nan lo hi f v₀ v
 
 -- v is v₀ but for the n places from a on
 pub record KeptOf {A : Type 0} (z : A) (a n : ℕ) (v₀ v : List A) : Type 0 where
@@ -49,15 +30,3 @@ pub record KeptOf {A : Type 0} (z : A) (a n : ℕ) (v₀ v : List A) : Type 0 wh
 
 abbrev pub Kept : ℕ → ℕ → List Float → List Float → Type 0
 Kept a n v₀ v = KeptOf nan a n v₀ v
-
--- in a run of l places the n from a on and the n from b on lie apart
-pub record Disjoint (a b n l : ℕ) : Type 0 where
-  pub apart : (a + n ≤ b) ⊎ (b + n ≤ a)
-  pub first : a + n ≤ l
-  pub second : b + n ≤ l
-
--- t was written into s from place a on, which made it e, and r is the place past it
-pub record Wrote {A : Type 0} (s : List A) (a : ℕ) (t e : List A) (r : ℕ) : Type 0 where
-  pub next : r ≡ a + length t
-  pub room : r ≤ length s
-  pub text : e ≡ put s a t

@@ -1,25 +1,13 @@
-// Sums and the greatest size of a vector, whether it lies within a bound, and a copy of one.
+// The greatest size of a vector, whether it lies within a bound, and a copy of one.
 ghost use mathlib.Core.Path.{_≡_};
 ghost use mathlib.Core.Bool.{_&&_};
 ghost use Prim.Native.Nat.{_≤_, _-_, min};
 ghost use lib.ListN.{length};
 ghost use lib.Ieee.{lt};
 ghost use Rattle.float64.specs.Helpers.{absOf};
-ghost use Rattle.vectors.specs.Vec.{put, apart, part, Kept, Disjoint};
-ghost use Rattle.vectors.specs.Sums.{norm2Sq, maxAbs, inside};
-
-pub fn norm2_sq(v: &[f64]) -> f64
-    ensures { λ r. ⌜ r ≡ norm2Sq (now (v .entry)) ⌝ }
-{
-    let mut sum = 0.0;
-    let mut i = 0;
-    while i < v.len() {
-        let x = v[i];
-        sum = sum + x * x;
-        i += 1;
-    }
-    sum
-}
+ghost use Rattle.vectors.specs.Vec.{put, apart, Kept};
+ghost use Rattle.vectors.specs.Parts.{part, Disjoint};
+ghost use Rattle.vectors.specs.Sums.{maxAbs, inside};
 
 // The greatest size, from 0; NaN is ignored.
 pub fn max_abs(v: &[f64]) -> f64

@@ -10,8 +10,10 @@ use lib.Seq.{take-append-seam, take-at, length-take-le}
 use lib.Dec.{leb, ltb, eqb}
 use lib.Ieee.{Float}
 use borrow.Author.Tests.{leb-true}
+use Rattle.float64.proofs.Clash.{impossible}
 use Rattle.io.specs.Counts.{Counts}
-use Rattle.vectors.specs.Vec.{put, Wrote}
+use Rattle.vectors.specs.Vec.{put}
+use Rattle.vectors.specs.Parts.{Wrote}
 use Rattle.vectors.proofs.Texts.{wrote-length}
 use Rattle.records.specs.Entries.{Slot, Entry, slot, settings, slotsOf, countSettings, hoursOf}
 use Rattle.records.specs.Week.{readWeek, askEntries, entriesIn}
@@ -63,7 +65,7 @@ short s = cond-case Short (ltb 4096 (length s)) (read.unread 11) (askEntries (en
 -- what an answer of `read_week` says
 was-refused : (a : read.Reading) {k : ℕ} → week.Refused k ≡ answer a → a ≡ read.unread k
 was-refused (read.unread j) e = ap read.unread (sym (let f : _ ≡ j = cc in f))
-was-refused (read.read st ws) e = let z : _≡_ {A = ℕ} 0 1 = cc in absurd (omega arith)
+was-refused (read.read st ws) e = impossible cc
 
 pub record Taken (a : read.Reading) (st : Settings) (n : ℕ) (z : List Float) : Type 0 where
   pub slots : List Slot
@@ -74,7 +76,7 @@ pub record Taken (a : read.Reading) (st : Settings) (n : ℕ) (z : List Float) :
   pub few : n ≤ 168
 
 was-taken : (a : read.Reading) (y : List Float) {st : Settings} {n : ℕ} {z : List Float} → Reads a (week.Read st n) y z → Short a → Taken a st n z
-was-taken (read.unread j) y r h = let e = r .said in let z : _≡_ {A = ℕ} 0 1 = cc in absurd (omega arith)
+was-taken (read.unread j) y r h = let e = r .said in impossible cc
 was-taken (read.read sd ws) y {st} {n} {z} r h =
     let e = r .said in
     let p = r .wrote in
@@ -110,7 +112,7 @@ front t s n e = take-at t (drop (0 + length t) s) n e
 was-no-fit : (a : Asked) (o : Outcome) {k : ℕ} → fits.Refused k ≡ answerOf o → outcomeText a o ≡ refusedLine k
 unfolding outcomeText answerOf
 was-no-fit a (refused j) e = ap refusedLine (sym (let f : _ ≡ j = cc in f))
-was-no-fit a (fitted f) e = let z : _≡_ {A = ℕ} 0 1 = cc in absurd (omega arith)
+was-no-fit a (fitted f) e = impossible cc
 
 pub record Listed (st : Settings) (y : List Float) (s : Summary) (t c : List Float) (k : List ℕ) : Type 0 where
   pub text : fitText st y ≡ shownListing (shown st (length y) s) t c k
@@ -121,7 +123,7 @@ was-fit : (st : Settings) (y : List Float) (o : Outcome) (before : Outputs) {r :
 unfolding fitText outcomeText listingOf shownLine shownListing summaryOf answerOf after
 was-fit st y (refused i) before {r} {s} g e h =
     let p : fits.Fit s ≡ answerOf (refused i) = sym e ∙ h .answer in
-    let z : _≡_ {A = ℕ} 0 1 = cc in absurd (omega arith)
+    impossible cc
 was-fit st y (fitted f) before {r} {s} {t} {c} {k} g e h =
     let p : fits.Fit s ≡ answerOf (fitted f) = sym e ∙ h .answer in
     let es : summaryOf f ≡ s = cc in

@@ -8,7 +8,7 @@ use trend_filter::TrendFilterOptions;
 ghost use mathlib.Core.Path.{_≡_};
 ghost use Prim.Native.Nat.{_≤_};
 ghost use lib.ListN.{length};
-ghost use Rattle.vectors.specs.Vec.{Wrote};
+ghost use Rattle.vectors.specs.Parts.{Wrote};
 ghost use Rattle.io.specs.Counts.{Counts};
 ghost use Rattle.week.specs.Shown.{shown};
 ghost use Rattle.week.specs.Week.{fitText, weekText};

@@ -7,7 +7,8 @@ use lib.ListN.{length}
 use lib.Ieee.{Float}
 use Rattle.float64.specs.Ops.{_⊗_}
 use Rattle.float64.specs.Helpers.{absOf}
-use Rattle.vectors.specs.Vec.{at, part}
+use Rattle.vectors.specs.Vec.{at}
+use Rattle.vectors.specs.Parts.{part}
 use Rattle.vectors.specs.Sums.{sumTo, sumAbs, dot}
 use Rattle.vectors.proofs.Parts.{length-part, at-part, range-part}
 use Rattle.vectors.proofs.Sums.{sum-more}

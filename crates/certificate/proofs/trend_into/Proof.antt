@@ -5,7 +5,8 @@ use native.Mathlib.Omega.{arith}
 use lib.ListN.{length}
 use lib.Ieee.{Float}
 use Rattle.float64.specs.Ops.{_⊖_, _⊗_}
-use Rattle.vectors.specs.Vec.{at, Written}
+use Rattle.vectors.specs.Vec.{at}
+use Rattle.vectors.specs.Parts.{Written}
 use Rattle.vectors.specs.Sums.{sumTo, norm2Sq}
 use Rattle.vectors.proofs.Laws.{none, up, front}
 use Rattle.vectors.proofs.Parts.{first-part, length-part}

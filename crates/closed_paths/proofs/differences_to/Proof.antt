@@ -4,7 +4,8 @@ use Prim.Native.Nat.{_+_, _-_, _*_, _≤_}
 use native.Mathlib.Omega.{arith}
 use lib.ListN.{length}
 use lib.Ieee.{nan}
-use Rattle.vectors.specs.Vec.{put, Wrote}
+use Rattle.vectors.specs.Vec.{put}
+use Rattle.vectors.specs.Parts.{Wrote}
 use Rattle.vectors.proofs.Texts.{wrote-length, wrote-take}
 use Rattle.vectors.proofs.Parts.{range-part, kept-drop}
 use Rattle.differences.specs.Diff.{diffK}

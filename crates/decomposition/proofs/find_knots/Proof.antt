@@ -2,7 +2,7 @@ use mathlib.Core.Path.{_≡_}
 use Prim.Native.Nat.{_-_, _≤_}
 use native.Mathlib.Omega.{arith}
 use lib.ListN.{length}
-use Rattle.vectors.specs.Vec.{Wrote}
+use Rattle.vectors.specs.Parts.{Wrote}
 use Rattle.vectors.proofs.Texts.{wrote-none, wrote-length}
 use Rattle.differences.specs.Diff.{diffK}
 use Rattle.differences.proofs.Laws.{length-diffK}

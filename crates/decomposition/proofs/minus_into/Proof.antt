@@ -3,7 +3,8 @@ use Prim.Native.Nat.{_≤_, _-_}
 use native.Mathlib.Omega.{arith}
 use lib.ListN.{length}
 use Rattle.float64.specs.Ops.{_⊖_}
-use Rattle.vectors.specs.Vec.{at, Written}
+use Rattle.vectors.specs.Vec.{at}
+use Rattle.vectors.specs.Parts.{Written}
 use Rattle.vectors.proofs.Laws.{none, up, written-put}
 use Rattle.certificate.specs.Certificate.{minus}
 use Rattle.certificate.proofs.Laws.{length-minus, at-minus}

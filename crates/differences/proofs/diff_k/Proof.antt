@@ -2,7 +2,8 @@ use mathlib.Core.Path.{_≡_, refl}
 use Prim.Native.Nat.{_≤_, _-_}
 use native.Mathlib.Omega.{arith}
 use lib.ListN.{length}
-use Rattle.vectors.specs.Vec.{at, Written}
+use Rattle.vectors.specs.Vec.{at}
+use Rattle.vectors.specs.Parts.{Written}
 use Rattle.vectors.proofs.Laws.{none, up, written-put}
 use Rattle.differences.specs.Diff.{diffK}
 use Rattle.differences.proofs.Laws.{length-diffK}

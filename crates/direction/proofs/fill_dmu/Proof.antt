@@ -6,7 +6,8 @@ use Prim.Native.Nat.{ℕ, _≤_, _-_, _+_}
 use native.Mathlib.Omega.{arith}
 use native.Mathlib.Nat.{add-zero}
 use lib.Ieee.{nan, Float}
-use Rattle.vectors.specs.Vec.{at, Written}
+use Rattle.vectors.specs.Vec.{at}
+use Rattle.vectors.specs.Parts.{Written}
 use Rattle.vectors.proofs.Laws.{none, store-more, written-kept}
 use Rattle.vectors.proofs.Parts.{store-done}
 use Rattle.direction.specs.Places.{dmuAt}

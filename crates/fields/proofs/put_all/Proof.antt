@@ -4,7 +4,7 @@ use native.Mathlib.Omega.{arith}
 use borrow.Author.Needs.{needs}
 use Prim.Native.Nat.{_≤_, _+_, _-_}
 use lib.ListN.{length, take}
-use Rattle.vectors.specs.Vec.{Wrote}
+use Rattle.vectors.specs.Parts.{Wrote}
 use Rattle.vectors.proofs.Texts.{wrote-length, copied-none, copied-more, copied-all}
 use Rattle.fields.proofs.Writers.{puts}
 use Rattle.fields.proofs.put_all.Statement.{statement}

@@ -8,12 +8,9 @@ use borrow.Author.Needs.{needs}
 use Rattle.fields.proofs.put_decimal.Statement.{statement}
 use Rattle.fields.proofs.put_decimal.Tie as tie
 
--- pre{
 -- twenty digits hold it
 few : (c : tie.After-decimal) → c .decimal .result ≤ 20
 few c = fewest-le 10 1 (c .before .before .before .args .n) _ 20 (lit< tt) (lit≤ tt) (omega (arith, c .before .before .before .fits .n)) (c .decimal .ensures .1 .0)
-
--- }pre
 
 put-all-requires : tie.Need-put-all-requires
 put-all-requires c κs = let d = c .before .before in

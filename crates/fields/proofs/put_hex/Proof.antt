@@ -9,14 +9,11 @@ use borrow.Author.Needs.{needs}
 use Rattle.fields.proofs.put_hex.Statement.{statement}
 use Rattle.fields.proofs.put_hex.Tie as tie
 
--- pre{
 -- sixteen digits
 few : (c : tie.After-hex) → c .hex .result ≡ 16
 few c =
     let l : c .hex .result ≤ 16 = fewest-le 16 16 (c .before .before .pattern .result) _ 16 (lit< tt) (lit≤ tt) (omega (arith, c .before .before .pattern .ok)) (c .hex .ensures .1 .0) in
     omega (arith, c .hex .ensures .1 .0 .0)
-
--- }pre
 
 put-all-requires : tie.Need-put-all-requires
 put-all-requires c κs = let d = c .before .before in

@@ -2,7 +2,7 @@ use borrow.Author.Needs.{needs}
 use mathlib.Core.Path.{_≡_, refl}
 use Prim.Native.Nat.{_≤_, _-_}
 use native.Mathlib.Omega.{arith}
-use Rattle.vectors.specs.Vec.{Written}
+use Rattle.vectors.specs.Parts.{Written}
 use Rattle.vectors.proofs.Laws.{none, up}
 use Rattle.interior_point.proofs.fill.Statement.{statement}
 use Rattle.interior_point.proofs.fill.Tie as tie

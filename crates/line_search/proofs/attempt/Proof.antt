@@ -8,7 +8,7 @@ use Rattle.newton_system.specs.Newton.{residualNorm}
 use Rattle.newton_system.specs.Rows.{dataOf}
 use Rattle.line_search.specs.LineSearch.{sufficientDecrease}
 use Rattle.vectors.specs.Sums.{inside}
-use Rattle.vectors.specs.Vec.{part}
+use Rattle.vectors.specs.Parts.{part}
 use Rattle.dual_point.specs.Places.{point}
 use Rattle.vectors.proofs.Parts.{range-part}
 use Rattle.dual_point.proofs.Points.{point-range}

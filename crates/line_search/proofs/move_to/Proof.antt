@@ -3,7 +3,8 @@ use mathlib.Core.Path.{_≡_}
 use Prim.Native.Nat.{_≤_, _-_, _+_, _*_}
 use native.Mathlib.Omega.{arith}
 use native.Mathlib.Nat.{add-zero}
-use Rattle.vectors.specs.Vec.{at, Written}
+use Rattle.vectors.specs.Vec.{at}
+use Rattle.vectors.specs.Parts.{Written}
 use Rattle.vectors.proofs.Laws.{none}
 use Rattle.line_search.proofs.Laws.{moving, move-more, move-done}
 use Rattle.line_search.proofs.move_to.Statement.{statement}

@@ -2,7 +2,7 @@ use mathlib.Core.Path.{_≡_, refl, ap, _∙_}
 use mathlib.Core.List.{List}
 use native.Mathlib.Omega.{arith}
 use lib.Ieee.{Float}
-use Rattle.vectors.specs.Vec.{part}
+use Rattle.vectors.specs.Parts.{part}
 use Rattle.vectors.proofs.Parts.{range-part}
 use Rattle.gram.specs.Gram.{product}
 use Rattle.newton_system.proofs.Places.{square-place, system-diagonal}

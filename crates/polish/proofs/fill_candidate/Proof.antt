@@ -6,7 +6,7 @@ use Rattle.polish.proofs.Candidates.{place-is}
 use Rattle.vectors.proofs.Laws.{none, store-more}
 use native.Mathlib.Nat.{add-zero}
 use lib.ListN.{length}
-use Rattle.vectors.specs.Vec.{part, Written}
+use Rattle.vectors.specs.Parts.{part, Written}
 use Rattle.active_set.specs.Marks.{heldBy}
 use Rattle.active_set.specs.ActiveSet.{isFree, freeTo}
 use Rattle.polish.specs.Polish.{candidateAt}

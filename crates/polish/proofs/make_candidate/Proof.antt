@@ -8,7 +8,7 @@ use Rattle.polish.proofs.Candidates.{solution-at, candidate-none, candi
 use Rattle.polish.specs.Polish.{candidateAt}
 use Rattle.vectors.proofs.Parts.{kept-part, part-size, putBack, store-done}
 use Rattle.vectors.proofs.Laws.{kept-then, written-kept}
-use Rattle.vectors.specs.Vec.{part}
+use Rattle.vectors.specs.Parts.{part}
 use Rattle.differences.specs.Diff.{gramRow}
 use lib.Ieee.{nan}
 use lib.ListN.{take, drop}

@@ -2,7 +2,7 @@ use mathlib.Core.Path.{sym, _∙_}
 use Prim.Native.Nat.{_+_}
 use native.Mathlib.Omega.{arith}
 use borrow.Author.Tests.{not-true, not-false, le-leb, lt-leb}
-use Rattle.questions.specs.Questions.{sizes}
+use Rattle.questions.specs.Groups.{sizes}
 use borrow.Author.Needs.{needs}
 use Rattle.questions.proofs.sizes.Statement.{statement}
 use Rattle.questions.proofs.sizes.Tie as tie

@@ -1,6 +1,6 @@
 use mathlib.Core.Path.{sym, _∙_}
 use borrow.Author.Tests.{not-true, not-false, le-leb, lt-leb}
-use Rattle.questions.specs.Questions.{values}
+use Rattle.questions.specs.Groups.{values}
 use borrow.Author.Needs.{needs}
 use Rattle.questions.proofs.values.Statement.{statement}
 use Rattle.questions.proofs.values.Tie as tie

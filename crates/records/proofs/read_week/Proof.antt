@@ -12,7 +12,6 @@ use borrow.Author.Needs.{needs}
 use Rattle.records.proofs.read_week.Statement.{statement}
 use Rattle.records.proofs.read_week.Tie as tie
 
--- pre{
 -- the input is short and splits, and settings come first
 abbrev walking : tie.After-settings → tie.Else1
 walking e = e .before .before .before
@@ -31,8 +30,6 @@ at-split o = o .before .before .before .before
 
 set : (o : tie.After-found) → Set (o .found .given .0 .0) ≡ openingOf (split (at-split o) .entries)
 set o = sym (o .found .given .1) ∙ o .before .before .first-record .ensures _ (split (at-split o) .splits)
-
--- }pre
 
 returns : tie.Need-returns
 returns c = refuses _ (week-long _ (c .if1 .taken))

@@ -7,13 +7,10 @@ use borrow.Author.Needs.{needs}
 use Rattle.records.proofs.record_at.Statement.{statement}
 use Rattle.records.proofs.record_at.Tie as tie
 
--- pre{
 -- the record that was found
 opened : (c : tie.After-known-told) → Opens (now (c .before .before .before .before .before .args .s)) (c .before .before .before .before .before .args .at) (c .before .kind .given .0 .0) (c .before .kind .given .0 .1 .0) (c .before .kind .given .0 .1 .1 .0)
 opened c = let k = c .before in
     opens _ _ (sym (k .kind .given .1) ∙ k .before .before .head-at .ensures)
-
--- }pre
 
 sub-is-known : tie.Need-sub-is-known
 sub-is-known c = omega (arith, opened c .more)

@@ -8,7 +8,7 @@ use native.Mathlib.Omega.{arith}
 use lib.ListN.{length}
 use lib.Ieee.{Float, nan, le}
 use Rattle.float64.specs.Ops.{_⊗_}
-use Rattle.vectors.specs.Vec.{part}
+use Rattle.vectors.specs.Parts.{part}
 use Rattle.vectors.proofs.Laws.{kept-then}
 use Rattle.vectors.proofs.Parts.{part-below}
 use Rattle.differences.specs.Diff.{diffK, gramRow}

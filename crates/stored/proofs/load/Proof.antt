@@ -5,7 +5,7 @@ use Prim.Native.Nat.{_≤_, _-_}
 use denote.Ref.{now}
 use lib.ListN.{length}
 use lib.Ieee.{binary64, ofBits}
-use Rattle.vectors.specs.Vec.{Written}
+use Rattle.vectors.specs.Parts.{Written}
 use Rattle.vectors.proofs.Laws.{none, up}
 use Rattle.stored.proofs.Same.{doubleFrom, loaded}
 use Rattle.stored.proofs.load.Statement.{statement}

@@ -10,11 +10,8 @@ use Rattle.stored.proofs.Same.{same-more}
 use Rattle.stored.proofs.same_counts.Statement.{statement}
 use Rattle.stored.proofs.same_counts.Tie as tie
 
--- pre{
 abbrev place : List ℕ → ℕ → ℕ
 place x i = getD x i 0
-
--- }pre
 
 abbrev Inv-loop : tie.InvT-loop
 Inv-loop x s a all₀ i₀ all i = (i ≤ length x) × (all ≡ sameTo (place x) s a i)

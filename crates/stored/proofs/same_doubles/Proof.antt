@@ -12,11 +12,8 @@ use Rattle.stored.proofs.Same.{same-more}
 use Rattle.stored.proofs.same_doubles.Statement.{statement}
 use Rattle.stored.proofs.same_doubles.Tie as tie
 
--- pre{
 abbrev place : List Float → ℕ → ℕ
 place x i = toBits binary64 (at x i)
-
--- }pre
 
 abbrev Inv-loop : tie.InvT-loop
 Inv-loop x s a all₀ i₀ all i = (i ≤ length x) × (all ≡ sameTo (place x) s a i)

@@ -5,7 +5,7 @@ use native.Mathlib.Nat.{zero-add}
 use native.Mathlib.Omega.{arith}
 use lib.ListN.{length, take}
 use lib.Ieee.{nan}
-use Rattle.vectors.specs.Vec.{Wrote}
+use Rattle.vectors.specs.Parts.{Wrote}
 use Rattle.vectors.proofs.Texts.{copied-none, copied-more, copied-all}
 use Rattle.vectors.proofs.copy.Statement.{statement}
 use Rattle.vectors.proofs.copy.Tie as tie

@@ -5,7 +5,8 @@ use Prim.Native.Nat.{_≤_, _-_, _+_}
 use native.Mathlib.Nat.{add-zero}
 use native.Mathlib.Omega.{arith}
 use lib.Ieee.{nan}
-use Rattle.vectors.specs.Vec.{at, Written, partOf}
+use Rattle.vectors.specs.Vec.{at}
+use Rattle.vectors.specs.Parts.{Written, partOf}
 use Rattle.vectors.proofs.Laws.{none, store-more, written-kept}
 use Rattle.vectors.proofs.Parts.{store-done}
 use Rattle.vectors.proofs.copy_within.Statement.{statement}

@@ -20,7 +20,6 @@ slice-aggregate-l1-trend-filter-4 c = search needs
 slice-aggregate-l1-trend-filter-5 : tie.Need-slice-aggregate-l1-trend-filter-5
 slice-aggregate-l1-trend-filter-5 c = search needs
 
--- pre{
 -- the call of the fit, from where its buffers are at hand again
 abbrev called : tie.After-marks2 → tie.After-l1-trend-filter
 called m = let k = m .before .before in k .before .before .before
@@ -39,8 +38,6 @@ fitted m =
     let a = begun marks .args in
     fits-lent (a .st) (now (a .y)) _ (f .l1-trend-filter .ensures .gives)
     (lent-is (slice-aggregate-l1-trend-filter (cycle .before)) (slice-aggregate-l1-trend-filter-2 cycle) (slice-aggregate-l1-trend-filter-3 knots) (slice-aggregate-l1-trend-filter-4 work) (slice-aggregate-l1-trend-filter-5 marks))
-
--- }pre
 
 put-listing-requires : tie.Need-put-listing-requires
 put-listing-requires c κs = let h = c .before .before .before .before in

@@ -10,7 +10,6 @@ use Rattle.week.proofs.Showing.{Taken, taken-week, text-refused, text-t
 use Rattle.week.proofs.weekly.Statement.{statement}
 use Rattle.week.proofs.weekly.Tie as tie
 
--- pre{
 -- what `read_week` took
 abbrev input : tie.After-settings → List ℕ
 input k = let r = k .before .before in now (r .before .before .before .args .input)
@@ -18,8 +17,6 @@ input k = let r = k .before .before in now (r .before .before .before .args .inp
 week : (c : tie.After-known-told2) → let k = c .before in Taken (readWeek (input k)) (k .settings .given .0 .0) (k .settings .given .0 .1 .0) (k .before .before .read-week .last .1 .0)
 week c = let k = c .before in
     taken-week _ _ (rw (k .settings .given .1) at (k .before .before .read-week .ensures))
-
--- }pre
 
 array-share-prefix-y : tie.Need-array-share-prefix-y
 array-share-prefix-y c = week c .room

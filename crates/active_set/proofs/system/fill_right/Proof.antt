@@ -6,7 +6,7 @@ use Rattle.vectors.proofs.Laws.{none, store-more, written-kept}
 use native.Mathlib.Nat.{add-zero}
 use lib.Ieee.{nan}
 use lib.ListN.{getD}
-use Rattle.vectors.specs.Vec.{Written}
+use Rattle.vectors.specs.Parts.{Written}
 use Rattle.active_set.specs.Marks.{heldBy}
 use Rattle.active_set.specs.ActiveSet.{compressedRhsAt}
 use Prim.Native.Nat.{_≤_, _-_, _+_}
