@@ -24,7 +24,7 @@ use Rattle.interior_point.specs.InteriorPoint.{nextT, move, problem, origin, in
 use Rattle.active_set.specs.ActiveSet.{holdAt, freeTo, compressed, lessTo, compressedRhsAt, solved}
 use Rattle.polish.specs.Polish.{candidateAt, candidate, polish}
 use Rattle.l2.specs.L2.{soundL2, trendL2, scaled, objectiveL2, dualL2, gapL2}
-use Rattle.questions.specs.Questions.{finiteTo, question}
+use Rattle.questions.specs.Questions.{finiteTo, room, question}
 use Rattle.fit.specs.Fit.{fitted, pathL2, pathZero, pathFlat, polished, searchOf, keptOf, pathEnd, pathL1, path, written, outcome, fit}
 use Rattle.fit.proofs.Passed.{on, size-passes, size-refused}
 use Rattle.fit.specs.Known.{Case, worked, stated}
@@ -52,7 +52,7 @@ table-1 =
     ∷ []
 
 pub known-1 : worked table-1 ≡ stated table-1
-unfolding absOf isFinite maxOf minOf clampOf isqrtOf isqrt nearestRoot sqrtOf list sumTo maxTo norm2Sq dot sumAbs maxAbs diff diffK diffT diffKT less lessFrom reduced entry placed rowTo row rows sound forwardAt forward divided backAt back solve gram more moreFrom product zstar lamMax ridge minus clamped certify threshold aboveTo knots iterate run diagonalShift rhsAt dmu1At dmu2At residualSquareAt stepCapBy system rhs direction residualSquare residualNorm stepCapTo stepped along insideTo accepted trials newtonZ searchLine nextT move problem origin interiorPoint holdAt freeTo compressed lessTo compressedRhsAt solved candidateAt candidate polish soundL2 trendL2 scaled objectiveL2 dualL2 gapL2 finiteTo question pathL2 pathZero pathFlat polished searchOf keptOf pathEnd pathL1 path written outcome fit ofBits ofInt add sub mul div neg lt le eq isNan
+unfolding absOf isFinite maxOf minOf clampOf isqrtOf isqrt nearestRoot sqrtOf list sumTo maxTo norm2Sq dot sumAbs maxAbs diff diffK diffT diffKT less lessFrom reduced entry placed rowTo row rows sound forwardAt forward divided backAt back solve gram more moreFrom product zstar lamMax ridge minus clamped certify threshold aboveTo knots iterate run diagonalShift rhsAt dmu1At dmu2At residualSquareAt stepCapBy system rhs direction residualSquare residualNorm stepCapTo stepped along insideTo accepted trials newtonZ searchLine nextT move problem origin interiorPoint holdAt freeTo compressed lessTo compressedRhsAt solved candidateAt candidate polish soundL2 trendL2 scaled objectiveL2 dualL2 gapL2 finiteTo room question pathL2 pathZero pathFlat polished searchOf keptOf pathEnd pathL1 path written outcome fit ofBits ofInt add sub mul div neg lt le eq isNan
 known-1 = refl
 
 abbrev pub table-2 : List Case
@@ -68,7 +68,7 @@ table-2 =
     ∷ []
 
 pub known-2 : worked table-2 ≡ stated table-2
-unfolding absOf isFinite maxOf minOf clampOf isqrtOf isqrt nearestRoot sqrtOf list sumTo maxTo norm2Sq dot sumAbs maxAbs diff diffK diffT diffKT less lessFrom reduced entry placed rowTo row rows sound forwardAt forward divided backAt back solve gram more moreFrom product zstar lamMax ridge minus clamped certify threshold aboveTo knots iterate run diagonalShift rhsAt dmu1At dmu2At residualSquareAt stepCapBy system rhs direction residualSquare residualNorm stepCapTo stepped along insideTo accepted trials newtonZ searchLine nextT move problem origin interiorPoint holdAt freeTo compressed lessTo compressedRhsAt solved candidateAt candidate polish soundL2 trendL2 scaled objectiveL2 dualL2 gapL2 finiteTo question pathL2 pathZero pathFlat polished searchOf keptOf pathEnd pathL1 path written outcome fit ofBits ofInt add sub mul div neg lt le eq isNan
+unfolding absOf isFinite maxOf minOf clampOf isqrtOf isqrt nearestRoot sqrtOf list sumTo maxTo norm2Sq dot sumAbs maxAbs diff diffK diffT diffKT less lessFrom reduced entry placed rowTo row rows sound forwardAt forward divided backAt back solve gram more moreFrom product zstar lamMax ridge minus clamped certify threshold aboveTo knots iterate run diagonalShift rhsAt dmu1At dmu2At residualSquareAt stepCapBy system rhs direction residualSquare residualNorm stepCapTo stepped along insideTo accepted trials newtonZ searchLine nextT move problem origin interiorPoint holdAt freeTo compressed lessTo compressedRhsAt solved candidateAt candidate polish soundL2 trendL2 scaled objectiveL2 dualL2 gapL2 finiteTo room question pathL2 pathZero pathFlat polished searchOf keptOf pathEnd pathL1 path written outcome fit ofBits ofInt add sub mul div neg lt le eq isNan
 known-2 = refl
 
 abbrev pub table-3 : List Case
@@ -80,7 +80,7 @@ table-3 =
     ∷ []
 
 pub known-3 : worked table-3 ≡ stated table-3
-unfolding absOf isFinite maxOf minOf clampOf isqrtOf isqrt nearestRoot sqrtOf list sumTo maxTo norm2Sq dot sumAbs maxAbs diff diffK diffT diffKT less lessFrom reduced entry placed rowTo row rows sound forwardAt forward divided backAt back solve gram more moreFrom product zstar lamMax ridge minus clamped certify threshold aboveTo knots iterate run diagonalShift rhsAt dmu1At dmu2At residualSquareAt stepCapBy system rhs direction residualSquare residualNorm stepCapTo stepped along insideTo accepted trials newtonZ searchLine nextT move problem origin interiorPoint holdAt freeTo compressed lessTo compressedRhsAt solved candidateAt candidate polish soundL2 trendL2 scaled objectiveL2 dualL2 gapL2 finiteTo question pathL2 pathZero pathFlat polished searchOf keptOf pathEnd pathL1 path written outcome fit ofBits ofInt add sub mul div neg lt le eq isNan
+unfolding absOf isFinite maxOf minOf clampOf isqrtOf isqrt nearestRoot sqrtOf list sumTo maxTo norm2Sq dot sumAbs maxAbs diff diffK diffT diffKT less lessFrom reduced entry placed rowTo row rows sound forwardAt forward divided backAt back solve gram more moreFrom product zstar lamMax ridge minus clamped certify threshold aboveTo knots iterate run diagonalShift rhsAt dmu1At dmu2At residualSquareAt stepCapBy system rhs direction residualSquare residualNorm stepCapTo stepped along insideTo accepted trials newtonZ searchLine nextT move problem origin interiorPoint holdAt freeTo compressed lessTo compressedRhsAt solved candidateAt candidate polish soundL2 trendL2 scaled objectiveL2 dualL2 gapL2 finiteTo room question pathL2 pathZero pathFlat polished searchOf keptOf pathEnd pathL1 path written outcome fit ofBits ofInt add sub mul div neg lt le eq isNan
 known-3 = refl
 
 abbrev pub table-4 : List Case
@@ -92,7 +92,7 @@ table-4 =
     ∷ []
 
 pub known-4 : worked table-4 ≡ stated table-4
-unfolding absOf isFinite maxOf minOf clampOf isqrtOf isqrt nearestRoot sqrtOf list sumTo maxTo norm2Sq dot sumAbs maxAbs diff diffK diffT diffKT less lessFrom reduced entry placed rowTo row rows sound forwardAt forward divided backAt back solve gram more moreFrom product zstar lamMax ridge minus clamped certify threshold aboveTo knots iterate run diagonalShift rhsAt dmu1At dmu2At residualSquareAt stepCapBy system rhs direction residualSquare residualNorm stepCapTo stepped along insideTo accepted trials newtonZ searchLine nextT move problem origin interiorPoint holdAt freeTo compressed lessTo compressedRhsAt solved candidateAt candidate polish soundL2 trendL2 scaled objectiveL2 dualL2 gapL2 finiteTo question pathL2 pathZero pathFlat polished searchOf keptOf pathEnd pathL1 path written outcome fit ofBits ofInt add sub mul div neg lt le eq isNan
+unfolding absOf isFinite maxOf minOf clampOf isqrtOf isqrt nearestRoot sqrtOf list sumTo maxTo norm2Sq dot sumAbs maxAbs diff diffK diffT diffKT less lessFrom reduced entry placed rowTo row rows sound forwardAt forward divided backAt back solve gram more moreFrom product zstar lamMax ridge minus clamped certify threshold aboveTo knots iterate run diagonalShift rhsAt dmu1At dmu2At residualSquareAt stepCapBy system rhs direction residualSquare residualNorm stepCapTo stepped along insideTo accepted trials newtonZ searchLine nextT move problem origin interiorPoint holdAt freeTo compressed lessTo compressedRhsAt solved candidateAt candidate polish soundL2 trendL2 scaled objectiveL2 dualL2 gapL2 finiteTo room question pathL2 pathZero pathFlat polished searchOf keptOf pathEnd pathL1 path written outcome fit ofBits ofInt add sub mul div neg lt le eq isNan
 known-4 = refl
 
 abbrev pub table-5 : List Case
@@ -104,7 +104,7 @@ table-5 =
     ∷ []
 
 pub known-5 : worked table-5 ≡ stated table-5
-unfolding absOf isFinite maxOf minOf clampOf isqrtOf isqrt nearestRoot sqrtOf list sumTo maxTo norm2Sq dot sumAbs maxAbs diff diffK diffT diffKT less lessFrom reduced entry placed rowTo row rows sound forwardAt forward divided backAt back solve gram more moreFrom product zstar lamMax ridge minus clamped certify threshold aboveTo knots iterate run diagonalShift rhsAt dmu1At dmu2At residualSquareAt stepCapBy system rhs direction residualSquare residualNorm stepCapTo stepped along insideTo accepted trials newtonZ searchLine nextT move problem origin interiorPoint holdAt freeTo compressed lessTo compressedRhsAt solved candidateAt candidate polish soundL2 trendL2 scaled objectiveL2 dualL2 gapL2 finiteTo question pathL2 pathZero pathFlat polished searchOf keptOf pathEnd pathL1 path written outcome fit ofBits ofInt add sub mul div neg lt le eq isNan
+unfolding absOf isFinite maxOf minOf clampOf isqrtOf isqrt nearestRoot sqrtOf list sumTo maxTo norm2Sq dot sumAbs maxAbs diff diffK diffT diffKT less lessFrom reduced entry placed rowTo row rows sound forwardAt forward divided backAt back solve gram more moreFrom product zstar lamMax ridge minus clamped certify threshold aboveTo knots iterate run diagonalShift rhsAt dmu1At dmu2At residualSquareAt stepCapBy system rhs direction residualSquare residualNorm stepCapTo stepped along insideTo accepted trials newtonZ searchLine nextT move problem origin interiorPoint holdAt freeTo compressed lessTo compressedRhsAt solved candidateAt candidate polish soundL2 trendL2 scaled objectiveL2 dualL2 gapL2 finiteTo room question pathL2 pathZero pathFlat polished searchOf keptOf pathEnd pathL1 path written outcome fit ofBits ofInt add sub mul div neg lt le eq isNan
 known-5 = refl
 
 abbrev pub table-6 : List Case
@@ -116,5 +116,5 @@ table-6 =
     ∷ []
 
 pub known-6 : worked table-6 ≡ stated table-6
-unfolding absOf isFinite maxOf minOf clampOf isqrtOf isqrt nearestRoot sqrtOf list sumTo maxTo norm2Sq dot sumAbs maxAbs diff diffK diffT diffKT less lessFrom reduced entry placed rowTo row rows sound forwardAt forward divided backAt back solve gram more moreFrom product zstar lamMax ridge minus clamped certify threshold aboveTo knots iterate run diagonalShift rhsAt dmu1At dmu2At residualSquareAt stepCapBy system rhs direction residualSquare residualNorm stepCapTo stepped along insideTo accepted trials newtonZ searchLine nextT move problem origin interiorPoint holdAt freeTo compressed lessTo compressedRhsAt solved candidateAt candidate polish soundL2 trendL2 scaled objectiveL2 dualL2 gapL2 finiteTo question pathL2 pathZero pathFlat polished searchOf keptOf pathEnd pathL1 path written outcome fit ofBits ofInt add sub mul div neg lt le eq isNan
+unfolding absOf isFinite maxOf minOf clampOf isqrtOf isqrt nearestRoot sqrtOf list sumTo maxTo norm2Sq dot sumAbs maxAbs diff diffK diffT diffKT less lessFrom reduced entry placed rowTo row rows sound forwardAt forward divided backAt back solve gram more moreFrom product zstar lamMax ridge minus clamped certify threshold aboveTo knots iterate run diagonalShift rhsAt dmu1At dmu2At residualSquareAt stepCapBy system rhs direction residualSquare residualNorm stepCapTo stepped along insideTo accepted trials newtonZ searchLine nextT move problem origin interiorPoint holdAt freeTo compressed lessTo compressedRhsAt solved candidateAt candidate polish soundL2 trendL2 scaled objectiveL2 dualL2 gapL2 finiteTo room question pathL2 pathZero pathFlat polished searchOf keptOf pathEnd pathL1 path written outcome fit ofBits ofInt add sub mul div neg lt le eq isNan
 known-6 = refl

@@ -14,8 +14,8 @@ use Rattle.float64.proofs.Clash.{clash}
 use Rattle.vectors.specs.Vec.{at}
 use Rattle.vectors.proofs.Sums.{both}
 use Rattle.differences.specs.Series.{Order, Series}
-use Rattle.questions.specs.Questions.{Asked, Lent, oneOrTwo, finiteTo, workPlaces, marksPlaces, kindsKnown, longEnough, shortEnough, allFinite, lamRight, tolRight, limitRight, answerRoom, scratchRoom, ask, question}
-use Rattle.questions.specs.Groups.{sizes, values, room, next}
+use Rattle.questions.specs.Questions.{Asked, Lent, oneOrTwo, finiteTo, workPlaces, marksPlaces, kindsKnown, longEnough, shortEnough, allFinite, lamRight, tolRight, limitRight, answerRoom, scratchRoom, ask, room, question}
+use Rattle.questions.specs.Groups.{sizes, values, next}
 use Rattle.questions.specs.Asking.{asking}
 
 -- ---- the questions in three groups
@@ -24,7 +24,7 @@ next-ask k true r s h = refl
 next-ask k false r s h = rw h
 
 pub grouped : (a : Asked) (l : Lent) → question a l ≡ next (sizes (length (a .y)) (a .order) (a .penalty)) (next (values (a .y) (a .lam) (a .tol) (a .max-iter)) (room (length (a .y)) l))
-unfolding question sizes values room
+unfolding question sizes values
 grouped a l = rw (next-ask 1 _ _ _ refl, next-ask 2 _ _ _ refl, next-ask 3 _ _ _ refl, next-ask 4 _ _ _ refl, next-ask 5 _ _ _ refl, next-ask 6 _ _ _ refl, next-ask 7 _ _ _ refl)
 
 -- ---- a question answered yes
@@ -74,7 +74,7 @@ pub record Passed (a : Asked) (l : Lent) : Type 0 where
   pub marks : marksPlaces (length (a .y)) ≤ l .marks
 
 pub passed : (a : Asked) (l : Lent) → question a l ≡ 0 → Passed a l
-unfolding question
+unfolding question room
 passed a l e =
     let n = length (a .y) in
     let q1 = past 0 (kindsKnown (a .order) (a .penalty)) _ e in
@@ -129,7 +129,7 @@ other k true r h p = p
 other k false r h p = absurd (clash (eq-eqb k 3 p) h)
 
 pub not-too-long : (a : Asked) (l : Lent) → length (a .y) ≤ 65536 → question a l ≡ 3 → ⊥
-unfolding question
+unfolding question room
 not-too-long a l h e =
     let n = length (a .y) in
     let q2 = other 2 (longEnough n (a .order)) _ refl (other 1 (kindsKnown (a .order) (a .penalty)) _ refl e) in

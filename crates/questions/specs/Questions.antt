@@ -83,7 +83,11 @@ scratchRoom n l = leb (workPlaces n) (l .work) && leb (marksPlaces n) (l .marks)
 abbrev pub ask : ℕ → Bool → ℕ → ℕ
 ask number answer rest = cond answer rest number
 
--- the first question of 1 to 9 answered no, and 0 where none is
+-- 8 and 9: the first answered no, and 0 where none is
+unfoldable pub room : ℕ → Lent → ℕ
+room n l = ask 8 (answerRoom n l) (ask 9 (scratchRoom n l) 0)
+
+-- all nine: the first answered no, and 0 where none is
 unfoldable pub question : Asked → Lent → ℕ
 question a l =
     let n = length (a .y) in
@@ -94,6 +98,4 @@ question a l =
     (ask 5 (lamRight (a .lam))
     (ask 6 (tolRight (a .tol))
     (ask 7 (limitRight (a .max-iter))
-    (ask 8 (answerRoom n l)
-    (ask 9 (scratchRoom n l)
-    0))))))))
+    (room n l)))))))

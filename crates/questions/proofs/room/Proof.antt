@@ -1,6 +1,6 @@
 use mathlib.Core.Path.{sym, _∙_}
 use borrow.Author.Tests.{not-true, not-false}
-use Rattle.questions.specs.Groups.{room}
+use Rattle.questions.specs.Questions.{room}
 use borrow.Author.Needs.{needs}
 use Rattle.questions.proofs.room.Statement.{statement}
 use Rattle.questions.proofs.room.Tie as tie
