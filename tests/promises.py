@@ -2,7 +2,7 @@
 """promises.py: holds docs/PROMISES.md to the crates. Needs nothing but this repository.
 
 The reading list: every file of it is there, its lines (imports and Known.antt not counted) are at most 1,300, no two
-definitions of it share a name, and what its files import is on it too, or a file of the kit that it names.
+definitions of it share a name, each has its comment, and what its files import is on it too, or a file of the kit that it names.
 The tables: every exported function of a crate stands in them.
 """
 import collections, os, re, sys
@@ -22,6 +22,8 @@ for item in re.findall(r"^\d+\. .*$", listed, re.M):
             files.append((crate, word[1]))
 
 DECLARED = re.compile(r"^(?:(?:abbrev|unfoldable|opaque|rec) )*pub (?:(?:abbrev|unfoldable|rec) )*(record |data |)([^\s:({]+)")
+# the four operations, which the file's head explains, and the constants, whose decimal stands beside them
+SELF_EVIDENT = {"_⊕_", "_⊖_", "_⊗_", "_⊘_", "c0", "c1", "c2", "half", "c0·99", "c0·01", "c0·2", "c1·2", "c1e-6", "c1e-10", "c1e-12", "infinity"}
 total, names, kit = 0, collections.defaultdict(list), collections.defaultdict(set)
 for crate, name in files:
     path = f"crates/{crate}/specs/{name}.antt"
@@ -34,11 +36,13 @@ for crate, name in files:
         total += len(body)
         print(f"{len(body):5} {path}")
     inside = ""
-    for line in body:
+    for above, line in zip([""] + lines, lines):
         m = DECLARED.match(line)
         if m:
             inside = m.group(1).strip()
             names[m.group(2)].append(path)
+            if not above.startswith("--") and m.group(2) not in SELF_EVIDENT:
+                faults.append(f"{path}: {m.group(2)} has no comment")
         elif inside == "data" and (m := re.match(r"  (\S+) : ", line)):
             names[m.group(1)].append(path)
     for line in lines:
