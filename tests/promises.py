@@ -1,7 +1,7 @@
 #!/usr/bin/env python3
 """promises.py: holds docs/PROMISES.md to the crates. Needs nothing but this repository.
 
-The reading list: every file of it is there, its lines (imports and Known.antt not counted) are at most 1,300, no two
+The reading list: every file of it is there, its lines (imports with the blank line after them, and Known.antt, not counted) are below 1,300, no two
 definitions of it share a name, each has its comment, and what its files import is on it too, or a file of the kit that it names.
 The tables: every exported function of a crate stands in them.
 """
@@ -24,16 +24,17 @@ for item in re.findall(r"^\d+\. .*$", listed, re.M):
 DECLARED = re.compile(r"^(?:(?:abbrev|unfoldable|opaque|rec) )*pub (?:(?:abbrev|unfoldable|rec) )*(record |data |)([^\s:({]+)")
 # the four operations, which the file's head explains, and the constants, whose decimal stands beside them
 SELF_EVIDENT = {"_⊕_", "_⊖_", "_⊗_", "_⊘_", "c0", "c1", "c2", "half", "c0·99", "c0·01", "c0·2", "c1·2", "c1e-6", "c1e-10", "c1e-12", "infinity"}
-total, names, kit = 0, collections.defaultdict(list), collections.defaultdict(set)
+total, blank, names, kit = 0, 0, collections.defaultdict(list), collections.defaultdict(set)
 for crate, name in files:
     path = f"crates/{crate}/specs/{name}.antt"
     if not os.path.exists(path):
         faults.append(f"{path} is not there")
         continue
     lines = [l.rstrip("\n") for l in open(path)]
-    body = [l for l in lines if not l.startswith("use ")]
+    body = [l for i, l in enumerate(lines) if not l.startswith("use ") and not (l == "" and lines[i - 1].startswith("use "))]
     if name != "Known":
         total += len(body)
+        blank += sum(l == "" for l in body)
         print(f"{len(body):5} {path}")
     inside = ""
     for above, line in zip([""] + lines, lines):
@@ -51,7 +52,8 @@ for crate, name in files:
             continue
         own = re.match(r"Rattle·(\w+)(?:·specs\.specs|\.specs)\.(.+)", m.group(1))
         if own and os.path.isdir(f"crates/{own.group(1)}"):
-            if not own.group(2).startswith("declared.") and (own.group(1), own.group(2)) not in files:
+            by_meaning = f"`{own.group(1)}` specs/{own.group(2)}.antt, which need not be read" in listed
+            if not own.group(2).startswith("declared.") and (own.group(1), own.group(2)) not in files and not by_meaning:
                 faults.append(f"{path} imports {own.group(1)} specs/{own.group(2)}.antt, which is not on the list")
         else:
             kit[m.group(1)] |= {w.strip() for w in (m.group(2) or "").split(",")}
@@ -61,7 +63,7 @@ for name, where in sorted(names.items()):
 for module in sorted(kit):
     if f"`{module}`" not in listed:
         faults.append(f"the kit's {module} is not named in the list: {', '.join(sorted(kit[module]))}")
-if not files or total > 1300:
+if not files or total >= 1300:
     faults.append(f"the reading list has {total} lines in {len(files)} files")
 
 # ---- the exported functions
@@ -81,7 +83,7 @@ for crate in sorted(os.listdir("crates")):
 if not functions:
     faults.append("no exported function was found")
 
-print(f"{len(files)} files, {total} lines, {sum(map(len, names.values()))} names; {functions} exported functions; {len(faults)} faults")
+print(f"{len(files)} files, {total} lines, {blank} of them blank, {sum(map(len, names.values()))} names; {functions} exported functions; {len(faults)} faults")
 for fault in faults:
     print("FAULT", fault)
 sys.exit(1 if faults else 0)

@@ -12,7 +12,7 @@ use Rattle.vectors.specs.Vec.{at, list}
 abbrev pub rise : List Float → ℕ → Float
 rise w i = at w (i + 1) ⊖ at w i
 
--- the first differences: one place fewer
+-- the first differences: one place fewer (subtraction stops at 0)
 unfoldable pub diff : List Float → List Float
 diff w = list (length w - 1) (rise w)
 
@@ -21,10 +21,11 @@ unfoldable pub diffK : ℕ → List Float → List Float
 diffK zero w = w
 diffK (suc k) w = diff (diffK k w)
 
--- w[j-1] and w[j] of a series of m places, +0 beyond either end
+-- w[j-1], +0 before the start
 abbrev pub before : (ℕ → Float) → ℕ → Float
 before w j = cond (ltb 0 j) (w (j - 1)) c0
 
+-- w[j] of a series of m places, +0 beyond its end
 abbrev pub here : ℕ → (ℕ → Float) → ℕ → Float
 here m w j = cond (ltb j m) (w j) c0
 

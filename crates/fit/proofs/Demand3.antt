@@ -10,6 +10,7 @@ use lib.Ieee.{Float}
 use Rattle.differences.specs.Diff.{gramRow}
 use Rattle.certificate.specs.Certificate.{Certificate}
 use Rattle.search.specs.Search.{Problem, Ended, small}
+use Rattle.search.specs.Bounds.{Bounded}
 use Rattle.search.specs.Demand3 as search
 use Rattle.search.proofs.Demand.{demand3, bounded-closed}
 use Rattle.interior_point.specs.InteriorPoint.{State, problem, origin, interiorPoint}
@@ -38,7 +39,7 @@ searches a l q z =
 
 -- the same four bounds of what a path finds
 abbrev FoundBounds : ℕ → Found → Type 0
-FoundBounds max-iter f = search.Bounded max-iter (f .numbers .«n_iter») (f .numbers .improvements) (f .numbers .«first_gap») (f .numbers .«best_gap»)
+FoundBounds max-iter f = Bounded max-iter (f .numbers .«n_iter») (f .numbers .improvements) (f .numbers .«first_gap») (f .numbers .«best_gap»)
 
 abbrev Within : ℕ → Option Found → Type 0
 Within max none = T true

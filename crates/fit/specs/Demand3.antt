@@ -3,7 +3,7 @@
 -- improvement when its gap is below 0.99 times the best gap, the product rounded; then its gap becomes the best.
 use Prim.Native.Nat.{ℕ, _≤_, _<_}
 use mathlib.Core.Path.{_≡_}
-use Rattle.search.specs.Demand3.{Bounded}
+use Rattle.search.specs.Bounds.{Bounded}
 use Rattle.questions.specs.Questions.{Asked, Lent}
 use Rattle.fit.specs.Fit.{FitResult, fitted, fit}
 

@@ -14,8 +14,8 @@ use Rattle.float64.proofs.Clash.{clash}
 use Rattle.vectors.specs.Vec.{at}
 use Rattle.vectors.proofs.Sums.{both}
 use Rattle.differences.specs.Series.{Order, Series}
-use Rattle.questions.specs.Questions.{Asked, Lent, oneOrTwo, finiteTo, workPlaces, marksPlaces, kindsKnown, longEnough, shortEnough, allFinite, lamRight, tolRight, limitRight, answerRoom, scratchRoom, ask, room, question}
-use Rattle.questions.specs.Groups.{sizes, values, next}
+use Rattle.questions.specs.Questions.{Asked, Lent, oneOrTwo, finiteTo, workPlaces, marksPlaces, ask, room, question}
+use Rattle.questions.specs.Groups.{kindsKnown, longEnough, shortEnough, allFinite, lamRight, tolRight, limitRight, answerRoom, scratchRoom, sizes, values, next}
 use Rattle.questions.specs.Asking.{asking}
 
 -- ---- the questions in three groups

@@ -43,59 +43,32 @@ workPlaces n = 40 * n
 abbrev pub marksPlaces : ℕ → ℕ
 marksPlaces n = 2 * n
 
--- 1. Are order and penalty each 1 or 2?
-abbrev pub kindsKnown : ℕ → ℕ → Bool
-kindsKnown order penalty = oneOrTwo order && oneOrTwo penalty
-
--- 2. Is n at least order+1?
-abbrev pub longEnough : ℕ → ℕ → Bool
-longEnough n order = leb (order + 1) n
-
--- 3. Is n at most 65,536?
-abbrev pub shortEnough : ℕ → Bool
-shortEnough n = leb n 65536
-
--- 4. Is every y finite?
-abbrev pub allFinite : List Float → Bool
-allFinite y = finiteTo y (length y)
-
--- 5. Is lam finite and not below 0? (−0 passes)
-abbrev pub lamRight : Float → Bool
-lamRight lam = isFinite lam && not (lt lam c0)
-
--- 6. Is tol finite and above 0?
-abbrev pub tolRight : Float → Bool
-tolRight tol = isFinite tol && lt c0 tol
-
--- 7. Is max_iter at least 1?
-abbrev pub limitRight : ℕ → Bool
-limitRight max-iter = leb 1 max-iter
-
--- 8. Have trend, cycle and knots each at least n places?
-abbrev pub answerRoom : ℕ → Lent → Bool
-answerRoom n l = leb n (l .trend) && leb n (l .cycle) && leb n (l .knots)
-
--- 9. Has work at least 40·n places and marks at least 2·n?
-abbrev pub scratchRoom : ℕ → Lent → Bool
-scratchRoom n l = leb (workPlaces n) (l .work) && leb (marksPlaces n) (l .marks)
-
 -- a question's number where its answer is no, and else what the rest gives
 abbrev pub ask : ℕ → Bool → ℕ → ℕ
 ask number answer rest = cond answer rest number
 
--- 8 and 9: the first answered no, and 0 where none is
+-- 8. Have trend, cycle and knots each at least n places? 9. Has work at least 40·n places and marks at least 2·n?
 unfoldable pub room : ℕ → Lent → ℕ
-room n l = ask 8 (answerRoom n l) (ask 9 (scratchRoom n l) 0)
+room n l =
+    ask 8 (leb n (l .trend) && leb n (l .cycle) && leb n (l .knots))
+    (ask 9 (leb (workPlaces n) (l .work) && leb (marksPlaces n) (l .marks)) 0)
 
--- all nine: the first answered no, and 0 where none is
+-- the first question answered no, and 0 where none is
 unfoldable pub question : Asked → Lent → ℕ
 question a l =
     let n = length (a .y) in
-    ask 1 (kindsKnown (a .order) (a .penalty))
-    (ask 2 (longEnough n (a .order))
-    (ask 3 (shortEnough n)
-    (ask 4 (allFinite (a .y))
-    (ask 5 (lamRight (a .lam))
-    (ask 6 (tolRight (a .tol))
-    (ask 7 (limitRight (a .max-iter))
+    -- 1. Are order and penalty each 1 or 2?
+    ask 1 (oneOrTwo (a .order) && oneOrTwo (a .penalty))
+    -- 2. Is n at least order+1?
+    (ask 2 (leb (a .order + 1) n)
+    -- 3. Is n at most 65,536?
+    (ask 3 (leb n 65536)
+    -- 4. Is every y finite?
+    (ask 4 (finiteTo (a .y) n)
+    -- 5. Is lam finite and not below 0? (−0 passes)
+    (ask 5 (isFinite (a .lam) && not (lt (a .lam) c0))
+    -- 6. Is tol finite and above 0?
+    (ask 6 (isFinite (a .tol) && lt c0 (a .tol))
+    -- 7. Is max_iter at least 1?
+    (ask 7 (leb 1 (a .max-iter))
     (room n l)))))))

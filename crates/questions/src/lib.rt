@@ -3,8 +3,8 @@ ghost use mathlib.Core.Path.{_≡_};
 ghost use mathlib.Core.Bool.{_&&_};
 ghost use Prim.Native.Nat.{_≤_};
 ghost use lib.Dec.{leb};
-ghost use Rattle.questions.specs.Questions.{oneOrTwo, workPlaces, marksPlaces, kindsKnown, allFinite, lamRight, tolRight, room, question};
-ghost use Rattle.questions.specs.Groups.{sizes, values};
+ghost use Rattle.questions.specs.Questions.{oneOrTwo, workPlaces, marksPlaces, room, question};
+ghost use Rattle.questions.specs.Groups.{kindsKnown, allFinite, lamRight, tolRight, sizes, values};
 ghost use Rattle.questions.specs.Asking.{asking, lending};
 
 fn one_or_two(x: u32) -> bool

@@ -19,6 +19,7 @@ abbrev pub saidBy : Option (List Rec) → Option (List Entry)
 saidBy none = none
 saidBy (some rs) = entries rs
 
+-- what the input says
 abbrev pub entriesIn : List ℕ → Option (List Entry)
 entriesIn s = saidBy (records s)
 

@@ -12,7 +12,8 @@ use lib.Ieee.Fits.{sub-fits}
 use lib.Ieee.Positive.{positive, above}
 use Rattle.float64.specs.Ops.{c0·99}
 use Rattle.search.specs.Search.{Problem, Point, Ended, Reason, small, spent, stalled, pivot, gap, startAt, enough, improved, searched}
-use Rattle.search.specs.Demand3.{units, Bounded, BoundedEnd, Alike, SearchDemand3, clear}
+use Rattle.search.specs.Bounds.{units, Bounded}
+use Rattle.search.specs.Demand3.{BoundedEnd, Alike, SearchDemand3, clear}
 use Rattle.search.proofs.Trace.{Trace, closes, spends, stalls, loses, gains, stays, trace, traced, steps-grow, steps-within, first-stays, idle}
 use Rattle.search.proofs.Falls.{Falls, here, lower, finite-of, falls-whole, few-improvements}
 use Rattle.search.proofs.Clear.{goes-on}

@@ -16,7 +16,7 @@ use Rattle.float64.specs.Ops.{c0·99}
 use Rattle.float64.specs.Helpers.{isFinite}
 use Rattle.float64.specs.Units.{inUnits}
 use Rattle.float64.proofs.Doubles.{fit-of, units-under, units-pos}
-use Rattle.search.specs.Demand3.{units}
+use Rattle.search.specs.Bounds.{units}
 use Rattle.search.proofs.Shrink.{shrinks}
 
 -- b is reached from a by j improvements: each is below the rounded 0.99 of the one before, which was above zero, and all are doubles

@@ -1,3 +1,4 @@
 -- The search over any problem, and what is promised of it.
 pub mod Search
+pub mod Bounds
 pub mod Demand3

@@ -43,10 +43,11 @@ sumAbs v = sumTo (λ i. absOf (at v i)) (length v)
 unfoldable pub maxAbs : List Float → Float
 maxAbs v = maxTo (λ i. absOf (at v i)) (length v)
 
--- whether |v i| is below lam for every i below n, and for every place
+-- whether |v i| is below lam for every i below n
 unfoldable pub insideTo : Float → List Float → ℕ → Bool
 insideTo lam v zero = true
 insideTo lam v (suc n) = insideTo lam v n && lt (absOf (at v n)) lam
 
+-- the same for every place of v
 abbrev pub inside : Float → List Float → Bool
 inside lam v = insideTo lam v (length v)

@@ -27,6 +27,7 @@ listingOf a f =
     ++ hourLinesFrom 0 (f .trend) (f .cycle)
     ++ knotLines (f .knots)
 
+-- what is printed of an outcome
 unfoldable pub outcomeText : Asked → Outcome → List ℕ
 outcomeText a (refused q) = refusedLine q
 outcomeText a (fitted f) = listingOf a f
@@ -40,5 +41,6 @@ unfoldable pub readingText : Reading → List ℕ
 readingText (unread q) = refusedLine q
 readingText (read st ws) = fitText st (hoursOf ws)
 
+-- from the input's bytes to the printed bytes
 unfoldable pub weekText : List ℕ → List ℕ
 weekText s = readingText (readWeek s)
