@@ -7,8 +7,8 @@ use native.Mathlib.Omega.{arith}
 use native.Mathlib.Nat.{mul-le-mul-left, zero-add}
 use lib.ListN.{length, getD}
 use lib.Ieee.{Float}
-use Rattle.vectors.specs.Vec.{list, Kept}
-use Rattle.vectors.specs.Parts.{partOf, part}
+use Rattle.vectors.specs.Vec.{list}
+use Rattle.vectors.specs.Parts.{Kept, partOf, part}
 use Rattle.vectors.proofs.Laws.{list-ext, kept-none, kept-then}
 use Rattle.differences.specs.Diff.{gramRow}
 use Rattle.banded.specs.Rows.{rows, sound}

@@ -6,8 +6,7 @@ use Prim.Native.Nat.{ℕ, _+_, _-_, _*_, _^_, _≤_, _<_}
 use lib.Dec.{eqb}
 use lib.ListN.{length, getD}
 use lib.Ieee.{Float}
-use Rattle.vectors.specs.Vec.{Kept}
-use Rattle.vectors.specs.Parts.{part}
+use Rattle.vectors.specs.Parts.{Kept, part}
 use Rattle.differences.specs.Diff.{gramRow}
 use Rattle.banded.specs.Rows.{sound}
 use Rattle.active_set.specs.ActiveSet.{Hold, free, at-lam, at-minus-lam, freeTo, compressed, solved}

@@ -2,8 +2,8 @@
 ghost use mathlib.Core.Path.{_≡_};
 ghost use Prim.Native.Nat.{_≤_, _-_, _+_, _*_};
 ghost use lib.ListN.{length, getD};
-ghost use Rattle.vectors.specs.Vec.{list, Kept};
-ghost use Rattle.vectors.specs.Parts.{part, Written};
+ghost use Rattle.vectors.specs.Vec.{list};
+ghost use Rattle.vectors.specs.Parts.{Kept, part, Written};
 ghost use Rattle.banded.specs.Rows.{placed};
 ghost use Rattle.banded.specs.Layout.{Laid};
 ghost use Rattle.active_set.specs.ActiveSet.{compressed, lessHeld, compressedRhsAt};

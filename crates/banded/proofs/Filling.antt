@@ -8,8 +8,8 @@ use native.Mathlib.Omega.{arith}
 use lib.ListN.{length, take, drop, length-drop}
 use lib.Seq.{take-all, length-take-le}
 use lib.Ieee.{Float}
-use Rattle.vectors.specs.Vec.{put, Kept}
-use Rattle.vectors.specs.Parts.{part, Written, Wrote}
+use Rattle.vectors.specs.Vec.{put}
+use Rattle.vectors.specs.Parts.{Kept, part, Written, Wrote}
 use Rattle.vectors.proofs.Laws.{kept-none}
 use Rattle.vectors.proofs.Parts.{mid-is, putBack, mid-put, length-put}
 use Rattle.vectors.proofs.Texts.{wrote-take}

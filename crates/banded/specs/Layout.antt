@@ -3,7 +3,7 @@ use mathlib.Core.Path.{_≡_}
 use mathlib.Core.List.{List}
 use Prim.Native.Nat.{ℕ, _+_, _*_, _<_, _≤_}
 use lib.Ieee.{Float}
-use Rattle.vectors.specs.Vec.{Kept}
+use Rattle.vectors.specs.Parts.{Kept}
 use Rattle.banded.specs.Rows.{Matrix, placed}
 use Rattle.banded.specs.Run.{flat}
 

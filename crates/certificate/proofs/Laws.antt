@@ -18,7 +18,8 @@ use Rattle.vectors.specs.Sums.{norm2Sq, dot, sumAbs, inside}
 use Rattle.vectors.proofs.Laws.{length-list, at-list, list-ext, list-is, cond-cong}
 use Rattle.vectors.proofs.Parts.{partOf-ext, range-part, length-part, part-above}
 use Rattle.vectors.proofs.Sums.{sum-ext, inside-at}
-use Rattle.differences.specs.Diff.{before, here, fall, diffK, diffKT}
+use Rattle.differences.specs.Diff.{fall, diffK, diffKT}
+use Rattle.differences.specs.Ends.{before, here}
 use Rattle.differences.proofs.Laws.{length-diffK, at-fall-1, at-fall-2}
 use Rattle.certificate.specs.Certificate.{minus, clamped, certify}
 use Rattle.certificate.specs.Run.{dualOf, dualAt, Trend, Beside, Summed, Certified}

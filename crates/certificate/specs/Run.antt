@@ -5,8 +5,7 @@ use Prim.Native.Nat.{ℕ, _+_, _-_, _≤_}
 use lib.ListN.{length}
 use lib.Ieee.{Float, neg}
 use Rattle.float64.specs.Ops.{_⊕_, _⊗_, half}
-use Rattle.vectors.specs.Vec.{Kept}
-use Rattle.vectors.specs.Parts.{part}
+use Rattle.vectors.specs.Parts.{Kept, part}
 use Rattle.vectors.specs.Sums.{norm2Sq, dot}
 use Rattle.differences.specs.Diff.{diffKT}
 use Rattle.differences.specs.Series.{Order, Series}

@@ -9,8 +9,7 @@ use native.Mathlib.Omega.{arith}
 use lib.Dec.{T}
 use lib.ListN.{length, take, drop}
 use lib.Ieee.{Float, nan}
-use Rattle.vectors.specs.Vec.{Kept}
-use Rattle.vectors.specs.Parts.{part}
+use Rattle.vectors.specs.Parts.{Kept, part}
 use Rattle.vectors.proofs.Laws.{kept-none, kept-then}
 use Rattle.vectors.proofs.Parts.{length-part, putBack, partOf-range, part-put, part-below}
 use Rattle.certificate.specs.Certificate.{certify}

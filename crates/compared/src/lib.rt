@@ -7,7 +7,7 @@ ghost use mathlib.Core.Path.{_≡_};
 ghost use Prim.Native.Nat.{_≤_, _<_};
 ghost use lib.ListN.{length};
 ghost use Rattle.questions.specs.Asking.{asking};
-ghost use Rattle.trend_filter.specs.Calls.{oneIf};
+ghost use Rattle.trend_filter.specs.Inner.{oneIf};
 ghost use Rattle.trend_filter.specs.Answers.{buffers};
 ghost use Rattle.compared.specs.Outcomes.{sameSummary, sameFit, Compares};
 

@@ -11,7 +11,8 @@ use lib.Ieee.{Float}
 use Rattle.float64.specs.Ops.{_⊖_}
 use Rattle.vectors.specs.Vec.{at}
 use Rattle.vectors.proofs.Laws.{length-list, at-list, cond-cong}
-use Rattle.differences.specs.Diff.{rise, diff, diffK, before, here, fall, diffT, diffKT}
+use Rattle.differences.specs.Diff.{rise, diff, diffK, fall, diffT, diffKT}
+use Rattle.differences.specs.Ends.{before, here}
 
 -- ---- D
 

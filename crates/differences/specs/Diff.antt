@@ -21,17 +21,9 @@ unfoldable pub diffK : ℕ → List Float → List Float
 diffK zero w = w
 diffK (suc k) w = diff (diffK k w)
 
--- w[j-1], +0 before the start
-abbrev pub before : (ℕ → Float) → ℕ → Float
-before w j = cond (ltb 0 j) (w (j - 1)) c0
-
--- w[j] of a series of m places, +0 beyond its end
-abbrev pub here : ℕ → (ℕ → Float) → ℕ → Float
-here m w j = cond (ltb j m) (w j) c0
-
--- w[j-1] - w[j]
+-- w[j-1] - w[j] of a series of m places, +0 beyond either end
 abbrev pub fall : ℕ → (ℕ → Float) → ℕ → Float
-fall m w j = before w j ⊖ here m w j
+fall m w j = cond (ltb 0 j) (w (j - 1)) c0 ⊖ cond (ltb j m) (w j) c0
 
 -- the transposed first differences: one place more
 unfoldable pub diffT : List Float → List Float

@@ -1,3 +1,4 @@
 -- The definitions that the contracts of differences cite.
 pub mod Diff
+pub mod Ends
 pub mod Series

@@ -3,7 +3,8 @@ ghost use mathlib.Core.Path.{_≡_};
 ghost use Prim.Native.Nat.{_≤_, _<_, _-_, _+_};
 ghost use lib.ListN.{length};
 ghost use Rattle.vectors.specs.Vec.{at, put};
-ghost use Rattle.differences.specs.Diff.{diffK, before, here, fall, diffKT, stencil as stencil_of, gramRow};
+ghost use Rattle.differences.specs.Diff.{diffK, fall, diffKT, stencil as stencil_of, gramRow};
+ghost use Rattle.differences.specs.Ends.{before, here};
 ghost use Rattle.differences.specs.Series.{Order, Series};
 
 // The row of D. The last place is not used for order 1.

@@ -7,8 +7,8 @@ use native.Mathlib.Omega.{arith}
 use native.Mathlib.Numerals.{add-one}
 use lib.ListN.{length}
 use lib.Ieee.{Float, nan, inf, fin, binary64, lt, isNan, ofBits}
-use Rattle.vectors.specs.Vec.{at, list, Kept}
-use Rattle.vectors.specs.Parts.{part}
+use Rattle.vectors.specs.Vec.{at, list}
+use Rattle.vectors.specs.Parts.{Kept, part}
 use Rattle.vectors.proofs.Laws.{list-ext, kept-then}
 use Rattle.vectors.proofs.Parts.{length-part, at-part, part-below}
 use Rattle.dual_point.specs.Places.{point}

@@ -4,8 +4,7 @@ use mathlib.Core.Bool.{Bool, cond}
 use mathlib.Core.List.{List}
 use Prim.Native.Nat.{ℕ, _+_, _≤_}
 use lib.Ieee.{Float}
-use Rattle.vectors.specs.Vec.{Kept}
-use Rattle.vectors.specs.Parts.{part}
+use Rattle.vectors.specs.Parts.{Kept, part}
 use Rattle.dual_point.specs.Dual.{Values}
 use Rattle.dual_point.specs.Places.{point}
 use Rattle.direction.specs.Direction.{dmu1At, dmu2At, direction, stepCapTo}

@@ -6,8 +6,8 @@ use native.Mathlib.Omega.{arith}
 use lib.ListN.{length, take, drop}
 use lib.Seq.{getD-take, getD-drop}
 use lib.Ieee.{Float, nan}
-use Rattle.vectors.specs.Vec.{at, Kept}
-use Rattle.vectors.specs.Parts.{part}
+use Rattle.vectors.specs.Vec.{at}
+use Rattle.vectors.specs.Parts.{Kept, part}
 use Rattle.vectors.proofs.Parts.{at-part, partOf-ext, putBack, getD-put}
 use Rattle.dual_point.specs.Places.{point}
 

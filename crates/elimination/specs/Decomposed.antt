@@ -4,8 +4,7 @@ use mathlib.Core.Bool.{Bool, true}
 use mathlib.Core.List.{List}
 use Prim.Native.Nat.{ℕ, _+_, _*_}
 use lib.Ieee.{Float}
-use Rattle.vectors.specs.Vec.{Kept}
-use Rattle.vectors.specs.Parts.{part}
+use Rattle.vectors.specs.Parts.{Kept, part}
 use Rattle.banded.specs.Rows.{Matrix, rows, sound}
 use Rattle.banded.specs.Solve.{forward}
 use Rattle.banded.specs.Run.{concat, Keeps}

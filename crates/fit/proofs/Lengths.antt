@@ -21,7 +21,8 @@ use Rattle.search.specs.Search.{Ended}
 use Rattle.interior_point.specs.InteriorPoint.{State}
 use Rattle.l2.specs.L2.{soundL2, trendL2}
 use Rattle.questions.specs.Questions.{Asked, Lent}
-use Rattle.fit.specs.Fit.{Found, FitResult, Lengths, fitted, certificateAt, pathL2, pathZero, pathFlat, replaces, polished, searchOf, keptOf, pathEnd, lamZero, lamHigh, pathL1, path, written, fit}
+use Rattle.fit.specs.Fit.{Found, FitResult, Lengths, fitted, certificateAt, pathL2, pathZero, pathFlat, replaces, polished, searchOf, keptOf, pathEnd, pathL1, path, written, fit}
+use Rattle.fit.specs.Ways.{lamZero, lamHigh}
 use Rattle.fit.proofs.Passed.{passed}
 
 -- ---- of the parts

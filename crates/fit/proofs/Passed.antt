@@ -8,7 +8,8 @@ use lib.Dec.{T, eqb, eqb→eq}
 use lib.ListN.{length}
 use Rattle.questions.specs.Questions.{Asked, Lent, oneOrTwo, question}
 use Rattle.questions.proofs.Laws.{same-question, too-long, not-too-long}
-use Rattle.fit.specs.Fit.{FitResult, Outcome, refused, fitted, Found, soundDD, path, written, outcome, fit}
+use Rattle.fit.specs.Fit.{FitResult, Outcome, refused, fitted, Found, path, written, outcome, fit}
+use Rattle.fit.specs.Ways.{soundDD}
 use Rattle.fit.specs.Demand3.{withMaxIter}
 
 pub on : (b : Bool) → T b → b ≡ true

@@ -53,8 +53,6 @@ lamMaxOf a = lamMax (a .order) (gramRow (a .order)) (places a) (a .y)
 abbrev pub certificateAt : Asked → List Float → Certificate
 certificateAt a z = certify (a .order) (a .y) (a .lam) z
 
--- ---- the paths
-
 -- the numbers of a closed path: converged true, n_iter 0, improvements 0, first and best gap equal gap
 abbrev pub closed : Float → Float → Numbers
 closed gap objective = record { gap = gap; «first_gap» = gap; «best_gap» = gap; objective = objective; «n_iter» = 0; improvements = 0; converged = true }
@@ -108,23 +106,13 @@ pathEnd a e =
       };
     }
 
--- whether lam is 0 or -0, which is tested before lam_max
-abbrev pub lamZero : Asked → Bool
-lamZero a = eq (a .lam) c0
-
--- whether lam ≥ lam_max
-abbrev pub lamHigh : Asked → Bool
-lamHigh a = le (lamMaxOf a) (a .lam)
-
--- L1, by lam
+-- L1: lam 0 or -0, which is asked first; lam ≥ lam_max; the search
 unfoldable pub pathL1 : Asked → Found
-pathL1 a = cond (lamZero a) (pathZero a) (cond (lamHigh a) (pathFlat a) (pathEnd a (searchOf a)))
+pathL1 a = cond (eq (a .lam) c0) (pathZero a) (cond (le (lamMaxOf a) (a .lam)) (pathFlat a) (pathEnd a (searchOf a)))
 
 -- by the penalty
 unfoldable pub path : Asked → Option Found
 path a = cond (eqb (a .penalty) 2) (pathL2 a) (some (pathL1 a))
-
--- ---- the whole
 
 -- what is written of a path: its trend, the cycle y - x, the knots of D x, with lam_max and its numbers
 unfoldable pub written : Asked → Found → FitResult
@@ -141,13 +129,11 @@ unfoldable pub outcome : Asked → Option Found → Outcome
 outcome a none = refused 10
 outcome a (some f) = fitted (written a f)
 
--- whether the pivots of D D' are all good
-abbrev pub soundDD : Asked → Bool
-soundDD a = sound (a .order) (gram (a .order) (gramRow (a .order))) (places a)
-
 -- the first question answered no; else 10 where a pivot of D D' is bad; else what the path gives
 unfoldable pub fit : Asked → Lent → Outcome
-fit a l = cond (eqb (question a l) 0) (cond (soundDD a) (outcome a (path a)) (refused 10)) (refused (question a l))
+fit a l =
+    let k = a .order in
+    cond (eqb (question a l) 0) (cond (sound k (gram k (gramRow k)) (places a)) (outcome a (path a)) (refused 10)) (refused (question a l))
 
 -- how many places a fit writes: n of trend and of cycle, at most m of knots
 pub record Lengths (a : Asked) (f : FitResult) : Type 0 where

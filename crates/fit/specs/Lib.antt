@@ -1,4 +1,5 @@
 -- The whole fit, from what is asked and lent to its outcome.
 pub mod Fit
+pub mod Ways
 pub mod Known
 pub mod Demand3

@@ -7,8 +7,8 @@ use native.Mathlib.Nat.{mul-le-mul-left, zero-add}
 use native.Mathlib.Omega.{arith}
 use lib.ListN.{length, take, drop}
 use lib.Ieee.{Float, nan}
-use Rattle.vectors.specs.Vec.{put, Kept}
-use Rattle.vectors.specs.Parts.{part}
+use Rattle.vectors.specs.Vec.{put}
+use Rattle.vectors.specs.Parts.{Kept, part}
 use Rattle.vectors.specs.Sums.{maxAbs}
 use Rattle.vectors.proofs.Laws.{kept-then}
 use Rattle.vectors.proofs.Parts.{putBack, kept-put, part-above}

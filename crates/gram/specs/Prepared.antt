@@ -6,8 +6,7 @@ use mathlib.Core.List.{List}
 use Prim.Native.Nat.{ℕ, _+_, _-_, _*_, _≤_}
 use lib.ListN.{length}
 use lib.Ieee.{Float}
-use Rattle.vectors.specs.Vec.{Kept}
-use Rattle.vectors.specs.Parts.{part}
+use Rattle.vectors.specs.Parts.{Kept, part}
 use Rattle.differences.specs.Diff.{diffK, gramRow}
 use Rattle.banded.specs.Rows.{rows, sound}
 use Rattle.banded.specs.Run.{concat, Keeps}

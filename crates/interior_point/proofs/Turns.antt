@@ -11,8 +11,8 @@ use lib.ListN.{length}
 use lib.Ieee.{Float, nan, lt, le}
 use Rattle.float64.proofs.Clash.{clash, impossible}
 use Rattle.float64.specs.Ops.{_⊖_, _⊗_, _⊘_, c0, c0·99, c1, c1e-10, infinity}
-use Rattle.vectors.specs.Vec.{at, Kept}
-use Rattle.vectors.specs.Parts.{partOf, part, Written}
+use Rattle.vectors.specs.Vec.{at}
+use Rattle.vectors.specs.Parts.{Kept, partOf, part, Written}
 use Rattle.vectors.proofs.Laws.{kept-then, kept-none, list-ext, written-kept}
 use Rattle.vectors.proofs.Parts.{length-part, part-below, part-above}
 use Rattle.differences.specs.Diff.{diffK, gramRow}
@@ -30,7 +30,8 @@ use Rattle.dual_point.proofs.Points.{point-above}
 use Rattle.newton_step.specs.Stepped.{stepArea, stepOf, Stepped}
 use Rattle.newton_step.specs.declared.Step.{Step}
 use Rattle.newton_step.specs.declared.Step.the-variants.{Lost, Moved}
-use Rattle.interior_point.specs.InteriorPoint.{State, nextT, landed, move, problem, origin, interiorPoint}
+use Rattle.interior_point.specs.InteriorPoint.{State, nextT, move, problem, origin, interiorPoint}
+use Rattle.interior_point.specs.Account.{landed}
 use Rattle.interior_point.specs.Account.{stateOf, pointOf, Standing, Started, leftOf, goes, improves, lostRun, Settled, Turned, searchOf, Found}
 use Rattle.interior_point.specs.declared.Run.{Run}
 

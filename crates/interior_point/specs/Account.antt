@@ -7,8 +7,7 @@ use lib.Dec.{eqb, ltb}
 use lib.ListN.{length}
 use lib.Ieee.{Float, lt, le}
 use Rattle.float64.specs.Ops.{_⊖_, _⊗_, c0·99}
-use Rattle.vectors.specs.Vec.{Kept}
-use Rattle.vectors.specs.Parts.{part}
+use Rattle.vectors.specs.Parts.{Kept, part}
 use Rattle.differences.specs.Diff.{gramRow}
 use Rattle.certificate.specs.Certificate.{Certificate, certify, gapOf}
 use Rattle.certificate.specs.Ready.{Ready}
@@ -16,6 +15,7 @@ use Rattle.search.specs.Search.{Problem, Point, Ended, ended, pivot, startAt, r
 use Rattle.dual_point.specs.Dual.{Dual}
 use Rattle.dual_point.specs.Lanes.{searchArea}
 use Rattle.dual_point.specs.Places.{point}
+use Rattle.line_search.specs.LineSearch.{Trial, nextPoint}
 use Rattle.interior_point.specs.InteriorPoint.{State, problem, origin, interiorPoint}
 use Rattle.interior_point.specs.declared.Run.{Run}
 
@@ -126,3 +126,7 @@ pub record Found (k : ℕ) (y : List Float) (lam tol : Float) (max-iter : ℕ) (
   pub n-iter : r .«n_iter» ≡ searchOf k y lam tol max-iter .n-iter
   pub improvements : r .improvements ≡ searchOf k y lam tol max-iter .improvements
   pub kept : Kept 0 (searchArea (length y)) s₀ s
+
+-- the state after an iteration with t, whose line search ended as e
+abbrev pub landed : Float → State → Float → Trial → State
+landed lam s t e = record { point = nextPoint lam (s .point) e; t = t; step = e .step }

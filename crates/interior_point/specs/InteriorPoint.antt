@@ -26,17 +26,14 @@ pub record State : Type 0 where
 unfoldable pub nextT : ℕ → Float → State → Float
 nextT m gap s = cond (le c0·2 (s .step)) (maxOf (c2 ⊗ ofInt binary64 (pos m) ⊗ c2 ⊘ gap) (c1·2 ⊗ s .t)) (s .t)
 
--- the state after an iteration with t, whose line search ended as e
-abbrev pub landed : Float → State → Float → Trial → State
-landed lam s t e = record { point = nextPoint lam (s .point) e; t = t; step = e .step }
-
 -- one iteration from s, given the gap there: the next t, then a Newton step with inv-t = 1 / t; a bad pivot loses it
 unfoldable pub move : ℕ → List Float → List Float → Float → Float → State → Turn State
 move k g y lam gap s =
     let m = length (s .point .z) in
     let t = nextT m gap s in
     let c : NewtonData = record { k = k; g = g; dy = diffK k y; lam = lam; inv-t = c1 ⊘ t } in
-    cond (sound k (system k g lam (s .point)) m) (moved (landed lam s t (searchLine c (s .point)))) lost
+    let e = searchLine c (s .point) in
+    cond (sound k (system k g lam (s .point)) m) (moved (record { point = nextPoint lam (s .point) e; t = t; step = e .step })) lost
 
 -- the problem whose search it is: P and G of the certificate at z
 unfoldable pub problem : ℕ → List Float → List Float → Float → Problem State

@@ -5,8 +5,7 @@ use mathlib.Core.List.{List}
 use Prim.Native.Nat.{ℕ, _+_, _-_, _*_}
 use lib.ListN.{length}
 use lib.Ieee.{Float}
-use Rattle.vectors.specs.Vec.{Kept}
-use Rattle.vectors.specs.Parts.{part}
+use Rattle.vectors.specs.Parts.{Kept, part}
 use Rattle.differences.specs.Diff.{diffK}
 use Rattle.l2.specs.L2.{soundL2, trendL2, scaled, objectiveL2, gapL2}
 use Rattle.l2.specs.declared.Ends.{Ends}

@@ -5,8 +5,8 @@ use Prim.Native.Nat.{ℕ, _+_, _-_, _*_, _≤_, _<_}
 use native.Mathlib.Omega.{arith}
 use lib.ListN.{length, set}
 use lib.Ieee.{Float, binary64, add, mul}
-use Rattle.vectors.specs.Vec.{at, list, Kept}
-use Rattle.vectors.specs.Parts.{Written, partOf, part}
+use Rattle.vectors.specs.Vec.{at, list}
+use Rattle.vectors.specs.Parts.{Kept, Written, partOf, part}
 use Rattle.vectors.proofs.Laws.{list-ext, up}
 use Rattle.vectors.proofs.Parts.{length-part, at-part}
 use Rattle.line_search.specs.LineSearch.{stepped, along}

@@ -7,8 +7,7 @@ use native.Mathlib.Omega.{arith}
 use native.Mathlib.Numerals.{add-one}
 use lib.Ieee.{Float, binary64, mul, ofBits}
 use Rattle.vectors.specs.Sums.{inside}
-use Rattle.vectors.specs.Vec.{Kept}
-use Rattle.vectors.specs.Parts.{part}
+use Rattle.vectors.specs.Parts.{Kept, part}
 use Rattle.vectors.proofs.Laws.{kept-then}
 use Rattle.dual_point.specs.Dual.{Dual}
 use Rattle.dual_point.specs.Places.{point}

@@ -2,7 +2,7 @@
 ghost use mathlib.Core.Path.{_≡_};
 ghost use Prim.Native.Nat.{_≤_, _+_, _*_};
 ghost use lib.ListN.{length};
-ghost use Rattle.vectors.specs.Vec.{Kept};
+ghost use Rattle.vectors.specs.Parts.{Kept};
 ghost use Rattle.newton_system.specs.Newton.{residualSquare, residualNorm};
 ghost use Rattle.newton_system.specs.Rows.{dataOf};
 ghost use Rattle.dual_point.specs.Places.{point};

@@ -4,7 +4,7 @@ use mathlib.Core.Bool.{Bool, true, false, cond}
 use mathlib.Core.List.{List}
 use Prim.Native.Nat.{ℕ, _+_, _*_, _≤_}
 use lib.Ieee.{Float}
-use Rattle.vectors.specs.Vec.{Kept}
+use Rattle.vectors.specs.Parts.{Kept}
 use Rattle.differences.specs.Series.{Order}
 use Rattle.banded.specs.Rows.{sound}
 use Rattle.newton_system.specs.Newton.{system}

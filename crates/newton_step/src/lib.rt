@@ -3,7 +3,7 @@ ghost use mathlib.Core.Path.{_≡_};
 ghost use mathlib.Core.Bool.{cond};
 ghost use Prim.Native.Nat.{_≤_, _*_};
 ghost use lib.ListN.{length};
-ghost use Rattle.vectors.specs.Vec.{Kept};
+ghost use Rattle.vectors.specs.Parts.{Kept};
 ghost use Rattle.dual_point.specs.Places.{point};
 ghost use Rattle.newton_step.specs.Stepped.{Steppable, Stepped};
 

@@ -12,7 +12,8 @@ use Rattle.vectors.proofs.Parts.{at-part}
 use Rattle.gram.specs.Gram.{gram, product}
 use Rattle.dual_point.specs.Dual.{Dual, Values, valuesAt}
 use Rattle.dual_point.specs.Places.{point}
-use Rattle.newton_system.specs.Newton.{diagonalShift, system, residualSquareAt, residualSquareOf}
+use Rattle.newton_system.specs.Newton.{diagonalShift, system, residualSquareAt}
+use Rattle.newton_system.specs.Rows.{residualSquareOf}
 use Rattle.newton_system.specs.Rows.{dataOf}
 
 -- z, mu1 and mu2 at place i of the point in the first places

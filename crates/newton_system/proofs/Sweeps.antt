@@ -11,8 +11,8 @@ use lib.Ieee.{Float, nan, binary64, add}
 use borrow.Author.Tests.{lt-ltb, le-ltb}
 use Rattle.float64.proofs.Clash.{clash}
 use Rattle.vectors.specs.Sums.{sumTo}
-use Rattle.vectors.specs.Vec.{at, Kept}
-use Rattle.vectors.specs.Parts.{part}
+use Rattle.vectors.specs.Vec.{at}
+use Rattle.vectors.specs.Parts.{Kept, part}
 use Rattle.vectors.proofs.Laws.{length-list, at-list, kept-none, kept-then}
 use Rattle.vectors.proofs.Parts.{length-part, at-part, putBack, mid-put, length-put, kept-put, part-put, part-size}
 use Rattle.vectors.proofs.Sums.{sum-more}
@@ -31,7 +31,8 @@ use Rattle.dual_point.specs.Places.{point}
 use Rattle.dual_point.proofs.Points.{point-below}
 use Rattle.newton_system.specs.declared.Row.{Row}
 use Rattle.newton_system.specs.declared.Solved.{Solved}
-use Rattle.newton_system.specs.Newton.{rhsAt, residualSquareOf, residualSquare, system, rhs, newtonZ}
+use Rattle.newton_system.specs.Newton.{rhsAt, residualSquare, system, rhs, newtonZ}
+use Rattle.newton_system.specs.Rows.{residualSquareOf}
 use Rattle.newton_system.specs.Rows.{dataOf, AtSystem, besides, RowMade, Swept, NewtonSolved}
 use Rattle.newton_system.proofs.Places.{values-place, system-band}
 

@@ -58,13 +58,9 @@ system k g lam p i j = cond (ltb j i) (gram k g i j) (gram k g i j ⊕ diagonalS
 unfoldable pub rhs : NewtonData → Dual → List Float
 rhs c p = list (length (p .z)) (λ i. rhsAt (c .lam) (c .inv-t) (product (c .k) (c .g) (p .z) i) (at (c .dy) i) (valuesAt p i))
 
--- the residual's square at place i
-abbrev pub residualSquareOf : NewtonData → Dual → ℕ → Float
-residualSquareOf c p i = residualSquareAt (c .lam) (c .inv-t) (product (c .k) (c .g) (p .z) i) (at (c .dy) i) (valuesAt p i)
-
--- over all places
+-- the residual's square, over all places
 unfoldable pub residualSquare : NewtonData → Dual → Float
-residualSquare c p = sumTo (residualSquareOf c p) (length (p .z))
+residualSquare c p = sumTo (λ i. residualSquareAt (c .lam) (c .inv-t) (product (c .k) (c .g) (p .z) i) (at (c .dy) i) (valuesAt p i)) (length (p .z))
 
 -- the residual norm, its root
 unfoldable pub residualNorm : NewtonData → Dual → Float

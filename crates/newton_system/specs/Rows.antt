@@ -5,15 +5,16 @@ use mathlib.Core.List.{List}
 use Prim.Native.Nat.{ℕ, _+_, _-_, _*_, _<_, _≤_}
 use lib.Dec.{ltb}
 use lib.Ieee.{Float}
-use Rattle.vectors.specs.Vec.{at, Kept}
-use Rattle.vectors.specs.Parts.{part}
+use Rattle.vectors.specs.Vec.{at}
+use Rattle.vectors.specs.Parts.{Kept, part}
 use Rattle.differences.specs.Series.{Order}
 use Rattle.banded.specs.Rows.{rows, sound}
 use Rattle.banded.specs.Solve.{forward}
 use Rattle.banded.specs.Run.{concat}
 use Rattle.dual_point.specs.Dual.{Dual}
 use Rattle.dual_point.specs.Places.{point}
-use Rattle.newton_system.specs.Newton.{NewtonData, system, rhs, residualSquareOf, residualSquare, newtonZ}
+use Rattle.newton_system.specs.Newton.{NewtonData, system, rhs, residualSquare, newtonZ}
+use Rattle.newton_system.specs.Rows.{residualSquareOf}
 use Rattle.newton_system.specs.declared.Row.{Row}
 use Rattle.newton_system.specs.declared.Solved.{Solved}
 
@@ -39,6 +40,10 @@ pub record AtSystem (k a m n l : ℕ) : Type 0 where
 -- place c of a row of the system: the Gram row beside the diagonal d
 abbrev pub besides : ℕ → List Float → Float → ℕ → Float
 besides k g d c = cond (ltb c k) (at g (k - c)) d
+
+-- the residual's square at place i
+abbrev pub residualSquareOf : NewtonData → Dual → ℕ → Float
+residualSquareOf c p i = residualSquareAt (c .lam) (c .inv-t) (product (c .k) (c .g) (p .z) i) (at (c .dy) i) (valuesAt p i)
 
 -- v is row r of the system of p
 pub record RowMade (k : ℕ) (g dy : List Float) (lam inv-t : Float) (p : Dual) (r : ℕ) (v : Row) : Type 0 where

@@ -6,7 +6,8 @@ use mathlib.Core.Option.{some}
 use lib.Ieee.{Float}
 use borrow.Author.Tests.{eq-eqb, ne-eqb}
 use Rattle.questions.specs.Questions.{Asked}
-use Rattle.fit.specs.Fit.{Found, lamZero, lamHigh, searchOf, pathZero, pathFlat, pathEnd, pathL1, pathL2, path}
+use Rattle.fit.specs.Fit.{Found, searchOf, pathZero, pathFlat, pathEnd, pathL1, pathL2, path}
+use Rattle.fit.specs.Ways.{lamZero, lamHigh}
 use Rattle.closed_paths.specs.declared.Finding.{Finding}
 use Rattle.closed_paths.specs.declared.Path.the-variants.{Done}
 use Rattle.closed_paths.specs.Trends.{said, reached}

@@ -11,8 +11,8 @@ use lib.Seq.{getD-take}
 use lib.Ieee.{Float, nan}
 use Rattle.float64.proofs.Clash.{impossible}
 use Rattle.float64.specs.Ops.{_⊖_}
-use Rattle.vectors.specs.Vec.{at, Kept, KeptOf}
-use Rattle.vectors.specs.Parts.{part}
+use Rattle.vectors.specs.Vec.{at, KeptOf}
+use Rattle.vectors.specs.Parts.{Kept, part}
 use Rattle.vectors.proofs.Laws.{list-ext, kept-then}
 use Rattle.vectors.proofs.Parts.{length-part, partOf-range, putBack, part-put}
 use Rattle.differences.specs.Diff.{diffK, gramRow}

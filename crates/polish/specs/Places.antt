@@ -7,8 +7,8 @@ use Prim.Native.Nat.{ℕ, _+_, _-_, _*_, _≤_}
 use lib.ListN.{length}
 use lib.Ieee.{Float, lt}
 use Rattle.float64.specs.Helpers.{isFinite}
-use Rattle.vectors.specs.Vec.{Kept, KeptOf}
-use Rattle.vectors.specs.Parts.{part}
+use Rattle.vectors.specs.Vec.{KeptOf}
+use Rattle.vectors.specs.Parts.{Kept, part}
 use Rattle.differences.specs.Diff.{diffK, gramRow}
 use Rattle.certificate.specs.Certificate.{certify, gapOf}
 use Rattle.certificate.specs.Ready.{Ready}

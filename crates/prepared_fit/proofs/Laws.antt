@@ -8,13 +8,15 @@ use native.Mathlib.Omega.{arith}
 use lib.ListN.{length, drop, length-drop}
 use lib.Seq.{ext-getD, getD-drop}
 use lib.Ieee.{Float, nan}
-use Rattle.vectors.specs.Vec.{put, Kept, KeptOf}
+use Rattle.vectors.specs.Vec.{put, KeptOf}
+use Rattle.vectors.specs.Parts.{Kept}
 use Rattle.certificate.specs.Certificate.{minus}
 use Rattle.certificate.proofs.Laws.{length-minus}
 use Rattle.decomposition.specs.Outputs.{outputs}
 use Rattle.decomposition.specs.Written.{WroteOut}
 use Rattle.questions.specs.Questions.{Asked, Lent, marksPlaces, question}
-use Rattle.fit.specs.Fit.{refused, path, written, outcome, soundDD, fit, after}
+use Rattle.fit.specs.Fit.{refused, path, written, outcome, fit, after}
+use Rattle.fit.specs.Ways.{soundDD}
 use Rattle.fit.proofs.Passed.{fit-passed}
 use Rattle.closed_paths.specs.declared.Finding.{Finding}
 use Rattle.closed_paths.specs.declared.Path.{Path}

@@ -6,13 +6,13 @@ use Prim.Native.Nat.{ℕ}
 use lib.Dec.{ltb}
 use lib.ListN.{length}
 use lib.Ieee.{Float}
-use Rattle.vectors.specs.Vec.{Kept}
-use Rattle.vectors.specs.Parts.{part}
+use Rattle.vectors.specs.Parts.{Kept, part}
 use Rattle.differences.specs.Diff.{diffK, gramRow}
 use Rattle.gram.specs.Gram.{zstar}
 use Rattle.gram.specs.Prepared.{starLane, diffLane, preparation}
 use Rattle.questions.specs.Questions.{Asked, Lent, workPlaces, question}
-use Rattle.fit.specs.Fit.{refused, places, lamMaxOf, soundDD, fit}
+use Rattle.fit.specs.Fit.{refused, places, lamMaxOf, fit}
+use Rattle.fit.specs.Ways.{soundDD}
 use Rattle.prepared_fit.specs.declared.Begun.{Begun}
 use Rattle.prepared_fit.specs.declared.Begun.the-variants.{Stopped, Ready}
 

@@ -5,7 +5,8 @@ use mathlib.Core.Option.{Option, none, some}
 use Prim.Native.Nat.{ℕ, _≤_}
 use lib.ListN.{length}
 use lib.Ieee.{Float}
-use Rattle.vectors.specs.Vec.{Kept, KeptOf}
+use Rattle.vectors.specs.Vec.{KeptOf}
+use Rattle.vectors.specs.Parts.{Kept}
 use Rattle.differences.specs.Series.{Series}
 use Rattle.gram.specs.Prepared.{preparation}
 use Rattle.dual_point.specs.Lanes.{searchArea}

@@ -3,7 +3,8 @@ use mathlib.Core.Path.{_≡_}
 use mathlib.Core.List.{List}
 use Prim.Native.Nat.{ℕ, _+_, _-_, _*_, _<_, _≤_}
 use lib.Ieee.{Float}
-use Rattle.vectors.specs.Vec.{at, Kept}
+use Rattle.vectors.specs.Vec.{at}
+use Rattle.vectors.specs.Parts.{Kept}
 use Rattle.differences.specs.Series.{Series}
 
 -- a row i of the system of a series of n

@@ -5,8 +5,8 @@ use mathlib.Core.List.{List}
 use Prim.Native.Nat.{ℕ}
 use lib.ListN.{length}
 use lib.Ieee.{Float}
-use Rattle.vectors.specs.Vec.{Kept, KeptOf}
-use Rattle.vectors.specs.Parts.{part}
+use Rattle.vectors.specs.Vec.{KeptOf}
+use Rattle.vectors.specs.Parts.{Kept, part}
 use Rattle.dual_point.specs.Lanes.{candidateTrend, searchArea}
 use Rattle.questions.specs.Questions.{Asked, marksPlaces}
 use Rattle.questions.specs.Asking.{asking}

@@ -12,8 +12,8 @@ use lib.Seq.{getD-set-same, getD-set-other}
 use lib.Ieee.{Float, nan}
 use Rattle.float64.specs.Ops.{_⊘_}
 use Rattle.float64.proofs.Clash.{clash}
-use Rattle.vectors.specs.Vec.{at, Kept}
-use Rattle.vectors.specs.Parts.{part}
+use Rattle.vectors.specs.Vec.{at}
+use Rattle.vectors.specs.Parts.{Kept, part}
 use Rattle.vectors.proofs.Laws.{length-list, at-list, kept-none, kept-then}
 use Rattle.vectors.proofs.Parts.{length-part, part-below, putBack, mid-put, length-put, kept-put, part-put, part-size}
 use Rattle.banded.specs.Rows.{ofRows, rows}

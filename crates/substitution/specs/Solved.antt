@@ -5,8 +5,7 @@ use mathlib.Core.List.{List}
 use Prim.Native.Nat.{ℕ, _+_, _-_, _*_, _≤_}
 use lib.ListN.{length, drop}
 use lib.Ieee.{Float}
-use Rattle.vectors.specs.Vec.{Kept}
-use Rattle.vectors.specs.Parts.{part}
+use Rattle.vectors.specs.Parts.{Kept, part}
 use Rattle.banded.specs.Rows.{Matrix, rows, sound}
 use Rattle.banded.specs.Solve.{divided, back, solve}
 use Rattle.banded.specs.Run.{concat, Keeps, Shape, Holds, Stands}

@@ -12,7 +12,8 @@ use Rattle.vectors.proofs.Laws.{kept-none, kept-then}
 use Rattle.decomposition.specs.Outputs.{Outputs}
 use Rattle.questions.specs.Questions.{Asked, Lent, workPlaces, marksPlaces, question}
 use Rattle.questions.proofs.Laws.{passed}
-use Rattle.fit.specs.Fit.{Found, Outcome, refused, lamMaxOf, path, written, outcome, soundDD, fit, after}
+use Rattle.fit.specs.Fit.{Found, Outcome, refused, lamMaxOf, path, written, outcome, fit, after}
+use Rattle.fit.specs.Ways.{soundDD}
 use Rattle.fit.proofs.Lengths.{lengths}
 use Rattle.fit.proofs.Demand3.{bounds}
 use Rattle.fit.proofs.Passed.{fit-passed}

@@ -5,8 +5,8 @@ use mathlib.Core.List.{List}
 use Prim.Native.Nat.{ℕ}
 use lib.Dec.{ltb}
 use lib.ListN.{length}
-use lib.Ieee.{Float}
-use Rattle.vectors.specs.Vec.{Kept, KeptOf}
+use lib.Ieee.{Float, nan}
+use Rattle.vectors.specs.Vec.{KeptOf}
 use Rattle.decomposition.specs.Outputs.{Outputs, outputs}
 use Rattle.questions.specs.Questions.{Asked, Lent, workPlaces, marksPlaces}
 use Rattle.questions.specs.Asking.{lending}
@@ -56,7 +56,7 @@ pub record Gives (o : Outcome) (r : Answer) (b c : Outputs) : Type 0 where
 
 -- only the first 40·n places of work and 2·n of marks may have changed
 pub record Scratch (n : ℕ) (b c : Buffers) : Type 0 where
-  pub work : Kept 0 (workPlaces n) (b .work) (c .work)
+  pub work : KeptOf nan 0 (workPlaces n) (b .work) (c .work)
   pub marks : KeptOf 0 0 (marksPlaces n) (b .marks) (c .marks)
 
 -- the whole of a call: a is what was asked, r the answer, b what the buffers held before and c after

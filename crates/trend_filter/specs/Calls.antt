@@ -10,17 +10,13 @@ use Rattle.trend_filter.specs.declared.Summary.{Summary}
 use Rattle.trend_filter.specs.declared.Answer.{Answer}
 use Rattle.trend_filter.specs.declared.Answer.the-variants.{Fit, Refused}
 
--- 1 for true, 0 for false
-abbrev pub oneIf : Bool → ℕ
-oneIf b = cond b 1 0
-
 -- the five numbers of a fit
 abbrev pub numbersOf : Summary → List Float
 numbersOf s = s .«lam_max» ∷ s .gap ∷ s .«first_gap» ∷ s .«best_gap» ∷ s .objective ∷ []
 
--- its four counts
+-- its four counts, the last 1 if it converged and else 0
 abbrev pub countsOf : Summary → List ℕ
-countsOf s = s .knots ∷ s .«n_iter» ∷ s .improvements ∷ oneIf (s .converged) ∷ []
+countsOf s = s .knots ∷ s .«n_iter» ∷ s .improvements ∷ cond (s .converged) 1 0 ∷ []
 
 -- 0 for a fit, else the refusal's number
 abbrev pub codeOf : Answer → ℕ

@@ -1,7 +1,8 @@
 // The fit for callers in C: 0 for a fit, else the refusal's number.
 ghost use mathlib.Core.Path.{_≡_};
 ghost use Rattle.questions.specs.Asking.{asking};
-ghost use Rattle.trend_filter.specs.Calls.{oneIf, numbersOf, countsOf, Called};
+ghost use Rattle.trend_filter.specs.Calls.{numbersOf, countsOf, Called};
+ghost use Rattle.trend_filter.specs.Inner.{oneIf};
 ghost use Rattle.trend_filter.specs.Answers.{buffers};
 use crate::Answer;
 use crate::Summary;

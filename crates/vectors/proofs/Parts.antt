@@ -8,8 +8,8 @@ use native.Mathlib.Omega.{arith}
 use lib.ListN.{length, getD, take, drop, length-append, length-drop}
 use lib.Seq.{ext-getD, take-at, drop-at, length-take-le, getD-drop, getD-take}
 use lib.Ieee.{Float, nan}
-use Rattle.vectors.specs.Vec.{at, list, KeptOf, Kept}
-use Rattle.vectors.specs.Parts.{partOf, part, WrittenOf}
+use Rattle.vectors.specs.Vec.{at, list, KeptOf}
+use Rattle.vectors.specs.Parts.{Kept, partOf, part, WrittenOf}
 use Rattle.vectors.proofs.Laws.{length-list, getD-list, list-ext}
 
 module _ {A : Type 0} (z : A) where

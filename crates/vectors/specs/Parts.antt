@@ -35,3 +35,7 @@ pub record Wrote {A : Type 0} (s : List A) (a : ℕ) (t e : List A) (r : ℕ) : 
   pub next : r ≡ a + length t
   pub room : r ≤ length s
   pub text : e ≡ put s a t
+
+-- v is v₀ but for the n places from a on, of doubles
+abbrev pub Kept : ℕ → ℕ → List Float → List Float → Type 0
+Kept a n v₀ v = KeptOf nan a n v₀ v

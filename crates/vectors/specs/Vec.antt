@@ -27,7 +27,3 @@ pub record KeptOf {A : Type 0} (z : A) (a n : ℕ) (v₀ v : List A) : Type 0 wh
   pub size : length v ≡ length v₀
   pub below : (j : ℕ) → j < a → getD v j z ≡ getD v₀ j z
   pub above : (j : ℕ) → a + n ≤ j → getD v j z ≡ getD v₀ j z
-
--- the same of doubles
-abbrev pub Kept : ℕ → ℕ → List Float → List Float → Type 0
-Kept a n v₀ v = KeptOf nan a n v₀ v

@@ -5,8 +5,8 @@ ghost use Prim.Native.Nat.{_≤_, _-_, min};
 ghost use lib.ListN.{length};
 ghost use lib.Ieee.{lt};
 ghost use Rattle.float64.specs.Helpers.{absOf};
-ghost use Rattle.vectors.specs.Vec.{put, apart, Kept};
-ghost use Rattle.vectors.specs.Parts.{part, Disjoint};
+ghost use Rattle.vectors.specs.Vec.{put, apart};
+ghost use Rattle.vectors.specs.Parts.{Kept, part, Disjoint};
 ghost use Rattle.vectors.specs.Sums.{maxAbs, inside};
 
 // The greatest size, from 0; NaN is ignored.

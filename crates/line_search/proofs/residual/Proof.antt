@@ -6,7 +6,8 @@ use mathlib.Core.List.{List}
 use lib.Ieee.{Float}
 use Rattle.gram.specs.Gram.{product}
 use Rattle.vectors.specs.Sums.{sumTo}
-use Rattle.newton_system.specs.Newton.{residualSquareOf, residualSquare}
+use Rattle.newton_system.specs.Newton.{residualSquare}
+use Rattle.newton_system.specs.Rows.{residualSquareOf}
 use Rattle.newton_system.specs.Rows.{dataOf}
 use Rattle.dual_point.specs.Places.{point}
 use Rattle.vectors.proofs.Parts.{length-part, range-part}
