@@ -14,7 +14,7 @@ use Rattle.certificate.specs.Certificate.{certify}
 use Rattle.search.specs.Search.{Turn, lost, moved, Problem, Ended, searched}
 use Rattle.dual_point.specs.Dual.{Dual}
 use Rattle.newton_system.specs.Newton.{NewtonData, system}
-use Rattle.line_search.specs.LineSearch.{Trial, searchLine, nextPoint}
+use Rattle.line_search.specs.LineSearch.{searchLine, nextPoint}
 
 -- where the search stands: the dual point, t, and the last step
 pub record State : Type 0 where

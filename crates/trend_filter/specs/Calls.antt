@@ -1,6 +1,6 @@
 -- Document 01, "Questions before and during a fit", for a caller in C: the answer as a number, and the fit's numbers and counts in two arrays.
 use mathlib.Core.Path.{_≡_}
-use mathlib.Core.Bool.{Bool, cond}
+use mathlib.Core.Bool.{cond}
 use mathlib.Core.List.{List, [], _∷_}
 use Prim.Native.Nat.{ℕ}
 use lib.Ieee.{Float}

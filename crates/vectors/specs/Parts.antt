@@ -5,7 +5,7 @@ use mathlib.Core.List.{List}
 use Prim.Native.Nat.{ℕ, _+_, _≤_, _<_}
 use lib.ListN.{length, getD}
 use lib.Ieee.{Float, nan}
-use Rattle.vectors.specs.Vec.{list, put}
+use Rattle.vectors.specs.Vec.{list, put, KeptOf}
 
 -- the n places of s from a on
 unfoldable pub partOf : {A : Type 0} → A → ℕ → ℕ → List A → List A
