@@ -23,5 +23,6 @@ hexOf x = digits 16 16 (toBits binary64 x)
 unfoldable pub field : ℕ → List ℕ
 field n = (32 ∷ []) ++ decimal n
 
+-- the same of a double
 unfoldable pub hexField : Float → List ℕ
 hexField x = (32 ∷ []) ++ hexOf x

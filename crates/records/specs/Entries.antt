@@ -20,10 +20,11 @@ pub data Entry : Type 0 where
   slot : Slot → Entry
   settings : Settings → Entry
 
+-- the milliseconds in the body of an hour
 abbrev pub millisecondsIn : List ℕ → Float
 millisecondsIn b = ofInt binary64 (signed32 (numberAt 0 4 b))
 
--- each NaN's pattern is the NaN
+-- the settings in a body; each NaN's pattern is the NaN
 unfoldable pub settingsIn : List ℕ → Settings
 settingsIn b = record { lam = ofBits binary64 (numberAt 0 8 b); tol = ofBits binary64 (numberAt 8 8 b); «max_iter» = numberAt 16 8 b; order = numberAt 24 1 b; penalty = numberAt 25 1 b }
 

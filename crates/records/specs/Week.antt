@@ -14,11 +14,12 @@ pub data Reading : Type 0 where
   unread : ℕ → Reading
   read : Settings → List Slot → Reading
 
--- what the bytes say; none where they do not split into whole records of these kinds and lengths
+-- what records say
 abbrev pub saidBy : Option (List Rec) → Option (List Entry)
 saidBy none = none
 saidBy (some rs) = entries rs
 
+-- what the bytes say; none where they do not split into whole records of these kinds and lengths
 abbrev pub entriesIn : List ℕ → Option (List Entry)
 entriesIn s = saidBy (records s)
 

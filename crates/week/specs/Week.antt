@@ -27,6 +27,7 @@ listingOf a f =
     ++ hourLinesFrom 0 (f .trend) (f .cycle)
     ++ knotLines (f .knots)
 
+-- what is printed for an outcome
 unfoldable pub outcomeText : Asked → Outcome → List ℕ
 outcomeText a (refused q) = refusedLine q
 outcomeText a (fitted f) = listingOf a f
@@ -35,10 +36,11 @@ outcomeText a (fitted f) = listingOf a f
 unfoldable pub fitText : Settings → List Float → List ℕ
 fitText st y = outcomeText (askedBy st y) (fit (askedBy st y) weekLent)
 
--- of what is read of the input
+-- the text of what is read of the input
 unfoldable pub readingText : Reading → List ℕ
 readingText (unread q) = refusedLine q
 readingText (read st ws) = fitText st (hoursOf ws)
 
+-- what is printed for an input
 unfoldable pub weekText : List ℕ → List ℕ
 weekText s = readingText (readWeek s)
