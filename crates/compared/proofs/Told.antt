@@ -16,7 +16,7 @@ use Rattle.trend_filter.specs.declared.Answer.{Answer}
 use Rattle.trend_filter.specs.declared.Answer.the-variants as answers
 use Rattle.trend_filter.specs.Answers.{Buffers, lent, summaryOf, answerOf, Gives, Answered}
 use Rattle.stored.specs.Words.{wordAt}
-use Rattle.compared.specs.Outcomes.{sameFit, sameOutcome}
+use Rattle.compared.specs.Outcomes.{sameFit, sameOutcome, Holds, sameAnswer, Room}
 
 refused-at : (s : List ℕ) (i : ℕ) (o : Outcome) {q : ℕ} → answers.Refused q ≡ answerOf o → eqb q (wordAt s i) ≡ sameOutcome o s i
 unfolding sameOutcome answerOf
@@ -24,7 +24,7 @@ refused-at s i (refused j) e = ap (λ (q : ℕ). eqb q (wordAt s i)) (let f : _ 
 refused-at s i (fitted f) e = impossible cc
 
 -- a refusal is compared by its number
-pub told-refused : (s : List ℕ) (i : ℕ) {a : Asked} {r : Answer} {b c : Buffers} {q : ℕ} → Answered a r b c → r ≡ answers.Refused q → eqb q (wordAt s i) ≡ sameOutcome (fit a (lent b)) s i
+told-refused : (s : List ℕ) (i : ℕ) {a : Asked} {r : Answer} {b c : Buffers} {q : ℕ} → Answered a r b c → r ≡ answers.Refused q → eqb q (wordAt s i) ≡ sameOutcome (fit a (lent b)) s i
 told-refused s i {a} {r} {b} h e = refused-at s i (fit a (lent b)) (sym e ∙ h .gives .answer)
 
 -- the answer is the outcome's
@@ -39,7 +39,7 @@ within : {A : Type 0} (t s : List A) {u : List A} → u ≡ put s 0 t → length
 within t s p = omega (arith, ap length p, length-append t (drop (0 + length t) s))
 
 -- an answer with the numbers f: the fit, and where its places stand
-pub record Told (a : Asked) (b c : Buffers) (f : Summary) : Type 0 where
+record Told (a : Asked) (b c : Buffers) (f : Summary) : Type 0 where
   pub whole : FitResult
   pub outcome : fit a (lent b) ≡ fitted whole
   pub numbers : f ≡ summaryOf whole
@@ -78,25 +78,42 @@ told-of a b c (fitted g) {r} {f} e p h z =
       few = omega (arith, l .knots, k);
     }
 
-pub told : {a : Asked} {b c : Buffers} {r : Answer} {f : Summary} → Answered a r b c → r ≡ answers.Fit f → Told a b c f
+told : {a : Asked} {b c : Buffers} {r : Answer} {f : Summary} → Answered a r b c → r ≡ answers.Fit f → Told a b c f
 told {a} {b} {c} h e = told-of a b c (fit a (lent b)) refl e (h .gives) (h .sizes)
 
--- the parts of the buffers that are compared
-module _ {a : Asked} {b c : Buffers} {f : Summary} (t : Told a b c f) where
-  y-long : length (a .y) - 0 ≡ length (a .y)
-  y-long = omega arith
+fit-told : (s : List ℕ) (i : ℕ) {a : Asked} {b c : Buffers} {f : Summary} → Told a b c f
+    → sameFit f (take (length (a .y) - 0) (c .out .trend)) (take (length (a .y) - 0) (c .out .cycle)) (take (f .knots - 0) (c .out .knots)) s i ≡ sameOutcome (fit a (lent b)) s i
+unfolding sameOutcome
+fit-told s i {a} {b} {c} {f} t =
+    let e : length (a .y) - 0 ≡ length (a .y) = omega arith in
+    let k : f .knots - 0 ≡ f .knots = omega arith in
+    rw (e, k, t .trend, t .cycle, t .knots, t .outcome, t .numbers)
 
-  k-long : f .knots - 0 ≡ f .knots
-  k-long = omega arith
+module _ {a : Asked} {b c : Buffers} where
+  -- the buffers hold what is compared
+  pub told-room : (r : Answer) → Answered a r b c → length (a .y) ≤ 168 → Room r (length (a .y)) (length (c .out .trend)) (length (c .out .cycle)) (length (c .out .knots))
+  told-room (answers.Refused q) h w = tt
+  told-room (answers.Fit f) h w =
+      let t : Told a b c f = told h refl in
+      record { trend = t .trend-in; cycle = t .cycle-in; knots-in = t .knots-in; week = w; few = omega (arith, t .few) }
 
-  pub told-short : length (a .y) ≤ 168 → (length (take (length (a .y) - 0) (c .out .trend)) ≤ 168) × (length (take (length (a .y) - 0) (c .out .cycle)) ≤ 168) × (length (take (f .knots - 0) (c .out .knots)) ≤ 168)
-  told-short h =
-      rw (y-long, k-long) (
-        omega (arith, length-take-le _ (c .out .trend) (t .trend-in)),
-        omega (arith, length-take-le _ (c .out .cycle) (t .cycle-in)),
-        omega (arith, length-take-le _ (c .out .knots) (t .knots-in), t .few),
-      )
+  -- an answer is compared as its outcome is
+  pub told-same : (s : List ℕ) (i : ℕ) (r : Answer) → Answered a r b c → sameAnswer r (length (a .y)) (c .out .trend) (c .out .cycle) (c .out .knots) s i ≡ sameOutcome (fit a (lent b)) s i
+  unfolding sameAnswer
+  told-same s i (answers.Refused q) h = told-refused s i h refl
+  told-same s i (answers.Fit f) h = fit-told s i (told h refl)
 
-  pub told-fit : (s : List ℕ) (i : ℕ) → sameFit f (take (length (a .y) - 0) (c .out .trend)) (take (length (a .y) - 0) (c .out .cycle)) (take (f .knots - 0) (c .out .knots)) s i ≡ sameOutcome (fit a (lent b)) s i
-  unfolding sameOutcome
-  told-fit s i = rw (y-long, k-long, t .trend, t .cycle, t .knots, t .outcome, t .numbers)
+-- slices that hold a fit, and their parts
+pub held : {r : Answer} {f : Summary} {n t c k : ℕ} → r ≡ answers.Fit f → Room r n t c k → Holds (f .knots) n t c k
+held {r} {f} {n} {t} {c} {k} e h = subst (λ (x : Answer). Room x n t c k) e h
+
+pub parts-short : {A B : Type 0} {n m : ℕ} (t c : List A) (l : List B) → Holds m n (length t) (length c) (length l)
+    → (length (take (n - 0) t) ≤ 168) × (length (take (n - 0) c) ≤ 168) × (length (take (m - 0) l) ≤ 168)
+parts-short {A} {B} {n} {m} t c l h =
+    let e : n - 0 ≡ n = omega arith in
+    let f : m - 0 ≡ m = omega arith in
+    rw (e, f) (
+      omega (arith, length-take-le n t (h .trend), h .week),
+      omega (arith, length-take-le n c (h .cycle), h .week),
+      omega (arith, length-take-le m l (h .knots-in), h .few),
+    )

@@ -7,9 +7,9 @@ ghost use mathlib.Core.Path.{_≡_};
 ghost use Prim.Native.Nat.{_≤_, _<_};
 ghost use lib.ListN.{length};
 ghost use Rattle.questions.specs.Asking.{asking};
-ghost use Rattle.trend_filter.specs.Inner.{oneIf};
 ghost use Rattle.trend_filter.specs.Answers.{buffers};
-ghost use Rattle.compared.specs.Outcomes.{sameSummary, sameFit, Compares};
+ghost use Rattle.trend_filter.specs.Inner.{oneIf};
+ghost use Rattle.compared.specs.Outcomes.{sameSummary, sameFit, sameAnswer, Room, Compares};
 
 fn one_if(b: bool) -> u64
     ensures { λ r. ⌜ r ≡ oneIf b ⌝ }
@@ -55,6 +55,29 @@ fn same_fit(
     stored::both(w == 0, stored::both(n, p))
 }
 
+// Whether an answer is the one that is stored from word a on; the places of a fit of n stand first in the slices.
+fn same_answer(
+    r: Answer,
+    n: usize,
+    trend: &[f64],
+    cycle: &[f64],
+    knots: &[u32],
+    s: &[u8; 131072],
+    a: usize,
+) -> bool
+    requires { ⌜ Room r n (length (now trend)) (length (now cycle)) (length (now knots)) ⌝ }
+    requires { ⌜ a < 32000 ⌝ }
+    ensures { λ z. ⌜ z ≡ sameAnswer r n (now (trend .entry)) (now (cycle .entry)) (now (knots .entry)) (now (s .entry)) a ⌝ }
+{
+    match r {
+        Answer::Refused(q) => wide(q) == stored::word(s, a),
+        Answer::Fit(f) => {
+            let k = f.knots;
+            same_fit(f, &trend[0..n], &cycle[0..n], &knots[0..k], s, a)
+        }
+    }
+}
+
 // Fits y with these buffers: whether the outcome is the one that is stored from word a on.
 pub fn same_outcome(
     y: &[f64],
@@ -75,12 +98,5 @@ pub fn same_outcome(
         (now (s .entry)) a ⌝ }
 {
     let r = l1_trend_filter(y, lam, opts, trend, cycle, knots, work, marks);
-    match r {
-        Answer::Refused(q) => wide(q) == stored::word(s, a),
-        Answer::Fit(f) => {
-            let n = y.len();
-            let k = f.knots;
-            same_fit(f, &trend[0..n], &cycle[0..n], &knots[0..k], s, a)
-        }
-    }
+    same_answer(r, y.len(), trend, cycle, knots, s, a)
 }

@@ -14,7 +14,7 @@ pub data Reading : Type 0 where
   unread : ℕ → Reading
   read : Settings → List Slot → Reading
 
--- what the bytes say; none where they do not split into whole records of these kinds and lengths
+-- what records say
 abbrev pub saidBy : Option (List Rec) → Option (List Entry)
 saidBy none = none
 saidBy (some rs) = entries rs

@@ -36,7 +36,7 @@ outcomeText a (fitted f) = listingOf a f
 unfoldable pub fitText : Settings → List Float → List ℕ
 fitText st y = outcomeText (askedBy st y) (fit (askedBy st y) weekLent)
 
--- of what is read of the input
+-- the text of what is read of the input
 unfoldable pub readingText : Reading → List ℕ
 readingText (unread q) = refusedLine q
 readingText (read st ws) = fitText st (hoursOf ws)
