@@ -14,7 +14,6 @@ use Rattle.banded.specs.Run.{concat}
 use Rattle.dual_point.specs.Dual.{Dual}
 use Rattle.dual_point.specs.Places.{point}
 use Rattle.newton_system.specs.Newton.{NewtonData, system, rhs, residualSquare, newtonZ}
-use Rattle.newton_system.specs.Rows.{residualSquareOf}
 use Rattle.newton_system.specs.declared.Row.{Row}
 use Rattle.newton_system.specs.declared.Solved.{Solved}
 
