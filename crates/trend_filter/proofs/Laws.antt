@@ -20,6 +20,7 @@ use Rattle.fit.proofs.Passed.{fit-passed}
 use Rattle.prepared_fit.specs.declared.Written.{Written}
 use Rattle.prepared_fit.specs.Begun.{Stops, Readies, Begins}
 use Rattle.prepared_fit.specs.Fitted.{AsksFit, tallied, Fitted}
+use Rattle.trend_filter.specs.declared.Answer.{Answer}
 use Rattle.trend_filter.specs.declared.Answer.the-variants.{Refused}
 use Rattle.prepared_fit.specs.declared.Begun.{Begun}
 use Rattle.prepared_fit.specs.declared.Begun.the-variants.{Stopped, Ready}
@@ -91,10 +92,10 @@ module _ (a : Asked) (b : Buffers) (w : List Float) where
           knots = q .knots;
         }
 
-    pub answered-fit : (r : Written) (c : Outputs) (v : List Float) (marks : List ℕ) → Fitted a r (b .out) c w v (b .marks) marks → Answered a (toldOf top r) b (record { out = c; work = v; marks = marks })
-    answered-fit r c v marks f = record {
-      gives = subst (λ (o : Outcome). Gives o (toldOf top r) (b .out) c) (sym (sound-fit a (lent b) (h .passes) (h .sound)))
-          (record { answer = ap₂ toldOf (h .top-is) (f .tally) ∙ same-told a (path a); out = f .out });
+    pub answered-fit : (z : Answer) (r : Written) (c : Outputs) (v : List Float) (marks : List ℕ) → z ≡ toldOf top r → Fitted a r (b .out) c w v (b .marks) marks → Answered a z b (record { out = c; work = v; marks = marks })
+    answered-fit z r c v marks e f = record {
+      gives = subst (λ (o : Outcome). Gives o z (b .out) c) (sym (sound-fit a (lent b) (h .passes) (h .sound)))
+          (record { answer = e ∙ ap₂ toldOf (h .top-is) (f .tally) ∙ same-told a (path a); out = f .out });
       unused = λ t. absurd (not-early a (lent b) (h .passes) t);
       scratch = record {
         work = kept-then 0 (workPlaces (length (a .y))) (h .kept) (f .work) (omega arith) (omega arith) (omega arith) (omega arith);

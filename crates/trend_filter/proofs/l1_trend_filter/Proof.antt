@@ -47,8 +47,7 @@ returns-2 c = let fp = fitted (knots (c .before)) in
     let b = readied (fp .before) in
     let be = began (b .before .before) in
     let st = started (be .before) in
-    rw (c .told .ensures) (answered-fit (ask st) (found st) _ _
-    (readies {a = ask st} {l = lent (found st)} (b .b2 .given .1) (be .begin .ensures)) _ _ _ _ (fp .fit-prepared .ensures))
+    answered-fit (ask st) (found st) _ _ (readies {a = ask st} {l = lent (found st)} (b .b2 .given .1) (be .begin .ensures)) _ _ _ _ _ (c .told .ensures) (fp .fit-prepared .ensures)
 
 pub l1-trend-filter-spec : {M : Type 1} → statement M
 l1-trend-filter-spec =
