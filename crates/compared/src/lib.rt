@@ -9,7 +9,8 @@ ghost use lib.ListN.{length};
 ghost use Rattle.questions.specs.Asking.{asking};
 ghost use Rattle.trend_filter.specs.Calls.{oneIf};
 ghost use Rattle.trend_filter.specs.Inner.{buffers};
-ghost use Rattle.compared.specs.Outcomes.{sameSummary, sameFit, sameAnswer, Room, Compares};
+ghost use Rattle.compared.specs.Outcomes.{sameSummary, sameFit, Compares};
+ghost use Rattle.compared.specs.Inner.{sameAnswer, Room};
 
 fn one_if(b: bool) -> u64
     ensures { λ r. ⌜ r ≡ oneIf b ⌝ }
