@@ -16,7 +16,8 @@ use Rattle.trend_filter.specs.declared.Answer.{Answer}
 use Rattle.trend_filter.specs.declared.Answer.the-variants as answers
 use Rattle.trend_filter.specs.Answers.{Buffers, lent, summaryOf, answerOf, Gives, Answered}
 use Rattle.stored.specs.Words.{wordAt}
-use Rattle.compared.specs.Outcomes.{sameFit, sameOutcome, Holds, sameAnswer, Room}
+use Rattle.compared.specs.Outcomes.{sameFit, sameOutcome}
+use Rattle.compared.specs.Inner.{Holds, sameAnswer, Room}
 
 refused-at : (s : List ℕ) (i : ℕ) (o : Outcome) {q : ℕ} → answers.Refused q ≡ answerOf o → eqb q (wordAt s i) ≡ sameOutcome o s i
 unfolding sameOutcome answerOf

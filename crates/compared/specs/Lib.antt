@@ -1,2 +1,3 @@
--- Outcomes, and whether they are the stored ones.
+-- Outcomes, and whether they are the stored ones; apart, what the code inside cites.
 pub mod Outcomes
+pub mod Inner

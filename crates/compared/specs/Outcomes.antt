@@ -1,16 +1,13 @@
 -- Whether an outcome of the fit is stored from a word on. oracle/src/replay.rs says what stands where.
-use Prim.Native.Nat.{ℕ, _+_, _-_, _≤_}
+use Prim.Native.Nat.{ℕ, _+_}
 use mathlib.Core.Path.{_≡_}
 use mathlib.Core.Bool.{Bool, _&&_}
 use mathlib.Core.List.{List}
-use lib.ListN.{take}
 use lib.Dec.{eqb}
 use lib.Ieee.{Float}
 use Rattle.questions.specs.Questions.{Asked}
 use Rattle.fit.specs.Fit.{Outcome, refused, fitted, fit}
 use Rattle.trend_filter.specs.declared.Summary.{Summary}
-use Rattle.trend_filter.specs.declared.Answer.{Answer}
-use Rattle.trend_filter.specs.declared.Answer.the-variants.{Fit, Refused}
 use Rattle.trend_filter.specs.Answers.{Buffers, lent, summaryOf, answerOf, Answered}
 use Rattle.trend_filter.specs.Calls.{numbersOf, countsOf}
 use Rattle.stored.specs.Words.{wordAt, sameDoubles, sameNumbers, samePlaces}
@@ -27,24 +24,6 @@ sameFit f trend cycle knots s a = eqb (wordAt s a) 0 && (sameSummary f s (a + 1)
 unfoldable pub sameOutcome : Outcome → List ℕ → ℕ → Bool
 sameOutcome (refused q) s a = eqb q (wordAt s a)
 sameOutcome (fitted f) s a = sameFit (summaryOf f) (f .trend) (f .cycle) (f .knots) s a
-
--- slices of t, c and k places hold n places of trend and cycle and so many knots, a week at most
-pub record Holds (knots n t c k : ℕ) : Type 0 where
-  pub trend : n ≤ t
-  pub cycle : n ≤ c
-  pub knots-in : knots ≤ k
-  pub week : n ≤ 168
-  pub few : knots ≤ 168
-
--- whether an answer is stored from word a on, where the places of a fit of n stand first in longer slices
-unfoldable pub sameAnswer : Answer → ℕ → List Float → List Float → List ℕ → List ℕ → ℕ → Bool
-sameAnswer (Refused q) n trend cycle knots s a = eqb q (wordAt s a)
-sameAnswer (Fit f) n trend cycle knots s a = sameFit f (take (n - 0) trend) (take (n - 0) cycle) (take (f .knots - 0) knots) s a
-
--- slices of t, c and k places hold a fit of n, which is a week's at most
-abbrev pub Room : Answer → ℕ → ℕ → ℕ → ℕ → Type 0
-Room (Refused q) n t c k = Unit
-Room (Fit f) n t c k = Holds (f .knots) n t c k
 
 -- a call with the buffers b before and c after: r says whether its outcome is stored from word i on, and the buffers are as the fit leaves them
 pub record Compares (a : Asked) (r : Bool) (b c : Buffers) (s : List ℕ) (i : ℕ) : Type 0 where

@@ -7,9 +7,10 @@ ghost use mathlib.Core.Path.{_≡_};
 ghost use Prim.Native.Nat.{_≤_, _<_};
 ghost use lib.ListN.{length};
 ghost use Rattle.questions.specs.Asking.{asking};
-ghost use Rattle.trend_filter.specs.Answers.{buffers};
 ghost use Rattle.trend_filter.specs.Inner.{oneIf};
-ghost use Rattle.compared.specs.Outcomes.{sameSummary, sameFit, sameAnswer, Room, Compares};
+ghost use Rattle.trend_filter.specs.Answers.{buffers};
+ghost use Rattle.compared.specs.Outcomes.{sameSummary, sameFit, Compares};
+ghost use Rattle.compared.specs.Inner.{sameAnswer, Room};
 
 fn one_if(b: bool) -> u64
     ensures { λ r. ⌜ r ≡ oneIf b ⌝ }

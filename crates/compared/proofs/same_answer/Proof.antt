@@ -1,6 +1,6 @@
 use mathlib.Core.Path.{_∙_}
 use borrow.Author.Needs.{needs}
-use Rattle.compared.specs.Outcomes.{sameAnswer}
+use Rattle.compared.specs.Inner.{sameAnswer}
 use Rattle.compared.proofs.Told.{held, parts-short}
 use Rattle.compared.proofs.same_answer.Statement.{statement}
 use Rattle.compared.proofs.same_answer.Tie as tie
