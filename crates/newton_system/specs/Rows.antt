@@ -11,9 +11,10 @@ use Rattle.differences.specs.Series.{Order}
 use Rattle.banded.specs.Rows.{rows, sound}
 use Rattle.banded.specs.Solve.{forward}
 use Rattle.banded.specs.Run.{concat}
-use Rattle.dual_point.specs.Dual.{Dual}
+use Rattle.gram.specs.Gram.{product}
+use Rattle.dual_point.specs.Dual.{Dual, valuesAt}
 use Rattle.dual_point.specs.Places.{point}
-use Rattle.newton_system.specs.Newton.{NewtonData, system, rhs, residualSquare, newtonZ}
+use Rattle.newton_system.specs.Newton.{NewtonData, residualSquareAt, system, rhs, residualSquare, newtonZ}
 use Rattle.newton_system.specs.declared.Row.{Row}
 use Rattle.newton_system.specs.declared.Solved.{Solved}
 
