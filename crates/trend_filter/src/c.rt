@@ -1,7 +1,7 @@
 // The fit for callers in C: 0 for a fit, else the refusal's number.
 ghost use mathlib.Core.Path.{_≡_};
 ghost use Rattle.questions.specs.Asking.{asking};
-ghost use Rattle.trend_filter.specs.Calls.{oneIf, numbersOf, countsOf, Called};
+ghost use Rattle.trend_filter.specs.Calls.{oneIf, numbersOf, countsOf, Told, Called};
 ghost use Rattle.trend_filter.specs.Answers.{buffers};
 use crate::Answer;
 use crate::Summary;
@@ -24,6 +24,20 @@ fn put_counts(counts: &mut [u64; 4], s: Summary)
 {
     let c = one_if(s.converged);
     *counts = [s.knots as u64, s.n_iter, s.improvements, c];
+}
+
+// The answer as a number, with a fit's numbers and counts.
+fn tell(numbers: &mut [f64; 5], counts: &mut [u64; 4], a: Answer) -> u32
+    ensures { λ r. ⌜ Told a r (now (numbers .entry)) (now (numbers .exit)) (now (counts .entry)) (now (counts .exit)) ⌝ }
+{
+    match a {
+        Answer::Refused(q) => q,
+        Answer::Fit(s) => {
+            put_numbers(numbers, s);
+            put_counts(counts, s);
+            0
+        }
+    }
 }
 
 // numbers are lam_max, gap, first gap, best gap and objective; counts are knots, n_iter, improvements and converged (0 or 1).
@@ -55,12 +69,5 @@ pub extern "C" fn trend_filter_fit(
         max_iter: max_iter,
     };
     let a = crate::l1_trend_filter(y, lam, o, trend, cycle, knots, work, marks);
-    match a {
-        Answer::Refused(q) => q,
-        Answer::Fit(s) => {
-            put_numbers(numbers, s);
-            put_counts(counts, s);
-            0
-        }
-    }
+    tell(numbers, counts, a)
 }
