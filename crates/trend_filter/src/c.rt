@@ -1,29 +1,15 @@
 // The fit for callers in C: 0 for a fit, else the refusal's number.
 ghost use mathlib.Core.Path.{_≡_};
 ghost use Rattle.questions.specs.Asking.{asking};
-ghost use Rattle.trend_filter.specs.Calls.{oneIf, numbersOf, countsOf, Told, Called};
+ghost use Rattle.trend_filter.specs.Calls.{oneIf, Told, Called};
 ghost use Rattle.trend_filter.specs.Answers.{buffers};
 use crate::Answer;
-use crate::Summary;
 use crate::TrendFilterOptions;
 
 fn one_if(b: bool) -> u64
     ensures { λ r. ⌜ r ≡ oneIf b ⌝ }
 {
     if b { 1 } else { 0 }
-}
-
-fn put_numbers(numbers: &mut [f64; 5], s: Summary)
-    ensures { λ _. ⌜ now (numbers .exit) ≡ numbersOf s ⌝ }
-{
-    *numbers = [s.lam_max, s.gap, s.first_gap, s.best_gap, s.objective];
-}
-
-fn put_counts(counts: &mut [u64; 4], s: Summary)
-    ensures { λ _. ⌜ now (counts .exit) ≡ countsOf s ⌝ }
-{
-    let c = one_if(s.converged);
-    *counts = [s.knots as u64, s.n_iter, s.improvements, c];
 }
 
 // The answer as a number, with a fit's numbers and counts.
@@ -33,8 +19,9 @@ fn tell(numbers: &mut [f64; 5], counts: &mut [u64; 4], a: Answer) -> u32
     match a {
         Answer::Refused(q) => q,
         Answer::Fit(s) => {
-            put_numbers(numbers, s);
-            put_counts(counts, s);
+            let c = one_if(s.converged);
+            *numbers = [s.lam_max, s.gap, s.first_gap, s.best_gap, s.objective];
+            *counts = [s.knots as u64, s.n_iter, s.improvements, c];
             0
         }
     }
