@@ -28,10 +28,14 @@ abbrev pub filled : {A : Type 0} → (Summary → List A) → Answer → List A 
 filled x (Fit s) v = x s
 filled x (Refused q) v = v
 
--- The whole of a call: an answer with all its promises, told by the code r and by two arrays, which held v₀ and u₀ before and hold v and u after.
+-- the answer a as a caller is told it: the code r, and two arrays, which held v₀ and u₀ before and hold v and u after
+pub record Told (a : Answer) (r : ℕ) (v₀ v : List Float) (u₀ u : List ℕ) : Type 0 where
+  pub code : r ≡ codeOf a
+  pub numbers : v ≡ filled numbersOf a v₀
+  pub counts : u ≡ filled countsOf a u₀
+
+-- The whole of a call: an answer with all its promises, and how it is told.
 pub record Called (a : Asked) (r : ℕ) (b c : Buffers) (v₀ v : List Float) (u₀ u : List ℕ) : Type 0 where
   pub answer : Answer
   pub answered : Answered a answer b c
-  pub code : r ≡ codeOf answer
-  pub numbers : v ≡ filled numbersOf answer v₀
-  pub counts : u ≡ filled countsOf answer u₀
+  pub told : Told answer r v₀ v u₀ u

@@ -1,11 +1,10 @@
 // The fit for callers in C: 0 for a fit, else the refusal's number.
 ghost use mathlib.Core.Path.{_≡_};
 ghost use Rattle.questions.specs.Asking.{asking};
-ghost use Rattle.trend_filter.specs.Calls.{numbersOf, countsOf, Called};
+ghost use Rattle.trend_filter.specs.Calls.{Told, Called};
 ghost use Rattle.trend_filter.specs.Inner.{oneIf};
 ghost use Rattle.trend_filter.specs.Answers.{buffers};
 use crate::Answer;
-use crate::Summary;
 use crate::TrendFilterOptions;
 
 fn one_if(b: bool) -> u64
@@ -14,17 +13,19 @@ fn one_if(b: bool) -> u64
     if b { 1 } else { 0 }
 }
 
-fn put_numbers(numbers: &mut [f64; 5], s: Summary)
-    ensures { λ _. ⌜ now (numbers .exit) ≡ numbersOf s ⌝ }
+// The answer as a number, with a fit's numbers and counts.
+fn tell(numbers: &mut [f64; 5], counts: &mut [u64; 4], a: Answer) -> u32
+    ensures { λ r. ⌜ Told a r (now (numbers .entry)) (now (numbers .exit)) (now (counts .entry)) (now (counts .exit)) ⌝ }
 {
-    *numbers = [s.lam_max, s.gap, s.first_gap, s.best_gap, s.objective];
-}
-
-fn put_counts(counts: &mut [u64; 4], s: Summary)
-    ensures { λ _. ⌜ now (counts .exit) ≡ countsOf s ⌝ }
-{
-    let c = one_if(s.converged);
-    *counts = [s.knots as u64, s.n_iter, s.improvements, c];
+    match a {
+        Answer::Refused(q) => q,
+        Answer::Fit(s) => {
+            let c = one_if(s.converged);
+            *numbers = [s.lam_max, s.gap, s.first_gap, s.best_gap, s.objective];
+            *counts = [s.knots as u64, s.n_iter, s.improvements, c];
+            0
+        }
+    }
 }
 
 // numbers are lam_max, gap, first gap, best gap and objective; counts are knots, n_iter, improvements and converged (0 or 1).
@@ -56,12 +57,5 @@ pub extern "C" fn trend_filter_fit(
         max_iter: max_iter,
     };
     let a = crate::l1_trend_filter(y, lam, o, trend, cycle, knots, work, marks);
-    match a {
-        Answer::Refused(q) => q,
-        Answer::Fit(s) => {
-            put_numbers(numbers, s);
-            put_counts(counts, s);
-            0
-        }
-    }
+    tell(numbers, counts, a)
 }

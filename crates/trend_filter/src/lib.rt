@@ -1,12 +1,11 @@
 // The trend of a series: the questions and the preparation, then the fit of what is prepared, each once (crate prepared_fit).
 pub mod c;
 
-use fit::Numbers;
 use prepared_fit::Begun;
 use prepared_fit::Written;
 ghost use mathlib.Core.Path.{_≡_};
 ghost use Rattle.questions.specs.Asking.{asking};
-ghost use Rattle.trend_filter.specs.Answers.{buffers, summed as summed_of, Answered};
+ghost use Rattle.trend_filter.specs.Answers.{buffers, Answered};
 ghost use Rattle.trend_filter.specs.Inner.{toldOf};
 
 // penalty 1 is L1, 2 is L2.
@@ -35,23 +34,6 @@ pub enum Answer {
     Refused(u32),
 }
 
-// The numbers as a caller is told them.
-fn summed(s: Numbers, knots: usize, lam_max: f64) -> Summary
-    ensures { λ r. ⌜ r ≡ summed_of s knots «lam_max» ⌝ }
-{
-    Summary {
-        knots: knots,
-        lam_max: lam_max,
-        gap: s.gap,
-        first_gap: s.first_gap,
-        best_gap: s.best_gap,
-        objective: s.objective,
-        n_iter: s.n_iter,
-        improvements: s.improvements,
-        converged: s.converged,
-    }
-}
-
 // What a caller is told of a prepared series.
 fn told(w: Written, lam_max: f64) -> Answer
     ensures { λ r. ⌜ r ≡ toldOf «lam_max» w ⌝ }
@@ -60,7 +42,17 @@ fn told(w: Written, lam_max: f64) -> Answer
         Written::Lost => Answer::Refused(10),
         Written::Done(t) => {
             let s = t.numbers;
-            Answer::Fit(summed(s, t.knots, lam_max))
+            Answer::Fit(Summary {
+                knots: t.knots,
+                lam_max: lam_max,
+                gap: s.gap,
+                first_gap: s.first_gap,
+                best_gap: s.best_gap,
+                objective: s.objective,
+                n_iter: s.n_iter,
+                improvements: s.improvements,
+                converged: s.converged,
+            })
         }
     }
 }

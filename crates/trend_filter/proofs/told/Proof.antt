@@ -1,6 +1,5 @@
 use borrow.Author.Needs.{needs}
-use mathlib.Core.Path.{sym, ap, _∙_}
-use Rattle.trend_filter.specs.declared.Answer.the-variants.{Fit}
+use mathlib.Core.Path.{sym, ap}
 use Rattle.trend_filter.specs.Inner.{toldOf}
 use Rattle.trend_filter.proofs.told.Statement.{statement}
 use Rattle.trend_filter.proofs.told.Tie as tie
@@ -11,7 +10,7 @@ returns c = sym (ap (toldOf _) (c .enum-told .given .1))
 
 returns-2 : tie.Need-returns-2
 unfolding toldOf
-returns-2 c = ap Fit (c .summed .ensures) ∙ sym (ap (toldOf _) (c .before .before .before .w .given .1))
+returns-2 c = sym (ap (toldOf _) (c .before .before .w .given .1))
 
 pub told-spec : {M : Type 1} → statement M
-told-spec = tie.close (tie.spec (λ c. search needs) (λ c. search needs) (λ c κs. search needs) returns returns-2)
+told-spec = tie.close (tie.spec (λ c. search needs) (λ c. search needs) returns returns-2)
