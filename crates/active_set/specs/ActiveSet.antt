@@ -1,4 +1,4 @@
--- Document 01, "Polish, knots, closed paths": which places are held, and the compressed system over the others. k is the order, g the Gram row, dy is D y, p the point at which the search ended, m its places.
+-- Document 01, "Polish, knots, closed paths": which places are held, and the compressed system over the others. k is the order, g the Gram row, dy is D y, p the point at which the search ended, m its places; h tells how each place is held.
 use mathlib.Core.Bool.{Bool, true, false, cond}
 use mathlib.Core.List.{List, [], _∷_, _++_}
 use Prim.Native.Nat.{ℕ, zero, suc, _+_, _-_, min}
@@ -32,8 +32,6 @@ abbrev pub heldAt : Float → Hold → Float
 heldAt lam free = c0
 heldAt lam at-lam = lam
 heldAt lam at-minus-lam = neg lam
-
--- ---- below, h tells how each place is held
 
 -- the free places below n, rising
 unfoldable pub freeTo : (ℕ → Hold) → ℕ → List ℕ

@@ -1,6 +1,5 @@
 -- Demand 3, clause by clause, of the whole fit (`Rattle.fit.proofs.Demand3` proves it).
--- The search counts the iterations and the improvements (`Rattle.search.specs.Search`): the best gap starts as the first gap, and an iteration is an
--- improvement when its gap is below 0.99 times the best gap, the product rounded; then its gap becomes the best.
+-- The search counts the iterations and the improvements (`Rattle.search.specs.Search`): the best gap starts as the first gap, and an iteration is an improvement when its gap is below 0.99 times the best gap, the product rounded; then its gap becomes the best.
 use Prim.Native.Nat.{ℕ, _≤_, _<_}
 use mathlib.Core.Path.{_≡_}
 use Rattle.search.specs.Bounds.{Bounded}
