@@ -12,6 +12,7 @@ use Rattle.banded.specs.Rows.{Matrix, rows, sound}
 use Rattle.banded.specs.Solve.{solve}
 use Rattle.ridge.specs.Ridge.{ridge}
 use Rattle.certificate.specs.Certificate.{minus}
+use Rattle.search.specs.Search.{gapBetween}
 
 -- I + lam·D'D
 abbrev pub systemL2 : ℕ → List Float → Float → Matrix
@@ -39,4 +40,4 @@ dualL2 k y lam v = neg half ⊗ norm2Sq (diffKT k v) ⊕ dot v (diffK k y) ⊖ n
 
 -- the gap of a trend x; 0 if lam isn't above 0
 unfoldable pub gapL2 : ℕ → List Float → Float → List Float → Float
-gapL2 k y lam x = cond (lt c0 lam) (objectiveL2 k y lam x ⊖ dualL2 k y lam (scaled lam (diffK k x))) c0
+gapL2 k y lam x = cond (lt c0 lam) (gapBetween (objectiveL2 k y lam x) (dualL2 k y lam (scaled lam (diffK k x)))) c0
