@@ -6,9 +6,9 @@ ghost use Prim.Native.Nat.{_≤_, _<_, _-_, _+_};
 ghost use lib.ListN.{length};
 ghost use lib.Ieee.{lt};
 ghost use Rattle.float64.specs.Helpers.{absOf};
-ghost use Rattle.vectors.specs.Vec.{put};
+ghost use Rattle.vectors.specs.Vec.{at, put};
 ghost use Rattle.vectors.specs.Parts.{Wrote};
-ghost use Rattle.vectors.specs.Sums.{maxAbs};
+ghost use Rattle.vectors.specs.Sums.{maxTo, maxAbs};
 ghost use Rattle.differences.specs.Diff.{diffK};
 ghost use Rattle.certificate.specs.Certificate.{minus};
 ghost use Rattle.differences.specs.Series.{Series};
@@ -16,21 +16,49 @@ ghost use Rattle.decomposition.specs.Knots.{threshold, knots as knotsOf}
 ghost use Rattle.decomposition.specs.Outputs.{outputs};
 ghost use Rattle.decomposition.specs.Written.{KnotPlaces, Places, WroteOut};
 
-// The greatest |D y|, from 0; NaN is ignored.
-fn max_abs_diff(y: &[f64], k: usize) -> f64
-    requires { ⌜ Series k (length (now y)) ⌝ }
-    ensures { λ r. ⌜ r ≡ maxAbs (diffK k (now (y .entry))) ⌝ }
+// The greatest |D y| and the greatest |y|, from 0; NaN is ignored.
+struct Peaks {
+    differences: f64,
+    values: f64,
+}
+
+// The greatest |y|, where top is that of the places below from.
+fn max_rest(y: &[f64], from: usize, top: f64) -> f64
+    requires { ⌜ from ≤ length (now y) ⌝ }
+    ensures { λ r. ⌜ (top ≡ maxTo (λ j. absOf (at (now (y .entry)) j)) from → r ≡ maxAbs (now (y .entry))) ⌝ }
 {
-    let m = y.len() - k;
-    let mut top = 0.0;
-    let mut i = 0;
-    while i < m {
-        let d = differences::diff_at(y, k, i);
-        let x = float64::abs(d);
+    let mut top = top;
+    let mut i = from;
+    while i < y.len() {
+        let x = float64::abs(y[i]);
         top = float64::max(top, x);
         i += 1;
     }
     top
+}
+
+// Both, side by side as far as D y goes.
+fn greatest(y: &[f64], k: usize) -> Peaks
+    requires { ⌜ Series k (length (now y)) ⌝ }
+    ensures { λ r. ⌜ (r .differences ≡ maxAbs (diffK k (now (y .entry)))) × (r .values ≡ maxAbs (now (y .entry))) ⌝ }
+{
+    let m = y.len() - k;
+    let mut a = 0.0;
+    let mut b = 0.0;
+    let mut i = 0;
+    while i < m {
+        let d = differences::diff_at(y, k, i);
+        let x = float64::abs(d);
+        a = float64::max(a, x);
+        let z = float64::abs(y[i]);
+        b = float64::max(b, z);
+        i += 1;
+    }
+    let c = max_rest(y, m, b);
+    Peaks {
+        differences: a,
+        values: c,
+    }
 }
 
 // Above this a difference of the trend is a knot.
@@ -38,9 +66,8 @@ fn threshold(y: &[f64], k: usize) -> f64
     requires { ⌜ Series k (length (now y)) ⌝ }
     ensures { λ r. ⌜ r ≡ threshold k (now (y .entry)) ⌝ }
 {
-    let a = max_abs_diff(y, k);
-    let b = vectors::max_abs(y);
-    float64::max(1e-6 * a, 1e-12 * b)
+    let p = greatest(y, k);
+    float64::max(1e-6 * p.differences, 1e-12 * p.values)
 }
 
 // i becomes the next knot, at place n, where |d| is above t; the number of knots then.
