@@ -1,16 +1,12 @@
 /* Whole fits of two static libraries in one process, by turns: old_fit and new_fit are their C entries (see compare).
  * Each round times both, the one first in one round and second in the next; printed are the change of the least, of the
  * median, and the median of the rounds' own ratios, which is the figure to read. */
-#include <stdint.h>
+#include "trend_filter.h"
 #include <stdio.h>
 #include <stdlib.h>
-#include <string.h>
 #include <time.h>
 
-typedef uint32_t entry(const double *y, size_t y_len, double lam, double tol, uint64_t max_iter, uint32_t order,
-                       uint32_t penalty, double *trend, size_t trend_len, double *cycle, size_t cycle_len, uint32_t *knots,
-                       size_t knots_len, double *work, size_t work_len, uint32_t *marks, size_t marks_len,
-                       double numbers[5], uint64_t counts[4]);
+typedef __typeof__(trend_filter_fit) entry;
 entry old_fit, new_fit;
 
 struct kind { const char *name; double share; uint32_t order, penalty; };

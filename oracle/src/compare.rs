@@ -22,8 +22,17 @@ pub struct Tally {
     pub kept: u64,
 }
 
+/// A double by its bits, any NaN as a listing has it.
+pub fn bits(x: f64) -> u64 {
+    if x.is_nan() {
+        0x7ff8_0000_0000_0000
+    } else {
+        x.to_bits()
+    }
+}
+
 fn same(a: f64, b: f64) -> bool {
-    a.to_bits() == b.to_bits() || (a.is_nan() && b.is_nan())
+    bits(a) == bits(b)
 }
 
 /// The number that document 01 gives the Rust's refusal. `order` and `penalty` are asked before it is called.

@@ -5,7 +5,7 @@
 //! gap, objective, how many knots, n_iter, improvements, converged, the n places of trend and of cycle, and the knots.
 //! A double is its bits, any NaN 7ff8000000000000.
 use crate::cases::{damaged, good, lam_max_of, Case};
-use crate::compare::{answer, expected};
+use crate::compare::{answer, bits, expected};
 use crate::port::Lengths;
 use crate::random::Random;
 
@@ -13,14 +13,6 @@ pub const GROUPS: [&str; 12] = [
     "refused", "short buffers", "lam 0", "lam at lam_max or above", "L2", "gap small enough", "limit spent", "stalled", "pivot lost", "NaN or infinite gaps",
     "subnormal and huge", "weeks",
 ];
-
-fn bits(x: f64) -> u64 {
-    if x.is_nan() {
-        0x7ff8_0000_0000_0000
-    } else {
-        x.to_bits()
-    }
-}
 
 fn words(group: usize, c: &Case, l: &Lengths, out: &mut Vec<u64>) {
     let n = c.y.len();

@@ -7,18 +7,10 @@
 //! up to 256 `h i trend cycle` for each place and `knot i` for each knot. A double is its 16 hexadecimal digits, any NaN
 //! 7ff8000000000000. A hash is FNV-1a of 64 bits over the little-endian bytes of the bits, of a knot as 4 bytes.
 use crate::cases::Case;
-use crate::compare::answer;
+use crate::compare::{answer, bits};
 use crate::port::Lengths;
 use std::fmt::Write;
 use std::path::Path;
-
-fn bits(x: f64) -> u64 {
-    if x.is_nan() {
-        0x7ff8_0000_0000_0000
-    } else {
-        x.to_bits()
-    }
-}
 
 fn hash(bytes: impl Iterator<Item = u8>) -> u64 {
     bytes.fold(0xcbf2_9ce4_8422_2325, |h, b| (h ^ b as u64).wrapping_mul(0x100_0000_01b3))
