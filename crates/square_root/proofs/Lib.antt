@@ -2,6 +2,7 @@
 pub mod Root
 pub mod Rounded
 pub mod Patterns
+pub mod Counter
 pub mod Newton
 pub mod Joined
 pub mod Nearest

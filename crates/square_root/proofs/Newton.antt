@@ -19,12 +19,9 @@ pub record Digits (h root j : ℕ) : Type 0 where
   pub above : h < (root + 2 ^ j) * (root + 2 ^ j)
   pub room : root + 2 ^ j ≤ 2 ^ 14
 
-pub start : (h : ℕ) → h < 2 ^ 28 → Digits h 0 14
-start h l = record { below = omega arith; above = omega arith; room = omega arith }
-
--- the weight of a digit as the machine makes it
-pub bit : (j : ℕ) → j < 14 → 1 * 2 ^ j % 2 ^ 64 ≡ 2 ^ j
-bit j h = let l : 2 ^ j ≤ 2 ^ 13 = pow-mono {j = 13} (omega arith) in omega arith
+-- no digit yet, and j of them are enough
+pub start : (h j : ℕ) → h < 2 ^ j * 2 ^ j → 2 ^ j ≤ 2 ^ 14 → Digits h 0 j
+start h j l g = record { below = omega arith; above = omega arith; room = omega arith }
 
 module _ (h root j : ℕ) (d : Digits h root (suc j)) where
   doubled : 2 ^ suc j ≡ 2 ^ j + 2 ^ j

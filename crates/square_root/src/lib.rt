@@ -5,28 +5,28 @@ ghost use lib.Ieee.{binary64, ofBits};
 ghost use Rattle.square_root.specs.Sqrt.{sqrtOf, nearestRoot, isqrt};
 ghost use Rattle.square_root.specs.Parts.{roundedRoot, Bits, Lifted, Scaled};
 
-// How many places the digits t of a subnormal go up until they are 53.
+// How many places the digits t of a subnormal go up until they are 53. s counts them and never passes 64: proofs/Counter.antt.
 fn places(t: u64) -> u64
     requires { ⌜ 0 < t ⌝ }
     requires { ⌜ t < 2 ^ 53 ⌝ }
     ensures { λ r. ⌜ Lifted t r ⌝ }
 {
     let mut m: u64 = t;
-    let mut s: u64 = 0;
+    let mut s: u8 = 0;
     while m < 0x10_0000_0000_0000 {
         m = m * 2;
         s += 1;
     }
-    s
+    s as u64
 }
 
-// The whole part of the root of h, by its 14 digits, the highest first.
+// The whole part of the root of h, by its 14 digits, the highest first. j counts those to come and never passes 64: proofs/Counter.antt.
 fn short_root(h: u64) -> u64
     requires { ⌜ h < 2 ^ 28 ⌝ }
     ensures { λ r. ⌜ r ≡ isqrt h ⌝ }
 {
     let mut root: u64 = 0;
-    let mut j: u64 = 14;
+    let mut j: u8 = 14;
     while j > 0 {
         j -= 1;
         let t = root + (1 << j);

@@ -1,14 +1,16 @@
--- `square_root::short_root` meets its contract. Assumes nothing.
+-- `square_root::short_root` meets its contract. The invariant: the count of the digits to come never passes 64, and those found so far
+-- are the root's. Assumes nothing.
 use mathlib.Core.Path.{_≡_, subst}
 use Prim.Native.Nat.{suc, _≤_, _+_, _*_, _-_, _%_, _^_}
 use native.Mathlib.Nat.{mul-le-mul}
 use native.Mathlib.Omega.{arith}
-use Rattle.square_root.proofs.Newton.{Digits, start, bit, tried-le, one, none, end}
+use Rattle.square_root.proofs.Counter.{Counter, bit}
+use Rattle.square_root.proofs.Newton.{Digits, start, tried-le, one, none, end}
 use Rattle.square_root.proofs.short_root.Statement.{statement}
 use Rattle.square_root.proofs.short_root.Tie as tie
 
 abbrev Inv-loop : tie.InvT-loop
-Inv-loop h root₀ j₀ root j = (j ≤ 14) × Digits h root j
+Inv-loop h root₀ j₀ root j = Counter j × Digits h root j
 
 abbrev μ-loop : tie.MeasureT-loop
 μ-loop h root₀ j₀ root j = j
@@ -29,7 +31,7 @@ tried : (c : tie.In-loop Inv-loop μ-loop) → c .before .loop .root + 1 * 2 ^ (
 tried c = let l = c .before .loop in rw (weight c) (tried-le (c .before .before .args .h) (l .root) (l .j - 1) (turn c))
 
 loop-holds : tie.Need-loop-holds Inv-loop μ-loop
-loop-holds c = (omega arith, start (c .args .h) (omega arith))
+loop-holds c = (record { never-past-64 = omega arith }, start (c .args .h) _ (omega arith) (omega arith))
 
 add-t : tie.Need-add-t Inv-loop μ-loop
 add-t c = omega (arith, tried c)
@@ -42,15 +44,17 @@ loop-again c =
     let l = c .before .before .loop in
     let h = c .before .before .before .args .h in
     let w = weight (c .before) in (
-      omega arith,
+      record { never-past-64 = omega arith },
       rw w (one h (l .root) (l .j - 1) (turn (c .before)) (rw w at (c .if1 .taken))),
     )
 
 loop-again-2 : tie.Need-loop-again-2 Inv-loop μ-loop
 loop-again-2 c =
     let l = c .before .before .loop in
-    let h = c .before .before .before .args .h in
-    (omega arith, none h (l .root) (l .j - 1) (turn (c .before)) (rw (weight (c .before)) at (c .if1 .left)))
+    let h = c .before .before .before .args .h in (
+      record { never-past-64 = omega arith },
+      none h (l .root) (l .j - 1) (turn (c .before)) (rw (weight (c .before)) at (c .if1 .left)),
+    )
 
 returns : tie.Need-returns Inv-loop μ-loop
 returns c =
@@ -61,5 +65,5 @@ returns c =
 pub short-root-spec : {M : Type 1} → statement M
 short-root-spec =
     tie.close
-    (tie.spec Inv-loop μ-loop loop-holds (λ c. omega arith) (λ c. omega arith) add-t mul-if1 (λ c. omega arith)
-    loop-again (λ c. omega arith) loop-again-2 returns)
+    (tie.spec Inv-loop μ-loop loop-holds (λ c. omega arith) (λ c. omega arith) (λ c. omega arith) add-t mul-if1
+    (λ c. omega arith) loop-again (λ c. omega arith) loop-again-2 returns)
