@@ -11,10 +11,8 @@ fn places(t: u64) -> u64
     requires { ⌜ t < 2 ^ 53 ⌝ }
     ensures { λ r. ⌜ Lifted t r ⌝ }
 {
-    let mut m: u64 = t;
     let mut s: u8 = 0;
-    while m < 0x10_0000_0000_0000 {
-        m = m * 2;
+    while t << s < 0x10_0000_0000_0000 {
         s += 1;
     }
     s as u64
