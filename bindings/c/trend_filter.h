@@ -23,7 +23,8 @@
  * After a refusal: trend, cycle, knots, numbers and counts are as found; after 1 to 9 work and marks are too.
  * After a fit or number 10 the first 40 n places of work and 2 n of marks are free (nothing is promised of them); later ones are as found.
  *
- * Steps: n_iter is at most max_iter and at most 10 J + 10, where J, the improvements, is at most 144,763.
+ * Steps: n_iter is at most max_iter and at most 10 J + 10, where J, the improvements, is at most 144,763. A larger tol, all else alike,
+ * never gives a greater n_iter.
  *
  * The floating-point environment is taken as C starts a program: rounding to nearest, subnormal numbers kept (no flush to zero, no
  * denormals as zero), no exception that traps. A program that is linked with -ffast-math, or that called fesetround, feenableexcept

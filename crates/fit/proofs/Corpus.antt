@@ -118,3 +118,27 @@ table-6 =
 pub known-6 : worked table-6 ≡ stated table-6
 unfolding absOf isFinite maxOf minOf clampOf isqrtOf isqrt nearestRoot sqrtOf list sumTo maxTo norm2Sq dot sumAbs maxAbs diff diffK diffT diffKT less lessFrom reduced entry placed rowTo row rows sound forwardAt forward divided backAt back solve gram more moreFrom product zstar lamMax ridge minus clamped certify threshold aboveTo knots iterate run diagonalShift rhsAt dmu1At dmu2At residualSquareAt stepCapBy system rhs direction residualSquare residualNorm stepCapTo stepped along insideTo accepted trials newtonZ searchLine nextT move problem origin interiorPoint holdAt freeTo compressed lessTo compressedRhsAt solved candidateAt candidate polish soundL2 trendL2 scaled objectiveL2 dualL2 gapL2 finiteTo room question pathL2 pathZero pathFlat polished searchOf keptOf pathEnd pathL1 path written outcome fit ofBits ofInt add sub mul div neg lt le eq isNan
 known-6 = refl
+
+abbrev pub table-7 : List Case
+table-7 =
+    -- order 1, penalty 1, y (1e+308, -1e+308), lam 1e-300, tol 5e-324, at most 100 iterations: fit 2 1 1 10 0 0 3 0
+    record { asked = record { y = F 0x7fe1ccf385ebc8a0 ∷ F 0xffe1ccf385ebc8a0 ∷ []; lam = F 0x01a56e1fc2f8f359; tol = F 0x0000000000000001; max-iter = 100; order = 1; penalty = 1 }; lent = record { trend = 2; cycle = 2; knots = 2; work = 80; marks = 4 }; outcome = fitted (record { trend = F 0x7fe1ccf385ebc8a0 ∷ F 0xffe1ccf385ebc8a0 ∷ []; cycle = F 0x0000000000000000 ∷ F 0x0000000000000000 ∷ []; knots = []; lam-max = F 0x7ff0000000000000; numbers = record { gap = F 0x7ff8000000000000; «first_gap» = F 0x7ff8000000000000; «best_gap» = F 0x7ff8000000000000; objective = F 0x7ff0000000000000; «n_iter» = 10; improvements = 0; converged = false } }) }
+    -- order 1, penalty 1, y (1e+308, -1e+308), lam 1e-300, tol 1.7976931348623157e+308, at most 100 iterations: fit 2 1 1 10 0 0 3 0
+    ∷ record { asked = record { y = F 0x7fe1ccf385ebc8a0 ∷ F 0xffe1ccf385ebc8a0 ∷ []; lam = F 0x01a56e1fc2f8f359; tol = F 0x7fefffffffffffff; max-iter = 100; order = 1; penalty = 1 }; lent = record { trend = 2; cycle = 2; knots = 2; work = 80; marks = 4 }; outcome = fitted (record { trend = F 0x7fe1ccf385ebc8a0 ∷ F 0xffe1ccf385ebc8a0 ∷ []; cycle = F 0x0000000000000000 ∷ F 0x0000000000000000 ∷ []; knots = []; lam-max = F 0x7ff0000000000000; numbers = record { gap = F 0x7ff8000000000000; «first_gap» = F 0x7ff8000000000000; «best_gap» = F 0x7ff8000000000000; objective = F 0x7ff0000000000000; «n_iter» = 10; improvements = 0; converged = false } }) }
+    -- order 1, penalty 1, y (0.0, 1e+308), lam 10000000000.0, tol 5e-324, at most 100 iterations: fit 2 1 1 0 0 1 1 1
+    ∷ record { asked = record { y = F 0x0000000000000000 ∷ F 0x7fe1ccf385ebc8a0 ∷ []; lam = F 0x4202a05f20000000; tol = F 0x0000000000000001; max-iter = 100; order = 1; penalty = 1 }; lent = record { trend = 2; cycle = 2; knots = 2; work = 80; marks = 4 }; outcome = fitted (record { trend = F 0x0000000000000000 ∷ F 0x7fe1ccf385ebc8a0 ∷ []; cycle = F 0x0000000000000000 ∷ F 0x0000000000000000 ∷ []; knots = 0 ∷ []; lam-max = F 0x7fd1ccf385ebc8a0; numbers = record { gap = F 0x7ff0000000000000; «first_gap» = F 0x7ff0000000000000; «best_gap» = F 0x7ff0000000000000; objective = F 0x7ff0000000000000; «n_iter» = 0; improvements = 0; converged = true } }) }
+    -- order 1, penalty 1, y (0.0, 1e+308), lam 10000000000.0, tol 1.7976931348623157e+308, at most 100 iterations: fit 2 1 1 0 0 1 1 1
+    ∷ record { asked = record { y = F 0x0000000000000000 ∷ F 0x7fe1ccf385ebc8a0 ∷ []; lam = F 0x4202a05f20000000; tol = F 0x7fefffffffffffff; max-iter = 100; order = 1; penalty = 1 }; lent = record { trend = 2; cycle = 2; knots = 2; work = 80; marks = 4 }; outcome = fitted (record { trend = F 0x0000000000000000 ∷ F 0x7fe1ccf385ebc8a0 ∷ []; cycle = F 0x0000000000000000 ∷ F 0x0000000000000000 ∷ []; knots = 0 ∷ []; lam-max = F 0x7fd1ccf385ebc8a0; numbers = record { gap = F 0x7ff0000000000000; «first_gap» = F 0x7ff0000000000000; «best_gap» = F 0x7ff0000000000000; objective = F 0x7ff0000000000000; «n_iter» = 0; improvements = 0; converged = true } }) }
+    -- order 1, penalty 1, y (0.0, 0.25), lam 5e-324, tol 5e-324, at most 100 iterations: fit 2 1 1 0 0 1 1 1
+    ∷ record { asked = record { y = F 0x0000000000000000 ∷ F 0x3fd0000000000000 ∷ []; lam = F 0x0000000000000001; tol = F 0x0000000000000001; max-iter = 100; order = 1; penalty = 1 }; lent = record { trend = 2; cycle = 2; knots = 2; work = 80; marks = 4 }; outcome = fitted (record { trend = F 0x0000000000000000 ∷ F 0x3fd0000000000000 ∷ []; cycle = F 0x0000000000000000 ∷ F 0x0000000000000000 ∷ []; knots = 0 ∷ []; lam-max = F 0x3fc0000000000000; numbers = record { gap = F 0x0000000000000000; «first_gap» = F 0x0000000000000000; «best_gap» = F 0x0000000000000000; objective = F 0x0000000000000000; «n_iter» = 0; improvements = 0; converged = true } }) }
+    -- order 1, penalty 1, y (0.0, 0.25), lam 5e-324, tol 1.7976931348623157e+308, at most 100 iterations: fit 2 1 1 0 0 1 1 1
+    ∷ record { asked = record { y = F 0x0000000000000000 ∷ F 0x3fd0000000000000 ∷ []; lam = F 0x0000000000000001; tol = F 0x7fefffffffffffff; max-iter = 100; order = 1; penalty = 1 }; lent = record { trend = 2; cycle = 2; knots = 2; work = 80; marks = 4 }; outcome = fitted (record { trend = F 0x0000000000000000 ∷ F 0x3fd0000000000000 ∷ []; cycle = F 0x0000000000000000 ∷ F 0x0000000000000000 ∷ []; knots = 0 ∷ []; lam-max = F 0x3fc0000000000000; numbers = record { gap = F 0x0000000000000000; «first_gap» = F 0x0000000000000000; «best_gap» = F 0x0000000000000000; objective = F 0x0000000000000000; «n_iter» = 0; improvements = 0; converged = true } }) }
+    -- order 1, penalty 1, y (8000.0, 0.0), lam 3000.0, tol 0.001, at most 100 iterations: fit 2 1 1 3 3 1 1 1
+    ∷ record { asked = record { y = F 0x40bf400000000000 ∷ F 0x0000000000000000 ∷ []; lam = F 0x40a7700000000000; tol = F 0x3f50624dd2f1a9fc; max-iter = 100; order = 1; penalty = 1 }; lent = record { trend = 2; cycle = 2; knots = 2; work = 80; marks = 4 }; outcome = fitted (record { trend = F 0x40b3880000000000 ∷ F 0x40a7700000000000 ∷ []; cycle = F 0x40a7700000000000 ∷ F 0xc0a7700000000000 ∷ []; knots = 0 ∷ []; lam-max = F 0x40af400000000000; numbers = record { gap = F 0x0000000000000000; «first_gap» = F 0x4176e36000000000; «best_gap» = F 0x40b3c81ef24fa800; objective = F 0x416c9c3800000000; «n_iter» = 3; improvements = 3; converged = true } }) }
+    -- order 1, penalty 1, y (8000.0, 0.0), lam 3000.0, tol 0.5, at most 100 iterations: fit 2 1 1 1 1 1 1 1
+    ∷ record { asked = record { y = F 0x40bf400000000000 ∷ F 0x0000000000000000 ∷ []; lam = F 0x40a7700000000000; tol = F 0x3fe0000000000000; max-iter = 100; order = 1; penalty = 1 }; lent = record { trend = 2; cycle = 2; knots = 2; work = 80; marks = 4 }; outcome = fitted (record { trend = F 0x40b3880000000000 ∷ F 0x40a7700000000000 ∷ []; cycle = F 0x40a7700000000000 ∷ F 0xc0a7700000000000 ∷ []; knots = 0 ∷ []; lam-max = F 0x40af400000000000; numbers = record { gap = F 0x0000000000000000; «first_gap» = F 0x4176e36000000000; «best_gap» = F 0x414e8c4fc7179844; objective = F 0x416c9c3800000000; «n_iter» = 1; improvements = 1; converged = true } }) }
+    ∷ []
+
+pub known-7 : worked table-7 ≡ stated table-7
+unfolding absOf isFinite maxOf minOf clampOf isqrtOf isqrt nearestRoot sqrtOf list sumTo maxTo norm2Sq dot sumAbs maxAbs diff diffK diffT diffKT less lessFrom reduced entry placed rowTo row rows sound forwardAt forward divided backAt back solve gram more moreFrom product zstar lamMax ridge minus clamped certify threshold aboveTo knots iterate run diagonalShift rhsAt dmu1At dmu2At residualSquareAt stepCapBy system rhs direction residualSquare residualNorm stepCapTo stepped along insideTo accepted trials newtonZ searchLine nextT move problem origin interiorPoint holdAt freeTo compressed lessTo compressedRhsAt solved candidateAt candidate polish soundL2 trendL2 scaled objectiveL2 dualL2 gapL2 finiteTo room question pathL2 pathZero pathFlat polished searchOf keptOf pathEnd pathL1 path written outcome fit ofBits ofInt add sub mul div neg lt le eq isNan
+known-7 = refl

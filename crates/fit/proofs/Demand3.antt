@@ -2,7 +2,7 @@
 use mathlib.Core.Path.{_≡_, refl, sym, ap, _∙_, subst}
 use Prim.Native.Nat.{ℕ, _≤_, _<_}
 use native.Mathlib.Omega.{arith}
-use mathlib.Core.Bool.{Bool, true, false, cond, _&&_}
+use mathlib.Core.Bool.{Bool, true, false, cond}
 use mathlib.Core.List.{List}
 use mathlib.Core.Option.{Option, none, some}
 use lib.Dec.{T, eqb, eqb→eq}
@@ -13,6 +13,7 @@ use Rattle.search.specs.Search.{Problem, Ended, small}
 use Rattle.search.specs.Bounds.{Bounded}
 use Rattle.search.specs.Demand3 as search
 use Rattle.search.proofs.Demand.{demand3, bounded-closed}
+use Rattle.search.proofs.Looser.{tol-positive}
 use Rattle.interior_point.specs.InteriorPoint.{State, problem, origin, interiorPoint}
 use Rattle.l2.specs.L2.{soundL2}
 use Rattle.questions.specs.Questions.{Asked, Lent, question}
@@ -20,11 +21,11 @@ use Rattle.questions.proofs.Laws as questions
 use Rattle.fit.specs.Fit.{Found, FitResult, Outcome, refused, fitted, places, closed, pathL2, pathZero, pathFlat, polished, searchOf, keptOf, pathEnd, pathL1, path, written, outcome, fit}
 use Rattle.fit.specs.Ways.{lamZero, lamHigh, soundDD}
 use Rattle.fit.specs.Demand3.{Bounds, withMaxIter, Demand3}
-use Rattle.fit.proofs.Sign.{tol-positive, lam-positive, primal-clear}
+use Rattle.fit.proofs.Sign.{tol-above, lam-positive, primal-clear}
 use Rattle.fit.proofs.Passed.{same-questions, fit-passed, outcome-some, passed}
 
 -- ---- the search of a fit
-abbrev problemOf : Asked → Problem State
+abbrev pub problemOf : Asked → Problem State
 problemOf a = problem (a .order) (gramRow (a .order)) (a .y) (a .lam)
 
 abbrev Searches : Asked → Type 0
@@ -32,7 +33,7 @@ Searches a = search.SearchDemand3 (problemOf a) (a .tol) (origin (places a))
 
 searches : (a : Asked) (l : Lent) → questions.Passed a l → lamZero a ≡ false → Searches a
 searches a l q z =
-    demand3 (problemOf a) (a .tol) (tol-positive (a .tol) (λ i. q .tol-finite i && q .tol-above i))
+    demand3 (problemOf a) (a .tol) (tol-positive (a .tol) (tol-above (a .tol) (q .tol-finite) (q .tol-above)))
     (primal-clear (a .order) (gramRow (a .order)) (a .y) (a .lam) (lam-positive (a .lam) (q .lam-finite) (q .lam-not-below) z))
     (origin (places a))
 
@@ -130,7 +131,7 @@ same-with false false true l2 o c x y h = refl
 same-with false false false l2 o c x y h = ap some (h refl refl refl)
 
 -- how many iterations a path reports
-abbrev iterations : Option Found → ℕ
+abbrev pub iterations : Option Found → ℕ
 iterations none = 0
 iterations (some f) = f .numbers .«n_iter»
 

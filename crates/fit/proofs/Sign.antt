@@ -1,13 +1,11 @@
--- Signs: a tolerance that passes question 6 is above 0, a lam that passes question 5 and is no zero too, and then P is a NaN or has a clear sign.
-use mathlib.Core.Path.{_≡_, sym, ap, _∙_, subst}
-use Prim.Native.Nat.{ℕ, zero, suc, _+_, _*_, _<_}
-use native.Mathlib.Nat.{lt-of-le-of-lt, zero-mul}
-use native.Mathlib.Omega.{arith}
+-- Signs: a tolerance that passes question 6 is finite and above 0, a lam that passes question 5 and is no zero too, and then P is a NaN or has a clear sign.
+use mathlib.Core.Path.{_≡_, sym, subst}
+use Prim.Native.Nat.{ℕ, zero, suc}
 use mathlib.Core.Bool.{Bool, true, false, not, _&&_, _||_}
 use mathlib.Core.List.{List}
-use lib.Dec.{T, ltb→lt, lt→ltb}
+use lib.Dec.{T}
 use lib.ListN.{length}
-use lib.Ieee.{Float, nan, inf, fin, binary64, ofBits, up, down, mul, lt, le, eq, isNan}
+use lib.Ieee.{Float, nan, inf, fin, binary64, ofBits, mul, lt, le, eq, isNan}
 use lib.Ieee.Positive.{positive, above}
 use Rattle.float64.specs.Helpers.{absOf, isFinite}
 use Rattle.float64.specs.Ops.{_⊗_, c0, half}
@@ -16,19 +14,12 @@ use Rattle.vectors.specs.Sums.{sumTo, norm2Sq, sumAbs}
 use Rattle.differences.specs.Diff.{diffK, diffKT}
 use Rattle.certificate.specs.Certificate.{minus, certify}
 use Rattle.search.specs.Demand3.{clear}
+use Rattle.search.specs.Looser.{finiteAbove0}
 use Rattle.search.proofs.Clear.{add-clear, mul-clear, square-clear, awake}
 use Rattle.interior_point.specs.InteriorPoint.{State, problem}
 
-first-pos : (m u d : ℕ) → 0 < m * u * d → 0 < m
-first-pos zero u d h = absurd (omega (arith, ap (λ (x : ℕ). x * d) (zero-mul u) ∙ zero-mul d, h))
-first-pos (suc m) u d h = omega arith
-
-pub tol-positive : (x : Float) → isFinite x && lt c0 x ≡ true → T (positive x)
-unfolding isFinite lt ofBits
-tol-positive nan e = subst T (sym e) tt
-tol-positive (inf s) e = subst T (sym e) tt
-tol-positive (fin true m d) e = subst T (sym e) tt
-tol-positive (fin false m d) e = lt→ltb 0 m (first-pos m (up d) 1 (lt-of-le-of-lt Prim.Native.Nat.zero-le (ltb→lt (0 * 1 * down d) (m * up d * 1) (subst T (sym e) tt))))
+pub tol-above : (x : Float) → isFinite x ≡ true → lt c0 x ≡ true → T (finiteAbove0 x)
+tol-above x f l = subst T (sym (λ i. f i && l i)) tt
 
 finite-above : (x : Float) → isFinite x ≡ true → T (isNan x || above x) → T (positive x)
 unfolding isFinite isNan

@@ -3,3 +3,4 @@ pub mod Fit
 pub mod Ways
 pub mod Known
 pub mod Demand3
+pub mod Looser

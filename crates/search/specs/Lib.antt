@@ -2,3 +2,4 @@
 pub mod Search
 pub mod Bounds
 pub mod Demand3
+pub mod Looser

@@ -24,12 +24,12 @@ unfolding fit question
 same-lent a l k e = rw e
 
 -- an answer that is a fit comes from one
-record Came (o : Outcome) (x : Summary) : Type 0 where
-  result : FitResult
-  is : o ≡ fitted result
-  told : summaryOf result ≡ x
+pub record Came (o : Outcome) (x : Summary) : Type 0 where
+  pub result : FitResult
+  pub is : o ≡ fitted result
+  pub told : summaryOf result ≡ x
 
-came : (o : Outcome) (x : Summary) → answerOf o ≡ Fit x → Came o x
+pub came : (o : Outcome) (x : Summary) → answerOf o ≡ Fit x → Came o x
 unfolding answerOf
 came (refused q) x e = impossible cc
 came (fitted f) x e = record { result = f; is = refl; told = (let h : summaryOf f ≡ x = cc in h) }
@@ -38,7 +38,7 @@ knots-told : (f : FitResult) (x : Summary) → summaryOf f ≡ x → length (f .
 unfolding summaryOf
 knots-told f x t = ap (λ (s : Summary). s .knots) t
 
-steps-told : (f : FitResult) (x : Summary) → summaryOf f ≡ x → f .numbers .«n_iter» ≡ x .«n_iter»
+pub steps-told : (f : FitResult) (x : Summary) → summaryOf f ≡ x → f .numbers .«n_iter» ≡ x .«n_iter»
 unfolding summaryOf
 steps-told f x t = ap (λ (s : Summary). s .«n_iter») t
 

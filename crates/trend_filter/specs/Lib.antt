@@ -1,5 +1,6 @@
--- The definitions that the contracts of trend_filter cite, and demand 3 of two calls.
+-- The definitions that the contracts of trend_filter cite, and demand 3 and the looser tolerance of two calls.
 pub mod Answers
 pub mod Calls
 pub mod TwoCalls
+pub mod Looser
 pub mod Inner
