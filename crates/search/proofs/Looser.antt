@@ -5,7 +5,7 @@ use native.Mathlib.Nat.{le-refl, le-of-eq, zero-mul, mul-zero, zero-lt-suc, mul-
 use native.Mathlib.Omega.{arith}
 use mathlib.Core.Bool.{Bool, true, false, not, cond, true≢false}
 use lib.IntN.{ℤ}
-use lib.Dec.{T, ltb, eqb, not-T, ltb→lt, lt→ltb, nltb→le, lit<}
+use lib.Dec.{T, ltb, eqb, T-not, not-T, ltb→lt, lt→ltb, lit<}
 use lib.Ieee.{Float, nan, inf, fin, Format, binary64, unlike, up, down, round, mul, lt, le, ofBits, isNan}
 use lib.Ieee.Bits.{is-true}
 use lib.Ieee.Fits.{up-pos, down-pos}
@@ -13,6 +13,7 @@ use lib.Ieee.Order.{le-of-values}
 use lib.Ieee.Scale.{round-same}
 use lib.Ieee.Positive.{positive, first-pos, cross→le, through, mul-mono}
 use Rattle.float64.specs.Helpers.{isFinite}
+use Rattle.float64.specs.Ops.{c0}
 use Rattle.search.specs.Search.{Problem, Point, Ended, startAt, enough, advance, run}
 use Rattle.search.specs.Demand3.{clear}
 use Rattle.search.specs.Looser.{finiteAbove0, notBelow0, LooserSearch}
@@ -77,31 +78,9 @@ zero-product f (fin false m e) s d p =
 same-test : (g x y z : Float) → x ≡ z → y ≡ z → T (le g x) → T (le g y)
 same-test g x y z e h = subst (λ (w : Float). T (le g w)) (e ∙ sym h)
 
--- finite and above 0 in the kit's word
-pub tol-positive : (x : Float) → T (finiteAbove0 x) → T (positive x)
-unfolding isFinite lt ofBits
-tol-positive nan t = t
-tol-positive (inf s) t = t
-tol-positive (fin true m d) t = t
-tol-positive (fin false m d) t =
-    let h = ltb→lt (0 * down d) (m * up d * 1) t in
-    lt→ltb 0 m (first-pos m (up d) (first-pos (m * up d) 1 (omega (arith, h))))
-
--- what has a clear sign, or is a NaN, is not below 0
-pub clear-not-below : (x : Float) → T (clear x) → T (notBelow0 x)
+minus-below-0 : (n : ℕ) (d : ℤ) → T (lt (fin true (suc n) d) c0)
 unfolding lt ofBits
-clear-not-below nan h = tt
-clear-not-below (inf true) h = absurd h
-clear-not-below (inf false) h = tt
-clear-not-below (fin true m e) h = absurd h
-clear-not-below (fin false m e) h = not-T (ltb (m * up e * 1) (0 * down e)) (λ t. let l = ltb→lt (m * up e * 1) (0 * down e) t in omega (arith, l))
-
-below-zero : (n : ℕ) (d : ℤ) → T (notBelow0 (fin true (suc n) d)) → ⊥
-unfolding lt ofBits
-below-zero n d h =
-    let a : 0 < suc n * up d * 1 = mul-pos (mul-pos (zero-lt-suc n) (up-pos d)) (lit< tt) in
-    let b : suc n * up d * 1 + 0 * down d ≤ 0 = nltb→le 0 _ h in
-    omega (arith, a, b)
+minus-below-0 n d = let h : 0 < suc n * up d * 1 = mul-pos (mul-pos (zero-lt-suc n) (up-pos d)) (lit< tt) in lt→ltb 0 (suc n * up d * 1 + 0 * down d) (omega (arith, h))
 
 -- b is the larger tolerance, g the gap; for a P above 0 the rounding is monotone
 pub enough-grows : (f : Format) (a b P g : Float) → T (positive a) → T (positive b) → T (notBelow0 P) → T (le a b) → T (le g (mul f a P)) → T (le g (mul f b P))
@@ -110,7 +89,7 @@ enough-grows f a b nan g p q h t u = same-test g _ _ _ (nan-product f a) (nan-pr
 enough-grows f a b (inf true) g p q h t u = absurd h
 enough-grows f a b (inf false) g p q h t u = same-test g _ _ _ (infinite-product f a p) (infinite-product f b q) u
 enough-grows f a b (fin s zero d) g p q h t u = same-test g _ _ _ (zero-product f a s d p) (zero-product f b s d q) u
-enough-grows f a b (fin true (suc n) d) g p q h t u = absurd (below-zero n d h)
+enough-grows f a b (fin true (suc n) d) g p q h t u = absurd (T-not (lt (fin true (suc n) d) c0) h (minus-below-0 n d))
 enough-grows f a b (fin false (suc n) d) g p q h t u =
     let P = fin false (suc n) d in
     let r = lt→ltb 0 (suc n) (zero-lt-suc n) in
@@ -135,6 +114,25 @@ module _ {S : Type 0} (L : Problem S) (tol looser : Float) (grows : (p : Point S
   sooner : {r : ℕ} {p : Point S} {e : Ended S} → Trace L tol r p e → run L looser r p .n-iter ≤ e .n-iter
   sooner {p = p} w = tested (enough L looser p) refl w (follows w)
 
+-- ---- what a tolerance and P are, in the words of demand 3
+pub tol-positive : (x : Float) → T (finiteAbove0 x) → T (positive x)
+unfolding isFinite lt ofBits
+tol-positive nan t = t
+tol-positive (inf s) t = t
+tol-positive (fin true m d) t = t
+tol-positive (fin false m d) t =
+    let h = ltb→lt (0 * down d) (m * up d * 1) t in
+    lt→ltb 0 m (first-pos m (up d) (first-pos (m * up d) 1 (omega (arith, h))))
+
+pub clear-not-below : (x : Float) → T (clear x) → T (notBelow0 x)
+unfolding lt ofBits
+clear-not-below nan h = tt
+clear-not-below (inf true) h = absurd h
+clear-not-below (inf false) h = tt
+clear-not-below (fin true m e) h = absurd h
+clear-not-below (fin false m e) h = not-T (ltb (m * up e * 1) (0 * down e)) (λ t. let l = ltb→lt (m * up e * 1) (0 * down e) t in omega (arith, l))
+
+-- ---- the whole
 pub looser-search : {S : Type 0} (L : Problem S) → LooserSearch L
 looser-search {S} L sign tol looser p q t max-iter s =
     let grows : (x : Point S) → enough L tol x ≡ true → enough L looser x ≡ true =
