@@ -3,11 +3,11 @@ use mathlib.Core.Path.{_≡_, refl, sym, ap, _∙_, subst}
 use Prim.Native.Nat.{ℕ, zero, suc, _+_, _*_, _≤_, _<_}
 use native.Mathlib.Nat.{le-refl, le-of-eq, zero-mul, mul-zero, zero-lt-suc, mul-pos}
 use native.Mathlib.Omega.{arith}
-use mathlib.Core.Bool.{Bool, true, false, not, cond, true≢false}
+use mathlib.Core.Bool.{Bool, true, false, not, true≢false}
 use lib.IntN.{ℤ}
-use lib.Dec.{T, ltb, eqb, T-not, not-T, ltb→lt, lt→ltb, lit<}
+use lib.Dec.{T, ltb, eqb, T-not, not-T, ltb→lt, lt→ltb, eqb→eq, lit<}
 use lib.Ieee.{Float, nan, inf, fin, Format, binary64, unlike, up, down, round, mul, lt, le, ofBits, isNan}
-use lib.Ieee.Bits.{is-true}
+use lib.Ieee.Bits.{is-true, cond-no}
 use lib.Ieee.Fits.{up-pos, down-pos}
 use lib.Ieee.Order.{le-of-values}
 use lib.Ieee.Scale.{round-same}
@@ -54,16 +54,12 @@ nan-product f nan = refl
 nan-product f (inf s) = refl
 nan-product f (fin s m e) = refl
 
-not-nan : (b : Bool) → T (atLeast0 (cond b nan (inf false))) → cond b nan (inf false) ≡ inf false
-not-nan true h = absurd h
-not-nan false h = refl
-
-infinite-product : (f : Format) (a : Float) → T (positive a) → mul f a (inf false) ≡ inf false
+infinite-product : (f : Format) (a : Float) (s : Bool) → T (positive a) → mul f a (inf s) ≡ inf (unlike false s)
 unfolding mul
-infinite-product f nan p = absurd p
-infinite-product f (inf s) p = absurd p
-infinite-product f (fin true m e) p = absurd p
-infinite-product f (fin false m e) p = not-nan (eqb m 0) (scaled f (fin false m e) (inf false) p tt)
+infinite-product f nan s p = absurd p
+infinite-product f (inf t) s p = absurd p
+infinite-product f (fin true m e) s p = absurd p
+infinite-product f (fin false m e) s p = cond-no (eqb m 0) nan (inf (unlike false s)) (not-T (eqb m 0) (λ z. omega (arith, ltb→lt 0 m p, eqb→eq m 0 z)))
 
 zero-product : (f : Format) (a : Float) (s : Bool) (d : ℤ) → T (positive a) → mul f a (fin s 0 d) ≡ round f (unlike false s) 0 1
 unfolding mul
@@ -84,10 +80,8 @@ minus-below-0 n d = let h : 0 < suc n * up d * 1 = mul-pos (mul-pos (zero-lt-suc
 
 -- b is the larger tolerance, g the gap; for a P above 0 the rounding is monotone
 pub enough-grows : (f : Format) (a b P g : Float) → T (positive a) → T (positive b) → T (notBelow0 P) → T (le a b) → T (le g (mul f a P)) → T (le g (mul f b P))
-unfolding lt ofBits
 enough-grows f a b nan g p q h t u = same-test g _ _ _ (nan-product f a) (nan-product f b) u
-enough-grows f a b (inf true) g p q h t u = absurd h
-enough-grows f a b (inf false) g p q h t u = same-test g _ _ _ (infinite-product f a p) (infinite-product f b q) u
+enough-grows f a b (inf s) g p q h t u = same-test g _ _ _ (infinite-product f a s p) (infinite-product f b s q) u
 enough-grows f a b (fin s zero d) g p q h t u = same-test g _ _ _ (zero-product f a s d p) (zero-product f b s d q) u
 enough-grows f a b (fin true (suc n) d) g p q h t u = absurd (T-not (lt (fin true (suc n) d) c0) h (minus-below-0 n d))
 enough-grows f a b (fin false (suc n) d) g p q h t u =
