@@ -4,6 +4,7 @@
 tests/fits holds TABLE-PLACE.case, a call of the fit, and TABLE-PLACE.exp, the Rust's answer (`oracle answers tests/fits`
 writes the answers; oracle/src/stored.rs says what stands where). Each becomes a row of a table, and each table a proof that the
 definition works out to the Rust's bits. What the proofs open is taken from crates/fit/proofs/Known.antt.
+Table 7 is pairs alike but for tol: docs/PROMISES.md, "A looser tolerance costs no more steps", says what each meets.
 
 Without a word the file is written; with --check it is only compared, and another text, or no case, is an error.
 """
