@@ -36,8 +36,10 @@ for crate, name in files:
     lines = [l.rstrip("\n") for l in open(path)]
     body = [l for i, l in enumerate(lines) if not l.startswith("use ") and not (l == "" and lines[i - 1].startswith("use "))]
     if name != "Known":
-        total += len(body) * ((crate, name) not in later)
-        added += len(body) * ((crate, name) in later)
+        if (crate, name) in later:
+            added += len(body)
+        else:
+            total += len(body)
         blank += sum(l == "" for l in body)
         print(f"{len(body):5} {path}")
     inside = ""

@@ -2,7 +2,7 @@
 use mathlib.Core.Path.{_≡_, refl, sym, ap, _∙_, subst}
 use Prim.Native.Nat.{ℕ, _≤_, _<_}
 use native.Mathlib.Omega.{arith}
-use mathlib.Core.Bool.{Bool, true, false, cond}
+use mathlib.Core.Bool.{Bool, true, false, cond, _&&_}
 use mathlib.Core.List.{List}
 use mathlib.Core.Option.{Option, none, some}
 use lib.Dec.{T, eqb, eqb→eq}
@@ -12,6 +12,7 @@ use Rattle.certificate.specs.Certificate.{Certificate}
 use Rattle.search.specs.Search.{Problem, Ended, small}
 use Rattle.search.specs.Bounds.{Bounded}
 use Rattle.search.specs.Demand3 as search
+use Rattle.search.specs.Looser.{finiteAbove0}
 use Rattle.search.proofs.Demand.{demand3, bounded-closed}
 use Rattle.search.proofs.Looser.{tol-positive}
 use Rattle.interior_point.specs.InteriorPoint.{State, problem, origin, interiorPoint}
@@ -21,7 +22,7 @@ use Rattle.questions.proofs.Laws as questions
 use Rattle.fit.specs.Fit.{Found, FitResult, Outcome, refused, fitted, places, closed, pathL2, pathZero, pathFlat, polished, searchOf, keptOf, pathEnd, pathL1, path, written, outcome, fit}
 use Rattle.fit.specs.Ways.{lamZero, lamHigh, soundDD}
 use Rattle.fit.specs.Demand3.{Bounds, withMaxIter, Demand3}
-use Rattle.fit.proofs.Sign.{tol-above, lam-positive, primal-clear}
+use Rattle.fit.proofs.Sign.{lam-positive, primal-clear}
 use Rattle.fit.proofs.Passed.{same-questions, fit-passed, outcome-some, passed}
 
 -- ---- the search of a fit
@@ -31,11 +32,15 @@ problemOf a = problem (a .order) (gramRow (a .order)) (a .y) (a .lam)
 abbrev Searches : Asked → Type 0
 Searches a = search.SearchDemand3 (problemOf a) (a .tol) (origin (places a))
 
+-- what questions 5 and 6 make sure of
+pub tol-passed : (a : Asked) (l : Lent) → questions.Passed a l → T (finiteAbove0 (a .tol))
+tol-passed a l q = subst T (sym (λ i. q .tol-finite i && q .tol-above i)) tt
+
+pub sign-passed : (a : Asked) (l : Lent) → questions.Passed a l → lamZero a ≡ false → (s : State) → T (search.clear (problemOf a .primal s))
+sign-passed a l q z = primal-clear (a .order) (gramRow (a .order)) (a .y) (a .lam) (lam-positive (a .lam) (q .lam-finite) (q .lam-not-below) z)
+
 searches : (a : Asked) (l : Lent) → questions.Passed a l → lamZero a ≡ false → Searches a
-searches a l q z =
-    demand3 (problemOf a) (a .tol) (tol-positive (a .tol) (tol-above (a .tol) (q .tol-finite) (q .tol-above)))
-    (primal-clear (a .order) (gramRow (a .order)) (a .y) (a .lam) (lam-positive (a .lam) (q .lam-finite) (q .lam-not-below) z))
-    (origin (places a))
+searches a l q z = demand3 (problemOf a) (a .tol) (tol-positive (a .tol) (tol-passed a l q)) (sign-passed a l q z) (origin (places a))
 
 -- ---- the numeric bounds
 
@@ -130,17 +135,34 @@ same-with false true m l2 o c x y h = refl
 same-with false false true l2 o c x y h = refl
 same-with false false false l2 o c x y h = ap some (h refl refl refl)
 
--- how many iterations a path reports
+-- how many iterations a path reports: the search's, and 0 on the other paths
 abbrev pub iterations : Option Found → ℕ
 iterations none = 0
 iterations (some f) = f .numbers .«n_iter»
 
+abbrev pub onPath : Asked → ℕ → ℕ
+onPath a n = cond (eqb (a .penalty) 2) 0 (cond (lamZero a) 0 (cond (lamHigh a) 0 n))
+
+l2-idle : (a : Asked) → iterations (pathL2 a) ≡ 0
+unfolding pathL2
+l2-idle a = go (soundL2 (a .order) (a .y) (a .lam)) _ refl
+  where
+    go : (b : Bool) (f : Found) → f .numbers .«n_iter» ≡ 0 → iterations (cond b (some f) none) ≡ 0
+    go true f e = e
+    go false f e = refl
+
+pub path-steps : (a : Asked) → iterations (path a) ≡ onPath a (searchOf a .n-iter)
+unfolding path pathL1 pathZero pathFlat pathEnd
+path-steps a = go (eqb (a .penalty) 2) (lamZero a) (lamHigh a)
+  where
+    go : (p z m : Bool) → iterations (cond p (pathL2 a) (some (cond z (pathZero a) (cond m (pathFlat a) (pathEnd a (searchOf a)))))) ≡ cond p 0 (cond z 0 (cond m 0 (searchOf a .n-iter)))
+    go true z m = l2-idle a
+    go false true m = refl
+    go false false true = refl
+    go false false false = refl
+
 end-steps : (a : Asked) (f : Found) → path a ≡ some f → eqb (a .penalty) 2 ≡ false → lamZero a ≡ false → lamHigh a ≡ false → searchOf a .n-iter ≡ f .numbers .«n_iter»
-unfolding pathEnd
-end-steps a f e p z m =
-    let x = pathEnd a (searchOf a) in
-    let q : path a ≡ some x = path-is a ∙ (λ i. cond (p i) (pathL2 a) (some (cond (z i) (pathZero a) (cond (m i) (pathFlat a) x)))) in
-    ap iterations (sym q ∙ e)
+end-steps a f e p z m = sym (path-steps a ∙ (λ i. cond (p i) 0 (cond (z i) 0 (cond (m i) 0 (searchOf a .n-iter))))) ∙ ap iterations e
 
 -- where n_iter is below the limit, a limit that is at least n_iter
 ends-alike : (a : Asked) (other n : ℕ) → Searches a → searchOf a .n-iter ≡ n → n < a .max-iter → n ≤ other → search.Alike (searchOf (withMaxIter other a)) (searchOf a)

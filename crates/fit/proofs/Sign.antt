@@ -1,7 +1,7 @@
--- Signs: a tolerance that passes question 6 is finite and above 0, a lam that passes question 5 and is no zero too, and then P is a NaN or has a clear sign.
+-- Signs: a lam that passes question 5 and is no zero is finite and above 0, and then P is a NaN or has a clear sign.
 use mathlib.Core.Path.{_≡_, sym, subst}
 use Prim.Native.Nat.{ℕ, zero, suc}
-use mathlib.Core.Bool.{Bool, true, false, not, _&&_, _||_}
+use mathlib.Core.Bool.{Bool, true, false, not, _||_}
 use mathlib.Core.List.{List}
 use lib.Dec.{T}
 use lib.ListN.{length}
@@ -14,12 +14,8 @@ use Rattle.vectors.specs.Sums.{sumTo, norm2Sq, sumAbs}
 use Rattle.differences.specs.Diff.{diffK, diffKT}
 use Rattle.certificate.specs.Certificate.{minus, certify}
 use Rattle.search.specs.Demand3.{clear}
-use Rattle.search.specs.Looser.{finiteAbove0}
 use Rattle.search.proofs.Clear.{add-clear, mul-clear, square-clear, awake}
 use Rattle.interior_point.specs.InteriorPoint.{State, problem}
-
-pub tol-above : (x : Float) → isFinite x ≡ true → lt c0 x ≡ true → T (finiteAbove0 x)
-tol-above x f l = subst T (sym (λ i. f i && l i)) tt
 
 finite-above : (x : Float) → isFinite x ≡ true → T (isNan x || above x) → T (positive x)
 unfolding isFinite isNan

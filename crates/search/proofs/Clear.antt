@@ -1,11 +1,12 @@
 -- Values whose sign is clear, and NaN: products of two, sums of two and squares are such values. And where a gap is not at most tol times such a primal objective, the gap is a NaN or above zero.
 use mathlib.Core.Path.{_≡_, sym, ap, _∙_, subst}
-use Prim.Native.Nat.{ℕ, zero, suc, _+_, _*_, _^_, _≤_, _<_}
-use native.Mathlib.Nat.{zero-mul, zero-lt-suc, lt-irrefl}
+use Prim.Native.Nat.{ℕ, zero, suc, _+_, _*_, _^_, _≤_}
+use native.Mathlib.Nat.{zero-mul, zero-lt-suc}
 use native.Mathlib.Omega.{arith}
 use mathlib.Core.Bool.{Bool, true, false, not, _&&_, _||_, cond, true≢false}
-use lib.Dec.{T, ltb, eqb, ltb→lt, nltb→le, lt→ltb, eqb→eq}
-use lib.Ieee.{Float, nan, inf, fin, Format, prec, emax, low, up, down, odd, units, round, add, sub, mul, le, isNan}
+use lib.Dec.{T, not-T, ltb, eqb, ltb→lt, nltb→le, lt→ltb, eqb→eq}
+use lib.Ieee.{Float, nan, inf, fin, Format, prec, emax, low, unlike, up, down, odd, units, round, add, sub, mul, le, isNan}
+use lib.Ieee.Bits.{cond-no}
 use lib.Ieee.Fits.{round-is, eq→eqb}
 use lib.Ieee.Exact.{HasValue, odd-sign}
 use lib.Ieee.Positive.{positive, above}
@@ -83,6 +84,14 @@ add-clear f (fin false m e) (fin true n d) h k = absurd k
 add-clear f (fin false m e) (fin false n d) h k = weaken (round f false (m * up e * down d + n * up d * down e) (down e * down d)) (round-clear f (m * up e * down d + n * up d * down e) (down e * down d))
 
 -- ---- the stopping test
+-- tol times an infinity is that infinity
+pub infinite-product : (f : Format) (a : Float) (s : Bool) → T (positive a) → mul f a (inf s) ≡ inf (unlike false s)
+unfolding mul
+infinite-product f nan s p = absurd p
+infinite-product f (inf t) s p = absurd p
+infinite-product f (fin true m e) s p = absurd p
+infinite-product f (fin false m e) s p = cond-no (eqb m 0) nan (inf (unlike false s)) (not-T (eqb m 0) (λ z. omega (arith, ltb→lt 0 m p, eqb→eq m 0 z)))
+
 -- tol times a clear value that is no NaN is such a value
 pub scaled : (f : Format) (tol P : Float) → T (positive tol) → T (atLeast0 P) → T (atLeast0 (mul f tol P))
 unfolding mul
@@ -91,11 +100,7 @@ scaled f (inf s) P p h = absurd p
 scaled f (fin true m e) P p h = absurd p
 scaled f (fin false m e) nan p h = h
 scaled f (fin false m e) (inf true) p h = absurd h
-scaled f (fin false m e) (inf false) p h = go (eqb m 0) (eqb→eq m 0)
-  where
-    go : (b : Bool) → (T b → m ≡ 0) → T (atLeast0 (cond b nan (inf false)))
-    go true z = lt-irrefl 0 (subst (λ (x : ℕ). 0 < x) (z tt) (ltb→lt 0 m p))
-    go false z = tt
+scaled f (fin false m e) (inf false) p h = subst (λ (x : Float). T (atLeast0 x)) (sym (infinite-product f (fin false m e) false p)) tt
 scaled f (fin false m e) (fin true n d) p h = absurd h
 scaled f (fin false m e) (fin false n d) p h = round-clear f (m * up e * (n * up d)) (down e * down d)
 

@@ -5,9 +5,9 @@ use native.Mathlib.Nat.{le-refl, le-of-eq, zero-mul, mul-zero, zero-lt-suc, mul-
 use native.Mathlib.Omega.{arith}
 use mathlib.Core.Bool.{Bool, true, false, not, true≢false}
 use lib.IntN.{ℤ}
-use lib.Dec.{T, ltb, eqb, T-not, not-T, ltb→lt, lt→ltb, eqb→eq, lit<}
+use lib.Dec.{T, ltb, T-not, not-T, ltb→lt, lt→ltb, lit<}
 use lib.Ieee.{Float, nan, inf, fin, Format, binary64, unlike, up, down, round, mul, lt, le, ofBits, isNan}
-use lib.Ieee.Bits.{is-true, cond-no}
+use lib.Ieee.Bits.{is-true}
 use lib.Ieee.Fits.{up-pos, down-pos}
 use lib.Ieee.Order.{le-of-values}
 use lib.Ieee.Scale.{round-same}
@@ -18,7 +18,7 @@ use Rattle.search.specs.Search.{Problem, Point, Ended, startAt, enough, 
 use Rattle.search.specs.Demand3.{clear}
 use Rattle.search.specs.Looser.{finiteAbove0, notBelow0, LooserSearch}
 use Rattle.search.proofs.Trace.{Trace, closes, spends, stalls, loses, gains, stays, trace, steps-grow, run-small, run-spent, run-stalled, run-lost, run-moved}
-use Rattle.search.proofs.Clear.{atLeast0, scaled, awake}
+use Rattle.search.proofs.Clear.{atLeast0, infinite-product, scaled, awake}
 use Rattle.search.proofs.Shrink.{lt-or-eq}
 
 -- ---- the order of three values, the last two not below 0
@@ -47,19 +47,12 @@ le-trans-clear (fin false l c) (fin false m e) (fin false n d) h k t u =
     le-of-values (fin false l c) (fin false n d) (l * up c) (down c) (n * up d) (down d) (down-pos c) (down-pos d) (refl, refl) (refl, refl)
     (through (l * up c) (m * up e) (n * up d) (down c) (down e) (down d) (down-pos e) (lt-or-eq (l * up c * down e) (m * up e * down c) t) (lt-or-eq (m * up e * down d) (n * up d * down e) u))
 
--- ---- tol·P for a P that is a NaN, an infinity or a zero: the same for every tol
+-- ---- tol·P for a P that is a NaN or a zero is the same for every tol, as it is for an infinity
 nan-product : (f : Format) (a : Float) → mul f a nan ≡ nan
 unfolding mul
 nan-product f nan = refl
 nan-product f (inf s) = refl
 nan-product f (fin s m e) = refl
-
-infinite-product : (f : Format) (a : Float) (s : Bool) → T (positive a) → mul f a (inf s) ≡ inf (unlike false s)
-unfolding mul
-infinite-product f nan s p = absurd p
-infinite-product f (inf t) s p = absurd p
-infinite-product f (fin true m e) s p = absurd p
-infinite-product f (fin false m e) s p = cond-no (eqb m 0) nan (inf (unlike false s)) (not-T (eqb m 0) (λ z. omega (arith, ltb→lt 0 m p, eqb→eq m 0 z)))
 
 zero-product : (f : Format) (a : Float) (s : Bool) (d : ℤ) → T (positive a) → mul f a (fin s 0 d) ≡ round f (unlike false s) 0 1
 unfolding mul
