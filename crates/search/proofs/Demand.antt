@@ -11,11 +11,15 @@ use lib.Ieee.{Float, nan, inf, fin, binary64, mul, lt, isNan, ofBits}
 use lib.Ieee.Fits.{sub-fits}
 use lib.Ieee.Positive.{positive, above}
 use Rattle.float64.specs.Ops.{c0·99}
-use Rattle.search.specs.Search.{Problem, Point, Ended, Reason, small, spent, stalled, pivot, gap, startAt, enough, improved, searched}
+use Rattle.search.specs.declared.Reason.{Reason}
+use Rattle.search.specs.declared.Reason.the-variants.{GapSmall, LimitSpent, Stalled, PivotLost}
+use Rattle.search.specs.Search.{Problem, Point, Ended, gap, startAt, enough, improved, searched}
 use Rattle.search.specs.Bounds.{units, Bounded}
-use Rattle.search.specs.Demand3.{BoundedEnd, Alike, SearchDemand3, clear}
+use Rattle.search.specs.Reasons.{atLimit}
+use Rattle.search.specs.Demand3.{BoundedEnd, retold, SearchDemand3, clear}
 use Rattle.search.proofs.Trace.{Trace, closes, spends, stalls, loses, gains, stays, trace, traced, steps-grow, steps-within, first-stays, idle}
 use Rattle.search.proofs.Falls.{Falls, here, lower, finite-of, falls-whole, few-improvements}
+use Rattle.float64.proofs.Clash.{impossible}
 use Rattle.search.proofs.Clear.{goes-on}
 
 is-on : (b : Bool) → b ≡ true → T b
@@ -84,57 +88,63 @@ module _ {S : Type 0} (L : Problem S) (tol : Float) (tol-pos : T (positive tol))
   steps-few max-iter s = let h = within-ten max-iter s in let g = gains-few max-iter s in omega arith
 
 -- ---- the same search under another limit
-abbrev retold : {S : Type 0} → Ended S → Reason → Ended S
-retold e r = record { state = e .state; n-iter = e .n-iter; first = e .first; best = e .best; improvements = e .improvements; reason = r }
-
-record Again {S : Type 0} (L : Problem S) (tol : Float) (k : ℕ) (p : Point S) (e : Ended S) : Type 0 where
-  why : Reason
-  goes : Trace L tol k p (retold e why)
-
 module _ {S : Type 0} {L : Problem S} {tol : Float} where
-  -- a limit that is at least where it ended: the same but for the reason
-  again : {r : ℕ} {p : Point S} {e : Ended S} (k : ℕ) → Trace L tol r p e → e .n-iter < p .n-iter + r → e .n-iter ≤ p .n-iter + k → Again L tol k p e
-  again k (closes r p s) h g = record { why = small; goes = closes k p s }
-  again k (spends p s) h g = absurd (omega arith)
-  again zero (stalls r p s n) h g = record { why = spent; goes = spends p s }
-  again (suc k) (stalls r p s n) h g = record { why = stalled; goes = stalls k p s n }
-  again zero (loses r p s n m) h g = absurd (omega arith)
-  again (suc k) (loses r p s n m) h g = record { why = pivot; goes = loses k p s n m }
-  again zero (gains t s n m b tr) h g = let z = steps-grow tr in absurd (omega arith)
-  again (suc k) (gains t s n m b tr) h g = let a = again k tr (omega arith) (omega arith) in record { why = a .why; goes = gains t s n m b (a .goes) }
-  again zero (stays t s n m b tr) h g = let z = steps-grow tr in absurd (omega arith)
-  again (suc k) (stays t s n m b tr) h g = let a = again k tr (omega arith) (omega arith) in record { why = a .why; goes = stays t s n m b (a .goes) }
+  -- a spent limit: every iteration that it allows was made
+  all-made : {r : ℕ} {p : Point S} {e : Ended S} → Trace L tol r p e → e .reason ≡ LimitSpent → e .n-iter ≡ p .n-iter + r
+  all-made (closes r p s) q = impossible cc
+  all-made (spends p s) q = omega arith
+  all-made (stalls r p s n) q = impossible cc
+  all-made (loses r p s n m) q = impossible cc
+  all-made (gains t s n m b tr) q = let h = all-made tr q in omega arith
+  all-made (stays t s n m b tr) q = let h = all-made tr q in omega arith
 
   -- a limit above where it ended: the same
-  beyond : {r : ℕ} {p : Point S} {e : Ended S} (k : ℕ) → Trace L tol r p e → e .n-iter < p .n-iter + r → e .n-iter < p .n-iter + k → Trace L tol k p e
+  beyond : {r : ℕ} {p : Point S} {e : Ended S} (k : ℕ) → Trace L tol r p e → (e .reason ≡ LimitSpent → ⊥) → e .n-iter < p .n-iter + k → Trace L tol k p e
   beyond k (closes r p s) h g = closes k p s
-  beyond k (spends p s) h g = absurd (omega arith)
+  beyond k (spends p s) h g = absurd (h refl)
   beyond zero (stalls r p s n) h g = absurd (omega arith)
   beyond (suc k) (stalls r p s n) h g = stalls k p s n
   beyond zero (loses r p s n m) h g = absurd (omega arith)
   beyond (suc k) (loses r p s n m) h g = loses k p s n m
   beyond zero (gains t s n m b tr) h g = let z = steps-grow tr in absurd (omega arith)
-  beyond (suc k) (gains t s n m b tr) h g = gains t s n m b (beyond k tr (omega arith) (omega arith))
+  beyond (suc k) (gains t s n m b tr) h g = gains t s n m b (beyond k tr h (omega arith))
   beyond zero (stays t s n m b tr) h g = let z = steps-grow tr in absurd (omega arith)
-  beyond (suc k) (stays t s n m b tr) h g = stays t s n m b (beyond k tr (omega arith) (omega arith))
+  beyond (suc k) (stays t s n m b tr) h g = stays t s n m b (beyond k tr h (omega arith))
 
-module _ {S : Type 0} (L : Problem S) (tol : Float) where
-  pub same-end : (max-iter other : ℕ) (s : S) → searched L tol max-iter s .n-iter < max-iter → searched L tol max-iter s .n-iter ≤ other → Alike (searched L tol other s) (searched L tol max-iter s)
-  same-end max-iter other s h g =
-      let a = again other (trace L tol max-iter (startAt L s)) (omega (arith, h)) (omega (arith, g)) in
-      let q : searched L tol other s ≡ retold (searched L tol max-iter s) (a .why) = traced L tol (a .goes) in
-      record { state = ap (λ (e : Ended S). e .state) q; n-iter = ap (λ (e : Ended S). e .n-iter) q; first = ap (λ (e : Ended S). e .first) q; best = ap (λ (e : Ended S). e .best) q; improvements = ap (λ (e : Ended S). e .improvements) q }
+  -- a limit that is just where it ended: the same but for the reason
+  exactly : {r : ℕ} {p : Point S} {e : Ended S} (k : ℕ) → Trace L tol r p e → (e .reason ≡ LimitSpent → ⊥) → e .n-iter ≡ p .n-iter + k → Trace L tol k p (retold e (atLimit (e .reason)))
+  exactly k (closes r p s) h g = closes k p s
+  exactly k (spends p s) h g = absurd (h refl)
+  exactly zero (stalls r p s n) h g = spends p s
+  exactly (suc k) (stalls r p s n) h g = absurd (omega arith)
+  exactly zero (loses r p s n m) h g = absurd (omega arith)
+  exactly (suc k) (loses r p s n m) h g = loses k p s n m
+  exactly zero (gains t s n m b tr) h g = let z = steps-grow tr in absurd (omega arith)
+  exactly (suc k) (gains t s n m b tr) h g = gains t s n m b (exactly k tr h (omega arith))
+  exactly zero (stays t s n m b tr) h g = let z = steps-grow tr in absurd (omega arith)
+  exactly (suc k) (stays t s n m b tr) h g = stays t s n m b (exactly k tr h (omega arith))
 
-  pub same-reason : (max-iter other : ℕ) (s : S) → searched L tol max-iter s .n-iter < max-iter → searched L tol max-iter s .n-iter < other → searched L tol other s ≡ searched L tol max-iter s
-  same-reason max-iter other s h g = traced L tol (beyond other (trace L tol max-iter (startAt L s)) (omega (arith, h)) (omega (arith, g)))
+module _ {S : Type 0} (L : Problem S) (tol : Float) (s : S) where
+  spent : (max-iter : ℕ) → searched L tol max-iter s .reason ≡ LimitSpent → searched L tol max-iter s .n-iter ≡ max-iter
+  spent max-iter q = let h = all-made (trace L tol max-iter (startAt L s)) q in omega arith
+
+  alike : (max-iter other : ℕ) → (searched L tol max-iter s .reason ≡ LimitSpent → ⊥) → searched L tol max-iter s .n-iter < other → searched L tol other s ≡ searched L tol max-iter s
+  alike max-iter other h g = traced L tol (beyond other (trace L tol max-iter (startAt L s)) h (omega (arith, g)))
+
+  at-limit : (max-iter : ℕ) → (searched L tol max-iter s .reason ≡ LimitSpent → ⊥)
+      → searched L tol (searched L tol max-iter s .n-iter) s ≡ retold (searched L tol max-iter s) (atLimit (searched L tol max-iter s .reason))
+  at-limit max-iter h = traced L tol (exactly (searched L tol max-iter s .n-iter) (trace L tol max-iter (startAt L s)) h (omega arith))
 
 -- ---- the whole
 pub demand3 : {S : Type 0} (L : Problem S) (tol : Float) → T (positive tol) → ((s : S) → T (clear (L .primal s))) → (s : S) → SearchDemand3 L tol s
 demand3 L tol p q s = record {
   bounded = λ max-iter. bounded L tol p q max-iter s;
-  alike = λ max-iter other. same-end L tol max-iter other s;
-  reason = λ max-iter other. same-reason L tol max-iter other s;
-  settled = λ max-iter other h g. let k = steps-few L tol p q max-iter s in same-reason L tol max-iter other s (omega arith) (omega arith);
+  spent = spent L tol s;
+  alike = alike L tol s;
+  at-limit = at-limit L tol s;
+  settled = λ max-iter other h g.
+      let k = steps-few L tol p q max-iter s in
+      alike L tol s max-iter other (λ e. let z = spent L tol s max-iter e in absurd (omega arith)) (omega arith);
 }
 
 -- the closed paths: no iteration, no improvement, and the first and best gap are the gap, whatever it is

@@ -9,11 +9,13 @@ use lib.Dec.{T, T-not, eqb, lit≤}
 use lib.Arith.{le-of-le-suc-ne}
 use lib.Ieee.Fits.{eq→eqb}
 use lib.Ieee.{Float}
-use Rattle.search.specs.Search.{Turn, lost, moved, Problem, Point, Ended, small, spent, stalled, pivot, Next, stop, go, gap, ended, enough, stuck, improved, advance, turned, iterate, run}
+use Rattle.search.specs.declared.Reason.{Reason}
+use Rattle.search.specs.declared.Reason.the-variants.{GapSmall, LimitSpent, Stalled, PivotLost}
+use Rattle.search.specs.Search.{Turn, lost, moved, Problem, Point, Ended, Next, stop, go, gap, ended, enough, stuck, improved, advance, turned, iterate, run}
 
 -- the end of an iteration that a bad pivot ends
 abbrev pub afterLoss : {S : Type 0} → Point S → Ended S
-afterLoss p = record { state = p .state; n-iter = suc (p .n-iter); first = p .first; best = p .best; improvements = p .improvements; reason = pivot }
+afterLoss p = record { state = p .state; n-iter = suc (p .n-iter); first = p .first; best = p .best; improvements = p .improvements; reason = PivotLost }
 
 -- ---- one equation for each way an iteration can go
 abbrev follow : {S : Type 0} → Problem S → Float → ℕ → Next S → Ended S
@@ -29,34 +31,34 @@ module _ {S : Type 0} (L : Problem S) (tol : Float) where
       same (stop e) = refl
       same (go q) = refl
 
-  run-zero : (p : Point S) → run L tol zero p ≡ ended p (cond (enough L tol p) small spent)
+  run-zero : (p : Point S) → run L tol zero p ≡ ended p (cond (enough L tol p) GapSmall LimitSpent)
   unfolding run
   run-zero p = refl
 
-  small-next : (p : Point S) → enough L tol p ≡ true → iterate L tol p ≡ stop (ended p small)
+  small-next : (p : Point S) → enough L tol p ≡ true → iterate L tol p ≡ stop (ended p GapSmall)
   unfolding iterate
-  small-next p e = ap (λ (b : Bool). cond b (stop (ended p small)) (cond (stuck p) (stop (ended p stalled)) (turned L p (L .move (gap L (p .state)) (p .state))))) e
+  small-next p e = ap (λ (b : Bool). cond b (stop (ended p GapSmall)) (cond (stuck p) (stop (ended p Stalled)) (turned L p (L .move (gap L (p .state)) (p .state))))) e
 
-  wide-next : (p : Point S) (b : Bool) → enough L tol p ≡ false → stuck p ≡ b → iterate L tol p ≡ cond b (stop (ended p stalled)) (turned L p (L .move (gap L (p .state)) (p .state)))
+  wide-next : (p : Point S) (b : Bool) → enough L tol p ≡ false → stuck p ≡ b → iterate L tol p ≡ cond b (stop (ended p Stalled)) (turned L p (L .move (gap L (p .state)) (p .state)))
   unfolding iterate
   wide-next p b e f =
-      ap (λ (x : Bool). cond x (stop (ended p small)) (cond (stuck p) (stop (ended p stalled)) (turned L p (L .move (gap L (p .state)) (p .state))))) e
-      ∙ ap (λ (x : Bool). cond x (stop (ended p stalled)) (turned L p (L .move (gap L (p .state)) (p .state)))) f
+      ap (λ (x : Bool). cond x (stop (ended p GapSmall)) (cond (stuck p) (stop (ended p Stalled)) (turned L p (L .move (gap L (p .state)) (p .state))))) e
+      ∙ ap (λ (x : Bool). cond x (stop (ended p Stalled)) (turned L p (L .move (gap L (p .state)) (p .state)))) f
 
   turn-next : (r : ℕ) (p : Point S) (x : Turn S) → enough L tol p ≡ false → stuck p ≡ false → L .move (gap L (p .state)) (p .state) ≡ x → run L tol (suc r) p ≡ follow L tol r (turned L p x)
   turn-next r p x e f m = run-next r p ∙ ap (follow L tol r) (wide-next p false e f) ∙ ap (λ (y : Turn S). follow L tol r (turned L p y)) m
 
   -- the gap is small enough: whatever the limit allows
-  pub run-small : (r : ℕ) (p : Point S) → enough L tol p ≡ true → run L tol r p ≡ ended p small
-  run-small zero p e = run-zero p ∙ ap (λ (b : Bool). ended p (cond b small spent)) e
+  pub run-small : (r : ℕ) (p : Point S) → enough L tol p ≡ true → run L tol r p ≡ ended p GapSmall
+  run-small zero p e = run-zero p ∙ ap (λ (b : Bool). ended p (cond b GapSmall LimitSpent)) e
   run-small (suc r) p e = run-next r p ∙ ap (follow L tol r) (small-next p e)
 
   -- the limit allows no more
-  pub run-spent : (p : Point S) → enough L tol p ≡ false → run L tol zero p ≡ ended p spent
-  run-spent p e = run-zero p ∙ ap (λ (b : Bool). ended p (cond b small spent)) e
+  pub run-spent : (p : Point S) → enough L tol p ≡ false → run L tol zero p ≡ ended p LimitSpent
+  run-spent p e = run-zero p ∙ ap (λ (b : Bool). ended p (cond b GapSmall LimitSpent)) e
 
   -- the stall count is 10
-  pub run-stalled : (r : ℕ) (p : Point S) → enough L tol p ≡ false → stuck p ≡ true → run L tol (suc r) p ≡ ended p stalled
+  pub run-stalled : (r : ℕ) (p : Point S) → enough L tol p ≡ false → stuck p ≡ true → run L tol (suc r) p ≡ ended p Stalled
   run-stalled r p e f = run-next r p ∙ ap (follow L tol r) (wide-next p true e f)
 
   -- a bad pivot
@@ -69,9 +71,9 @@ module _ {S : Type 0} (L : Problem S) (tol : Float) where
 
 -- ---- the trace
 pub data Trace {S : Type 0} (L : Problem S) (tol : Float) : ℕ → Point S → Ended S → Type 0 where
-  closes : (r : ℕ) (p : Point S) → enough L tol p ≡ true → Trace L tol r p (ended p small)
-  spends : (p : Point S) → enough L tol p ≡ false → Trace L tol zero p (ended p spent)
-  stalls : (r : ℕ) (p : Point S) → enough L tol p ≡ false → stuck p ≡ true → Trace L tol (suc r) p (ended p stalled)
+  closes : (r : ℕ) (p : Point S) → enough L tol p ≡ true → Trace L tol r p (ended p GapSmall)
+  spends : (p : Point S) → enough L tol p ≡ false → Trace L tol zero p (ended p LimitSpent)
+  stalls : (r : ℕ) (p : Point S) → enough L tol p ≡ false → stuck p ≡ true → Trace L tol (suc r) p (ended p Stalled)
   loses : (r : ℕ) (p : Point S) → enough L tol p ≡ false → stuck p ≡ false → L .move (gap L (p .state)) (p .state) ≡ lost → Trace L tol (suc r) p (afterLoss p)
   gains : {r : ℕ} {p : Point S} {e : Ended S} (t : S) → enough L tol p ≡ false → stuck p ≡ false → L .move (gap L (p .state)) (p .state) ≡ moved t → improved L p t ≡ true → Trace L tol r (advance L p t true) e → Trace L tol (suc r) p e
   stays : {r : ℕ} {p : Point S} {e : Ended S} (t : S) → enough L tol p ≡ false → stuck p ≡ false → L .move (gap L (p .state)) (p .state) ≡ moved t → improved L p t ≡ false → Trace L tol r (advance L p t false) e → Trace L tol (suc r) p e
@@ -89,7 +91,7 @@ module _ {S : Type 0} (L : Problem S) (tol : Float) where
   by-turn r p (moved t) e f m ih = by-improved r p t (improved L p t) e f m refl (ih (advance L p t (improved L p t)))
 
   by-stall : (r : ℕ) (p : Point S) (b : Bool) → enough L tol p ≡ false → stuck p ≡ b
-      → ((q : Point S) → Trace L tol r q (run L tol r q)) → Trace L tol (suc r) p (follow L tol r (cond b (stop (ended p stalled)) (turned L p (L .move (gap L (p .state)) (p .state)))))
+      → ((q : Point S) → Trace L tol r q (run L tol r q)) → Trace L tol (suc r) p (follow L tol r (cond b (stop (ended p Stalled)) (turned L p (L .move (gap L (p .state)) (p .state)))))
   by-stall r p true e f ih = stalls r p e f
   by-stall r p false e f ih = by-turn r p (L .move (gap L (p .state)) (p .state)) e f refl ih
 

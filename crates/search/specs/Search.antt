@@ -4,6 +4,8 @@ use mathlib.Core.Bool.{Bool, true, false, cond}
 use lib.Dec.{eqb}
 use lib.Ieee.{Float, lt, le}
 use Rattle.float64.specs.Ops.{_⊖_, _⊗_, c0·99}
+use Rattle.search.specs.declared.Reason.{Reason}
+use Rattle.search.specs.declared.Reason.the-variants.{GapSmall, LimitSpent, Stalled, PivotLost}
 
 -- what an iteration does to the state: a bad pivot loses it
 pub data Turn (S : Type 0) : Type 0 where
@@ -33,14 +35,7 @@ pub record Point (S : Type 0) : Type 0 where
   pub improvements : ℕ
   pub stall : ℕ
 
--- how it ended: the gap is small enough, max-iter is spent, it stalled, or a pivot was lost
-pub data Reason : Type 0 where
-  small : Reason
-  spent : Reason
-  stalled : Reason
-  pivot : Reason
-
--- where it ended
+-- where it ended, and why
 pub record Ended (S : Type 0) : Type 0 where
   pub state : S
   pub n-iter : ℕ
@@ -81,16 +76,16 @@ pub data Next (S : Type 0) : Type 0 where
 
 -- an iteration: it counts also where a bad pivot ends it
 abbrev pub turned : {S : Type 0} → Problem S → Point S → Turn S → Next S
-turned L p lost = stop (record { state = p .state; n-iter = suc (p .n-iter); first = p .first; best = p .best; improvements = p .improvements; reason = pivot })
+turned L p lost = stop (record { state = p .state; n-iter = suc (p .n-iter); first = p .first; best = p .best; improvements = p .improvements; reason = PivotLost })
 turned L p (moved t) = go (advance L p t (improved L p t))
 
 -- before each iteration that max-iter allows: is the gap small enough, and else, is the stall count 10
 unfoldable pub iterate : {S : Type 0} → Problem S → Float → Point S → Next S
-iterate L tol p = cond (enough L tol p) (stop (ended p small)) (cond (stuck p) (stop (ended p stalled)) (turned L p (L .move (gap L (p .state)) (p .state))))
+iterate L tol p = cond (enough L tol p) (stop (ended p GapSmall)) (cond (stuck p) (stop (ended p Stalled)) (turned L p (L .move (gap L (p .state)) (p .state))))
 
 -- r is how many iterations max-iter still allows
 unfoldable pub run : {S : Type 0} → Problem S → Float → ℕ → Point S → Ended S
-run L tol zero p = ended p (cond (enough L tol p) small spent)
+run L tol zero p = ended p (cond (enough L tol p) GapSmall LimitSpent)
 run L tol (suc r) p = elim (iterate L tol p) [ stop e ↦ e | go q ↦ run L tol r q ]
 
 -- the whole search from the state s
