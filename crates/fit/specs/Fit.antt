@@ -16,6 +16,7 @@ use Rattle.gram.specs.Gram.{gram, zstar, lamMax}
 use Rattle.certificate.specs.Certificate.{Certificate, certify, gapOf, minus}
 use Rattle.decomposition.specs.Knots.{knots}
 use Rattle.decomposition.specs.Outputs.{Outputs, outputs}
+use Rattle.search.specs.declared.Reason.the-variants.{ClosedPath}
 use Rattle.search.specs.Search.{Ended}
 use Rattle.interior_point.specs.InteriorPoint.{State, interiorPoint}
 use Rattle.polish.specs.Polish.{polish}
@@ -53,9 +54,9 @@ lamMaxOf a = lamMax (a .order) (gramRow (a .order)) (places a) (a .y)
 abbrev pub certificateAt : Asked → List Float → Certificate
 certificateAt a z = certify (a .order) (a .y) (a .lam) z
 
--- the numbers of a closed path: converged true, n_iter 0, improvements 0, first and best gap equal gap
+-- the numbers of a closed path: converged true, n_iter 0, improvements 0, first and best gap equal gap; no search was made
 abbrev pub closed : Float → Float → Numbers
-closed gap objective = record { gap = gap; «first_gap» = gap; «best_gap» = gap; objective = objective; «n_iter» = 0; improvements = 0; converged = true }
+closed gap objective = record { gap = gap; «first_gap» = gap; «best_gap» = gap; objective = objective; «n_iter» = 0; improvements = 0; converged = true; reason = ClosedPath }
 
 -- L2; none where a pivot of its system is bad
 unfoldable pub pathL2 : Asked → Option Found
@@ -103,6 +104,7 @@ pathEnd a e =
         «n_iter» = e .n-iter;
         improvements = e .improvements;
         converged = le (gapOf c) (a .tol ⊗ c .primal);
+        reason = e .reason;
       };
     }
 

@@ -8,6 +8,7 @@ use lib.Dec.{T}
 use lib.ListN.{length}
 use lib.Ieee.{Float, binary64, neg, nan, ofBits, ofInt}
 use Rattle.square_root.specs.Sqrt.{sqrtOf}
+use Rattle.search.specs.declared.Reason.the-variants.{ClosedPath}
 use Rattle.questions.specs.Questions.{Asked, Lent, oneOrTwo, workPlaces, marksPlaces}
 use Rattle.fit.specs.Fit.{Outcome, refused, fitted, fit}
 
@@ -41,7 +42,7 @@ roomFor n = record { trend = n; cycle = n; knots = n; work = workPlaces n; marks
 
 -- the outcome of a closed path whose three gaps are 0: no iteration and no improvement
 abbrev pub flat : List Float → List Float → List ℕ → Float → Float → Outcome
-flat trend cycle knots lam-max objective = fitted (record { trend = trend; cycle = cycle; knots = knots; lam-max = lam-max; numbers = record { gap = whole 0; «first_gap» = whole 0; «best_gap» = whole 0; objective = objective; «n_iter» = 0; improvements = 0; converged = true } })
+flat trend cycle knots lam-max objective = fitted (record { trend = trend; cycle = cycle; knots = knots; lam-max = lam-max; numbers = record { gap = whole 0; «first_gap» = whole 0; «best_gap» = whole 0; objective = objective; «n_iter» = 0; improvements = 0; converged = true; reason = ClosedPath } })
 
 -- three zeros
 abbrev pub zeros : List Float

@@ -2,5 +2,7 @@
 pub mod Fit
 pub mod Ways
 pub mod Known
+pub mod Reasons
 pub mod Demand3
+pub mod Lasting
 pub mod Looser

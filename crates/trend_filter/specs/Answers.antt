@@ -33,7 +33,7 @@ lent b = lending (length (b .out .trend)) (length (b .out .cycle)) (length (b .o
 
 -- the numbers as a caller is told them, with how many knots there are and lam_max
 abbrev pub summed : Numbers → ℕ → Float → Summary
-summed s knots lam-max = record { knots = knots; «lam_max» = lam-max; gap = s .gap; «first_gap» = s .«first_gap»; «best_gap» = s .«best_gap»; objective = s .objective; «n_iter» = s .«n_iter»; improvements = s .improvements; converged = s .converged }
+summed s knots lam-max = record { knots = knots; «lam_max» = lam-max; gap = s .gap; «first_gap» = s .«first_gap»; «best_gap» = s .«best_gap»; objective = s .objective; «n_iter» = s .«n_iter»; improvements = s .improvements; converged = s .converged; reason = s .reason }
 
 -- a fit's numbers
 unfoldable pub summaryOf : FitResult → Summary

@@ -4,6 +4,7 @@ use mathlib.Core.Bool.{cond}
 use mathlib.Core.List.{List, [], _∷_}
 use Prim.Native.Nat.{ℕ}
 use lib.Ieee.{Float}
+use Rattle.search.specs.Reasons.{reasonNumber}
 use Rattle.questions.specs.Questions.{Asked}
 use Rattle.trend_filter.specs.Answers.{Buffers, Answered}
 use Rattle.trend_filter.specs.declared.Summary.{Summary}
@@ -14,9 +15,9 @@ use Rattle.trend_filter.specs.declared.Answer.the-variants.{Fit, Refused
 abbrev pub numbersOf : Summary → List Float
 numbersOf s = s .«lam_max» ∷ s .gap ∷ s .«first_gap» ∷ s .«best_gap» ∷ s .objective ∷ []
 
--- its four counts, the last 1 if it converged and else 0
+-- its five counts, the fourth 1 if it converged and else 0, the last the number of its reason
 abbrev pub countsOf : Summary → List ℕ
-countsOf s = s .knots ∷ s .«n_iter» ∷ s .improvements ∷ cond (s .converged) 1 0 ∷ []
+countsOf s = s .knots ∷ s .«n_iter» ∷ s .improvements ∷ cond (s .converged) 1 0 ∷ reasonNumber (s .reason) ∷ []
 
 -- 0 for a fit, else the refusal's number
 abbrev pub codeOf : Answer → ℕ

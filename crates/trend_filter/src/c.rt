@@ -14,7 +14,7 @@ fn one_if(b: bool) -> u64
 }
 
 // The answer as a number, with a fit's numbers and counts.
-fn tell(numbers: &mut [f64; 5], counts: &mut [u64; 4], a: Answer) -> u32
+fn tell(numbers: &mut [f64; 5], counts: &mut [u64; 5], a: Answer) -> u32
     ensures { λ r. ⌜ Told a r (now (numbers .entry)) (now (numbers .exit)) (now (counts .entry)) (now (counts .exit)) ⌝ }
 {
     match a {
@@ -22,13 +22,14 @@ fn tell(numbers: &mut [f64; 5], counts: &mut [u64; 4], a: Answer) -> u32
         Answer::Fit(s) => {
             let c = one_if(s.converged);
             *numbers = [s.lam_max, s.gap, s.first_gap, s.best_gap, s.objective];
-            *counts = [s.knots as u64, s.n_iter, s.improvements, c];
+            let why = search::number(s.reason);
+            *counts = [s.knots as u64, s.n_iter, s.improvements, c, why];
             0
         }
     }
 }
 
-// numbers are lam_max, gap, first gap, best gap and objective; counts are knots, n_iter, improvements and converged (0 or 1).
+// numbers are lam_max, gap, first gap, best gap and objective; counts are knots, n_iter, improvements, converged (0 or 1) and the reason (0 to 4).
 #[no_mangle]
 pub extern "C" fn trend_filter_fit(
     y: &[f64],
@@ -43,7 +44,7 @@ pub extern "C" fn trend_filter_fit(
     work: &mut [f64],
     marks: &mut [u32],
     numbers: &mut [f64; 5],
-    counts: &mut [u64; 4],
+    counts: &mut [u64; 5],
 ) -> u32
     ensures { λ r. ⌜ Called (asking (now (y .entry)) lam tol «max_iter» order penalty) r
         (buffers (now (trend .entry)) (now (cycle .entry)) (now (knots .entry)) (now (work .entry)) (now (marks .entry)))

@@ -3,6 +3,7 @@ pub mod c;
 
 use prepared_fit::Begun;
 use prepared_fit::Written;
+use search::Reason;
 ghost use mathlib.Core.Path.{_≡_};
 ghost use Rattle.questions.specs.Asking.{asking};
 ghost use Rattle.trend_filter.specs.Answers.{buffers, Answered};
@@ -26,6 +27,7 @@ pub struct Summary {
     pub n_iter: u64,
     pub improvements: u64,
     pub converged: bool,
+    pub reason: Reason,
 }
 
 // A fit with its numbers, or a refusal's number.
@@ -52,6 +54,7 @@ fn told(w: Written, lam_max: f64) -> Answer
                 n_iter: s.n_iter,
                 improvements: s.improvements,
                 converged: s.converged,
+                reason: s.reason,
             })
         }
     }
