@@ -1,6 +1,6 @@
 -- How the code's account follows the definition of the search. Assumes nothing.
 use mathlib.Core.Path.{_≡_, refl, sym, ap, _∙_}
-use mathlib.Core.Bool.{Bool, true, false, cond, not}
+use mathlib.Core.Bool.{Bool, true, false, cond}
 use mathlib.Core.List.{List}
 use Prim.Native.Nat.{ℕ, suc, _+_, _-_, _≤_, _<_}
 use native.Mathlib.Numerals.{add-one}
@@ -9,7 +9,7 @@ use borrow.Author.Tests.{ltb-true, ltb-false}
 use lib.Dec.{eqb, ltb}
 use lib.ListN.{length}
 use lib.Ieee.{Float, nan, lt, le}
-use Rattle.float64.proofs.Clash.{clash, impossible}
+use Rattle.float64.proofs.Clash.{impossible}
 use Rattle.float64.specs.Ops.{_⊖_, _⊗_, _⊘_, c0, c0·99, c1, c1e-10, infinity}
 use Rattle.vectors.specs.Vec.{at}
 use Rattle.vectors.specs.Parts.{Kept, partOf, part, Written}
@@ -18,7 +18,9 @@ use Rattle.vectors.proofs.Parts.{length-part, part-below, part-above}
 use Rattle.differences.specs.Diff.{diffK, gramRow}
 use Rattle.banded.specs.Rows.{sound}
 use Rattle.certificate.specs.Certificate.{certify, gapOf}
-use Rattle.search.specs.Search.{lost, moved, Problem, Point, Ended, Reason, small, spent, stalled, pivot, gap, ended, enough, improved, advance, startAt, run}
+use Rattle.search.specs.declared.Reason.{Reason}
+use Rattle.search.specs.declared.Reason.the-variants.{GapSmall, LimitSpent, Stalled, PivotLost}
+use Rattle.search.specs.Search.{lost, moved, Problem, Point, Ended, gap, ended, enough, improved, advance, startAt, run}
 use Rattle.search.proofs.Trace.{run-small, run-spent, run-stalled, run-lost, run-moved, idle-room}
 use Rattle.dual_point.specs.Dual.{Dual}
 use Rattle.newton_system.specs.Newton.{system}
@@ -31,9 +33,9 @@ use Rattle.newton_step.specs.Stepped.{stepArea, stepOf, Stepped}
 use Rattle.newton_step.specs.declared.Step.{Step}
 use Rattle.newton_step.specs.declared.Step.the-variants.{Lost, Moved}
 use Rattle.interior_point.specs.InteriorPoint.{State, nextT, move, problem, origin, interiorPoint}
-use Rattle.interior_point.specs.Account.{landed}
-use Rattle.interior_point.specs.Account.{stateOf, pointOf, Standing, Started, leftOf, goes, improves, lostRun, Settled, Turned, searchOf, Found}
+use Rattle.interior_point.specs.Account.{landed, stateOf, pointOf, Standing, Started, leftOf, testBy, testOf, improves, lostRun, Settled, Turned, searchOf, Found}
 use Rattle.interior_point.specs.declared.Run.{Run}
+use Rattle.interior_point.specs.declared.Test.the-variants.{Goes, Stops}
 
 -- the account of the start, where v is its gap
 abbrev pub startRun : Float → Float → Run
@@ -55,44 +57,46 @@ pub record GoesOn (a b c d : Bool) : Type 0 where
   pub within : c ≡ true
   pub lively : d ≡ false
 
-go-on : (a b c d : Bool) → cond a false (cond b false (cond c (not d) false)) ≡ true → GoesOn a b c d
-go-on true b c d e = absurd (clash e refl)
-go-on false true c d e = absurd (clash e refl)
-go-on false false false d e = absurd (clash e refl)
-go-on false false true true e = absurd (clash e refl)
+go-on : (a b c d : Bool) → testBy a b c d ≡ Goes → GoesOn a b c d
+go-on true b c d e = impossible cc
+go-on false true c d e = impossible cc
+go-on false false false d e = impossible cc
+go-on false false true true e = impossible cc
 go-on false false true false e = record { found = refl; wide = refl; within = refl; lively = refl }
 
--- the search ended at p
-pub record EndsAt (e : Ended State) (p : Point State) : Type 0 where
+-- the search ended at p, and why
+pub record EndsAt (e : Ended State) (p : Point State) (why : Reason) : Type 0 where
   pub state : p .state ≡ e .state
   pub n-iter : p .n-iter ≡ e .n-iter
   pub first : p .first ≡ e .first
   pub best : p .best ≡ e .best
   pub improvements : p .improvements ≡ e .improvements
+  pub reason : why ≡ e .reason
 
-ended-at : (e : Ended State) (p : Point State) (r : Reason) → ended p r ≡ e → EndsAt e p
-ended-at e p r q = record {
+ended-at : (e : Ended State) (p : Point State) (r why : Reason) → ended p r ≡ e → Stops r ≡ Stops why → EndsAt e p why
+ended-at e p r why q s = record {
   state = ap (λ (x : Ended State). x .state) q;
   n-iter = ap (λ (x : Ended State). x .n-iter) q;
   first = ap (λ (x : Ended State). x .first) q;
   best = ap (λ (x : Ended State). x .best) q;
   improvements = ap (λ (x : Ended State). x .improvements) q;
+  reason = (let h : why ≡ r = cc in h) ∙ ap (λ (x : Ended State). x .reason) q;
 }
 
-module _ (L : Problem State) (tol : Float) (max-iter : ℕ) (e : Ended State) (p : Point State) (gone : Bool) (h : p .n-iter ≤ max-iter) (left : leftOf L tol (max-iter - p .n-iter) p gone ≡ e) where
+module _ (L : Problem State) (tol : Float) (max-iter : ℕ) (e : Ended State) (p : Point State) (gone : Bool) (why : Reason) (h : p .n-iter ≤ max-iter) (left : leftOf L tol (max-iter - p .n-iter) p gone ≡ e) where
   pub finish : (a b c d : Bool) → gone ≡ a → enough L tol p ≡ b → ltb (p .n-iter) max-iter ≡ c → eqb (p .stall) 10 ≡ d
-      → cond a false (cond b false (cond c (not d) false)) ≡ false → EndsAt e p
-  finish true b c d u v w x q = ended-at e p pivot (sym (ap (leftOf L tol (max-iter - p .n-iter) p) u) ∙ left)
-  finish false true c d u v w x q = ended-at e p small (sym (run-small L tol (max-iter - p .n-iter) p v) ∙ sym (ap (leftOf L tol (max-iter - p .n-iter) p) u) ∙ left)
+      → testBy a b c d ≡ Stops why → EndsAt e p why
+  finish true b c d u v w x q = ended-at e p PivotLost why (sym (ap (leftOf L tol (max-iter - p .n-iter) p) u) ∙ left) q
+  finish false true c d u v w x q = ended-at e p GapSmall why (sym (run-small L tol (max-iter - p .n-iter) p v) ∙ sym (ap (leftOf L tol (max-iter - p .n-iter) p) u) ∙ left) q
   finish false false false d u v w x q =
       let o : max-iter ≤ p .n-iter = ltb-false (p .n-iter) max-iter w in
       let z : max-iter - p .n-iter ≡ 0 = omega arith in
-      ended-at e p spent (sym (run-spent L tol p v) ∙ sym (ap (λ (j : ℕ). run L tol j p) z) ∙ sym (ap (leftOf L tol (max-iter - p .n-iter) p) u) ∙ left)
+      ended-at e p LimitSpent why (sym (run-spent L tol p v) ∙ sym (ap (λ (j : ℕ). run L tol j p) z) ∙ sym (ap (leftOf L tol (max-iter - p .n-iter) p) u) ∙ left) q
   finish false false true true u v w x q =
       let o : p .n-iter < max-iter = ltb-true (p .n-iter) max-iter w in
       let z : max-iter - p .n-iter ≡ suc (max-iter - suc (p .n-iter)) = omega arith in
-      ended-at e p stalled (sym (run-stalled L tol (max-iter - suc (p .n-iter)) p v x) ∙ sym (ap (λ (j : ℕ). run L tol j p) z) ∙ sym (ap (leftOf L tol (max-iter - p .n-iter) p) u) ∙ left)
-  finish false false true false u v w x q = absurd (clash refl q)
+      ended-at e p Stalled why (sym (run-stalled L tol (max-iter - suc (p .n-iter)) p v x) ∙ sym (ap (λ (j : ℕ). run L tol j p) z) ∙ sym (ap (leftOf L tol (max-iter - p .n-iter) p) u) ∙ left) q
+  finish false false true false u v w x q = impossible cc
 
 -- n is the length of the series and m of the dual point
 module _ (k : ℕ) (y : List Float) (lam : Float) where
@@ -184,7 +188,7 @@ module _ (k : ℕ) (y : List Float) (lam : Float) where
         let z : part n m s₁ ≡ part n m s₀ = ap (λ (p : Dual). p .z) same in
         record {
           ahead = λ tol j q f. run-lost L tol j (pointOf k y s₀ r) (gap-test tol false q) f (by-flag false b)
-              ∙ λ i. record { state = record { point = sym same i; t = r .t; step = r .step }; n-iter = sym (add-one (r .«n_iter»)) i; first = r .first; best = r .best; improvements = r .improvements; reason = pivot };
+              ∙ λ i. record { state = record { point = sym same i; t = r .t; step = r .step }; n-iter = sym (add-one (r .«n_iter»)) i; first = r .first; best = r .best; improvements = r .improvements; reason = PivotLost };
           standing = record {
             trend = part-below nan 0 n (stepped .kept) (omega arith) ∙ stands .trend ∙ λ i. certify k y lam (sym z i) .trend;
             primal = stands .primal ∙ λ i. certify k y lam (sym z i) .primal;
@@ -303,13 +307,13 @@ module _ (k : ℕ) (y : List Float) (lam : Float) where
         }
 
     module _ (w : Looping g tol max-iter s₀ s r) where
-      goes-on : goes r tol max-iter ≡ true → GoesOn (r .lost) (le (r .gap) (tol ⊗ r .primal)) (ltb (r .«n_iter») max-iter) (eqb (r .stalled) 10)
+      goes-on : testOf r tol max-iter ≡ Goes → GoesOn (r .lost) (le (r .gap) (tol ⊗ r .primal)) (ltb (r .«n_iter») max-iter) (eqb (r .stalled) 10)
       goes-on h = go-on (r .lost) (le (r .gap) (tol ⊗ r .primal)) (ltb (r .«n_iter») max-iter) (eqb (r .stalled) 10) h
 
-      pub still : goes r tol max-iter ≡ true → r .«n_iter» < max-iter
+      pub still : testOf r tol max-iter ≡ Goes → r .«n_iter» < max-iter
       still h = ltb-true (r .«n_iter») max-iter (goes-on h .within)
 
-      pub loop-goes : goes r tol max-iter ≡ true → (s′ : List Float) (x : Run) → Turned k g y lam s s′ r x → Looping g tol max-iter s₀ s′ x
+      pub loop-goes : testOf r tol max-iter ≡ Goes → (s′ : List Float) (x : Run) → Turned k g y lam s s′ r x → Looping g tol max-iter s₀ s′ x
       loop-goes h s′ x t =
           let o = goes-on h in
           let b = still h in
@@ -328,17 +332,17 @@ module _ (k : ℕ) (y : List Float) (lam : Float) where
             kept = kept-then 0 (searchArea n) (w .kept) (t .kept) (omega arith) (omega arith) (omega arith) (omega arith);
           }
 
-      loop-ends : goes r tol max-iter ≡ false → EndsAt (run P tol max-iter (startAt P (origin m))) (pointOf k y s r)
-      loop-ends h =
-          finish P tol max-iter (run P tol max-iter (startAt P (origin m))) (pointOf k y s r) (r .lost) (w .within) (w .left)
+      loop-ends : (why : Reason) → testOf r tol max-iter ≡ Stops why → EndsAt (run P tol max-iter (startAt P (origin m))) (pointOf k y s r) why
+      loop-ends why h =
+          finish P tol max-iter (run P tol max-iter (startAt P (origin m))) (pointOf k y s r) (r .lost) why (w .within) (w .left)
           (r .lost) (le (r .gap) (tol ⊗ r .primal)) (ltb (r .«n_iter») max-iter) (eqb (r .stalled) 10) refl (enough-is g tol s r (w .standing)) refl refl h
 
   -- the whole search
-  pub all-found : (g : List Float) (tol : Float) (max-iter : ℕ) (s₀ s₁ s : List Float) (r : Run) → g ≡ gramRow k → Kept 0 (searchArea (length y)) s₀ s₁
-      → Looping g tol max-iter s₁ s r → goes r tol max-iter ≡ false → Found k y lam tol max-iter s₀ s r
+  pub all-found : (g : List Float) (tol : Float) (max-iter : ℕ) (s₀ s₁ s : List Float) (r : Run) (why : Reason) → g ≡ gramRow k → Kept 0 (searchArea (length y)) s₀ s₁
+      → Looping g tol max-iter s₁ s r → testOf r tol max-iter ≡ Stops why → Found k y lam tol max-iter s₀ s (record { run = r; reason = why })
   unfolding interiorPoint
-  all-found g tol max-iter s₀ s₁ s r isg v w h =
-      let e = loop-ends g tol max-iter s₁ s r w h in
+  all-found g tol max-iter s₀ s₁ s r why isg v w h =
+      let e = loop-ends g tol max-iter s₁ s r w why h in
       let q : run (problem k g y lam) tol max-iter (startAt (problem k g y lam) (origin m)) ≡ searchOf k y lam tol max-iter =
       λ i. run (problem k (isg i) y lam) tol max-iter (startAt (problem k (isg i) y lam) (origin m)) in
       let p : point n m s ≡ searchOf k y lam tol max-iter .state .point = ap (λ (x : State). x .point) (e .state) ∙ ap (λ (x : Ended State). x .state .point) q in
@@ -351,5 +355,6 @@ module _ (k : ℕ) (y : List Float) (lam : Float) where
         best = e .best ∙ ap (λ (x : Ended State). x .best) q;
         n-iter = e .n-iter ∙ ap (λ (x : Ended State). x .n-iter) q;
         improvements = e .improvements ∙ ap (λ (x : Ended State). x .improvements) q;
+        reason = e .reason ∙ ap (λ (x : Ended State). x .reason) q;
         kept = kept-then 0 (searchArea n) v (w .kept) (omega arith) (omega arith) (omega arith) (omega arith);
       }

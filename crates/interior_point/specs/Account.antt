@@ -1,6 +1,6 @@
 -- Document 01, "Interior point": the code's account of the search, Run, beside the definition.
 use mathlib.Core.Path.{_≡_}
-use mathlib.Core.Bool.{Bool, true, false, cond, not}
+use mathlib.Core.Bool.{Bool, true, false, cond}
 use mathlib.Core.List.{List}
 use Prim.Native.Nat.{ℕ, suc, _+_, _-_, _≤_, _<_, _^_}
 use lib.Dec.{eqb, ltb}
@@ -11,13 +11,17 @@ use Rattle.vectors.specs.Parts.{Kept, part}
 use Rattle.differences.specs.Diff.{gramRow}
 use Rattle.certificate.specs.Certificate.{Certificate, certify, gapOf}
 use Rattle.certificate.specs.Ready.{Ready}
-use Rattle.search.specs.Search.{Problem, Point, Ended, ended, pivot, startAt, run}
+use Rattle.search.specs.declared.Reason.the-variants.{GapSmall, LimitSpent, Stalled, PivotLost}
+use Rattle.search.specs.Search.{Problem, Point, Ended, ended, startAt, run}
 use Rattle.dual_point.specs.Dual.{Dual}
 use Rattle.dual_point.specs.Lanes.{searchArea}
 use Rattle.dual_point.specs.Places.{point}
 use Rattle.line_search.specs.LineSearch.{Trial, nextPoint}
 use Rattle.interior_point.specs.InteriorPoint.{State, problem, origin, interiorPoint}
 use Rattle.interior_point.specs.declared.Run.{Run}
+use Rattle.interior_point.specs.declared.Test.{Test}
+use Rattle.interior_point.specs.declared.Test.the-variants.{Goes, Stops}
+use Rattle.interior_point.specs.declared.Ended as code
 
 -- the point in s, after the places of the trend
 abbrev pub pointIn : ℕ → List Float → List Float → Dual
@@ -46,12 +50,16 @@ pub record Started (k : ℕ) (y : List Float) (lam : Float) (s₀ s : List Float
 
 -- what is left of the search from p on, unless a pivot was lost
 abbrev pub leftOf : Problem State → Float → ℕ → Point State → Bool → Ended State
-leftOf L tol j p true = ended p pivot
+leftOf L tol j p true = ended p PivotLost
 leftOf L tol j p false = run L tol j p
 
--- whether the next iteration is made
-abbrev pub goes : Run → Float → ℕ → Bool
-goes r tol max-iter = cond (r .lost) false (cond (le (r .gap) (tol ⊗ r .primal)) false (cond (ltb (r .«n_iter») max-iter) (not (eqb (r .stalled) 10)) false))
+-- whether another iteration is made, or why not: l says that a pivot was lost, e that the gap is small enough, w that n_iter is below the limit, t that the stall count is 10
+abbrev pub testBy : Bool → Bool → Bool → Bool → Test
+testBy l e w t = cond l (Stops PivotLost) (cond e (Stops GapSmall) (cond w (cond t (Stops Stalled) Goes) (Stops LimitSpent)))
+
+-- of r, in document 01's order
+abbrev pub testOf : Run → Float → ℕ → Test
+testOf r tol max-iter = testBy (r .lost) (le (r .gap) (tol ⊗ r .primal)) (ltb (r .«n_iter») max-iter) (eqb (r .stalled) 10)
 
 -- one more iteration can be counted
 pub record Countable (r : Run) : Type 0 where
@@ -115,16 +123,17 @@ searchOf k y lam tol max-iter = interiorPoint k (gramRow k) (length y - k) y lam
 abbrev pub endOf : ℕ → List Float → Float → Float → ℕ → Certificate
 endOf k y lam tol max-iter = certify k y lam (searchOf k y lam tol max-iter .state .point .z)
 
--- the whole search: the point that it ended at stands in s after its trend; r has its gaps and counts
-pub record Found (k : ℕ) (y : List Float) (lam tol : Float) (max-iter : ℕ) (s₀ s : List Float) (r : Run) : Type 0 where
+-- the whole search: the point that it ended at stands in s after its trend; r has its gaps and counts, and why it ended
+pub record Found (k : ℕ) (y : List Float) (lam tol : Float) (max-iter : ℕ) (s₀ s : List Float) (r : code.Ended) : Type 0 where
   pub ends : pointIn k y s ≡ searchOf k y lam tol max-iter .state .point
   pub trend : part 0 (length y) s ≡ endOf k y lam tol max-iter .trend
-  pub gap : r .gap ≡ gapOf (endOf k y lam tol max-iter)
-  pub primal : r .primal ≡ endOf k y lam tol max-iter .primal
-  pub first : r .first ≡ searchOf k y lam tol max-iter .first
-  pub best : r .best ≡ searchOf k y lam tol max-iter .best
-  pub n-iter : r .«n_iter» ≡ searchOf k y lam tol max-iter .n-iter
-  pub improvements : r .improvements ≡ searchOf k y lam tol max-iter .improvements
+  pub gap : r .run .gap ≡ gapOf (endOf k y lam tol max-iter)
+  pub primal : r .run .primal ≡ endOf k y lam tol max-iter .primal
+  pub first : r .run .first ≡ searchOf k y lam tol max-iter .first
+  pub best : r .run .best ≡ searchOf k y lam tol max-iter .best
+  pub n-iter : r .run .«n_iter» ≡ searchOf k y lam tol max-iter .n-iter
+  pub improvements : r .run .improvements ≡ searchOf k y lam tol max-iter .improvements
+  pub reason : r .reason ≡ searchOf k y lam tol max-iter .reason
   pub kept : Kept 0 (searchArea (length y)) s₀ s
 
 -- the state after an iteration with t, whose line search ended as e

@@ -10,9 +10,10 @@ ghost use Rattle.dual_point.specs.Dual.{Dual};
 ghost use Rattle.dual_point.specs.Lanes.{searchArea};
 ghost use Rattle.newton_step.specs.Stepped.{Stepped};
 ghost use Rattle.interior_point.specs.InteriorPoint.{nextT};
-ghost use Rattle.interior_point.specs.Account.{Started, goes, Countable, lostRun, Settled, Turnable, Turned, Found};
+ghost use Rattle.interior_point.specs.Account.{Started, testOf, Countable, lostRun, Settled, Turnable, Turned, Found};
 use certificate::Pair;
 use newton_step::Step;
+use search::Reason;
 
 // Where the search stands: its gaps and P, its counts, and whether a pivot was lost.
 pub struct Run {
@@ -26,6 +27,12 @@ pub struct Run {
     pub improvements: u64,
     pub stalled: u32,
     pub lost: bool,
+}
+
+// Where the search ended, and why.
+pub struct Ended {
+    pub run: Run,
+    pub reason: Reason,
 }
 
 // The places from a up to e become v.
@@ -66,20 +73,29 @@ fn start(work: &mut [f64], y: &[f64], dy: &[f64], lam: f64, k: usize) -> Run
     }
 }
 
-// Whether the next iteration is made.
-fn going(r: Run, tol: f64, max_iter: u64) -> bool
-    ensures { λ x. ⌜ x ≡ goes r tol «max_iter» ⌝ }
+// Whether another iteration is made, or why not.
+pub enum Test {
+    Goes,
+    Stops(Reason),
+}
+
+// The tests before an iteration, in document 01's order, once a pivot that the last one lost is ruled out.
+fn tested(r: Run, tol: f64, max_iter: u64) -> Test
+    ensures { λ x. ⌜ x ≡ testOf r tol «max_iter» ⌝ }
 {
     if r.lost {
-        return false;
+        return Test::Stops(Reason::PivotLost);
     }
     if r.gap <= tol * r.primal {
-        return false;
+        return Test::Stops(Reason::GapSmall);
     }
     if max_iter <= r.n_iter {
-        return false;
+        return Test::Stops(Reason::LimitSpent);
     }
-    r.stalled != 10
+    if r.stalled == 10 {
+        return Test::Stops(Reason::Stalled);
+    }
+    Test::Goes
 }
 
 // The next t: larger if the last step was at least 0.2.
@@ -190,14 +206,19 @@ pub fn ipm_l1(
     tol: f64,
     max_iter: u64,
     k: usize,
-) -> Run
+) -> Ended
     requires { ⌜ Ready k (now y) (now dy) (searchArea (length (now y))) (length (now work)) ⌝ }
     ensures { λ r. ⌜ Found k (now (y .entry)) lam tol «max_iter» (now (work .entry)) (now (work .exit)) r ⌝ }
 {
     let g = differences::gram_offsets(k);
     let mut r = start(work, y, dy, lam, k);
-    while going(r, tol, max_iter) {
+    loop {
+        if let Test::Stops(why) = tested(r, tol, max_iter) {
+            return Ended {
+                run: r,
+                reason: why,
+            };
+        }
         r = iterate(work, y, dy, lam, k, g, r);
     }
-    r
 }

@@ -21,15 +21,31 @@ loop-holds c = let st = c .before .before in
     let a = go .before .before .before .before .args in
     loop-starts (a .k) (a .y .now) (a .lam) (go .gram-offsets .result) (a .tol) (a .max-iter) (a .work .now) (st .start .last .0) (st .start .result) (st .start .ensures)
 
+same-length : tie.Need-same-length Inv-loop μ-loop
+same-length c = let lc = c .before .before .before .before in
+    lc .loop .inv .kept .size ∙ lc .before .before .before .start .kept .0
+
+returns : tie.Need-returns Inv-loop μ-loop
+returns c = let w = c .before in
+    let te = w .before .before in
+    let lc = te .before in
+    let st = lc .before .before .before in
+    let go = st .before .before in
+    let a = go .before .before .before .before .args in
+    all-found (a .k) (a .y .now) (a .lam) (go .gram-offsets .result) (a .tol) (a .max-iter) (a .work .now) (st .start .last .0) (lc .loop .work) (lc .loop .r) _ (go .gram-offsets .ensures) (st .start .ensures .kept) (lc .loop .inv)
+    (sym (te .tested .ensures) ∙ w .why .given .1)
+
 iterate-requires : tie.Need-iterate-requires Inv-loop μ-loop
-iterate-requires c κs = let lc = c .before .before .before in
+iterate-requires c κs = let et = c .before in
+    let te = et .before .before in
+    let lc = te .before in
     let st = lc .before .before .before in
     let go = st .before .before in
     let b = go .before .before .before .before in
     let a = b .args in
     let p = b .pre in
     let l = lc .loop in
-    let h = sym (c .before .before .going .ensures) ∙ c .before .if1 .taken in
+    let h = sym (te .tested .ensures) ∙ et .enum-told .given .1 in
     let o = still (a .k) (a .y .now) (a .lam) (go .gram-offsets .result) (a .tol) (a .max-iter) (st .start .last .0) (l .work) (l .r) (l .inv) h in
     record {
       ready = record { series = p .series; room = omega (arith, p .room, l .inv .kept .size, st .start .ensures .kept .size); known = p .known };
@@ -39,41 +55,31 @@ iterate-requires c κs = let lc = c .before .before .before in
 
 loop-less : tie.Need-loop-less Inv-loop μ-loop
 loop-less c = let it = c .before .before in
-    let gc = it .before .before .before in
-    let lc = gc .before in
+    let et = it .before .before in
+    let te = et .before .before in
+    let lc = te .before in
     let st = lc .before .before .before in
     let go = st .before .before in
     let a = go .before .before .before .before .args in
     let l = lc .loop in
-    let h = sym (gc .going .ensures) ∙ it .before .before .if1 .taken in
+    let h = sym (te .tested .ensures) ∙ et .enum-told .given .1 in
     let o = still (a .k) (a .y .now) (a .lam) (go .gram-offsets .result) (a .tol) (a .max-iter) (st .start .last .0) (l .work) (l .r) (l .inv) h in
     omega (arith, o, it .iterate .ensures .n-iter)
 
 loop-again : tie.Need-loop-again Inv-loop μ-loop
 loop-again c = let it = c .before .before in
-    let gc = it .before .before .before in
-    let lc = gc .before in
+    let et = it .before .before in
+    let te = et .before .before in
+    let lc = te .before in
     let st = lc .before .before .before in
     let go = st .before .before in
     let a = go .before .before .before .before .args in
     let l = lc .loop in
-    loop-goes (a .k) (a .y .now) (a .lam) (go .gram-offsets .result) (a .tol) (a .max-iter) (st .start .last .0) (l .work) (l .r) (l .inv) (sym (gc .going .ensures) ∙ it .before .before .if1 .taken)
+    loop-goes (a .k) (a .y .now) (a .lam) (go .gram-offsets .result) (a .tol) (a .max-iter) (st .start .last .0) (l .work) (l .r) (l .inv) (sym (te .tested .ensures) ∙ et .enum-told .given .1)
     (it .iterate .last .0) (it .iterate .result) (it .iterate .ensures)
-
-same-length : tie.Need-same-length Inv-loop μ-loop
-same-length c = let lc = c .before .before in
-    lc .loop .inv .kept .size ∙ lc .before .before .before .start .kept .0
-
-returns : tie.Need-returns Inv-loop μ-loop
-returns c = let lc = c .before .before in
-    let st = lc .before .before .before in
-    let go = st .before .before in
-    let a = go .before .before .before .before .args in
-    all-found (a .k) (a .y .now) (a .lam) (go .gram-offsets .result) (a .tol) (a .max-iter) (a .work .now) (st .start .last .0) (lc .loop .work) (lc .loop .r) (go .gram-offsets .ensures) (st .start .ensures .kept) (lc .loop .inv)
-    (sym (c .before .going .ensures) ∙ c .if1 .left)
 
 pub ipm-l1-spec : {M : Type 1} → statement M
 ipm-l1-spec =
     tie.close
     (tie.spec Inv-loop μ-loop (λ c κs. search needs) start-requires loop-holds (λ c κs. search needs)
-    iterate-requires loop-less loop-again same-length returns)
+    (λ c. search needs) same-length returns (λ c. search needs) iterate-requires loop-less loop-again)
