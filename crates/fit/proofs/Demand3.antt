@@ -9,7 +9,11 @@ use lib.Dec.{T, eqb, eqb→eq}
 use lib.Ieee.{Float}
 use Rattle.differences.specs.Diff.{gramRow}
 use Rattle.certificate.specs.Certificate.{Certificate}
-use Rattle.search.specs.Search.{Problem, Ended, small}
+use Rattle.float64.proofs.Clash.{impossible}
+use Rattle.search.specs.declared.Reason.{Reason}
+use Rattle.search.specs.declared.Reason.the-variants.{ClosedPath, LimitSpent}
+use Rattle.search.specs.Reasons.{atLimit}
+use Rattle.search.specs.Search.{Problem, Ended}
 use Rattle.search.specs.Bounds.{Bounded}
 use Rattle.search.specs.Demand3 as search
 use Rattle.search.specs.Looser.{finiteAbove0}
@@ -21,9 +25,11 @@ use Rattle.questions.specs.Questions.{Asked, Lent, question}
 use Rattle.questions.proofs.Laws as questions
 use Rattle.fit.specs.Fit.{Found, FitResult, Outcome, refused, fitted, places, closed, pathL2, pathZero, pathFlat, polished, searchOf, keptOf, pathEnd, pathL1, path, written, outcome, fit}
 use Rattle.fit.specs.Ways.{lamZero, lamHigh, soundDD}
+use Rattle.fit.specs.Reasons.{withReason}
 use Rattle.fit.specs.Demand3.{Bounds, withMaxIter, Demand3}
+use Rattle.fit.specs.Lasting.{Lasting}
 use Rattle.fit.proofs.Sign.{lam-positive, primal-clear}
-use Rattle.fit.proofs.Passed.{same-questions, fit-passed, outcome-some, passed}
+use Rattle.fit.proofs.Passed.{same-questions, fit-passed, outcome-some, Passed, passed, found-has}
 
 -- ---- the search of a fit
 abbrev pub problemOf : Asked → Problem State
@@ -48,58 +54,42 @@ searches a l q z = demand3 (problemOf a) (a .tol) (tol-positive (a .tol) (tol-pa
 abbrev FoundBounds : ℕ → Found → Type 0
 FoundBounds max-iter f = Bounded max-iter (f .numbers .«n_iter») (f .numbers .improvements) (f .numbers .«first_gap») (f .numbers .«best_gap»)
 
-abbrev Within : ℕ → Option Found → Type 0
-Within max none = T true
-Within max (some f) = FoundBounds max f
-
 bounded-end : (a : Asked) → Searches a → FoundBounds (a .max-iter) (pathEnd a (searchOf a))
 unfolding pathEnd searchOf interiorPoint
 bounded-end a s = s .bounded (a .max-iter)
 
-within-l2 : (max : ℕ) (a : Asked) → Within max (pathL2 a)
-unfolding pathL2
-within-l2 max a = go (soundL2 (a .order) (a .y) (a .lam)) _ (bounded-closed max _)
-  where
-    go : (b : Bool) (f : Found) → FoundBounds max f → Within max (cond b (some f) none)
-    go true f k = k
-    go false f k = tt
-
-within-l1 : (a : Asked) (l : Lent) → questions.Passed a l → FoundBounds (a .max-iter) (pathL1 a)
-unfolding pathL1 pathZero pathFlat
-within-l1 a l q = go (lamZero a) refl (lamHigh a)
-  where
-    go : (z : Bool) → lamZero a ≡ z → (m : Bool) → FoundBounds (a .max-iter) (cond z (pathZero a) (cond m (pathFlat a) (pathEnd a (searchOf a))))
-    go true e m = bounded-closed (a .max-iter) _
-    go false e true = bounded-closed (a .max-iter) _
-    go false e false = bounded-end a (searches a l q e)
-
-within : (a : Asked) (l : Lent) → questions.Passed a l → Within (a .max-iter) (path a)
-unfolding path
-within a l q = go (eqb (a .penalty) 2)
-  where
-    go : (p : Bool) → Within (a .max-iter) (cond p (pathL2 a) (some (pathL1 a)))
-    go true = within-l2 (a .max-iter) a
-    go false = within-l1 a l q
+found-bounds : (a : Asked) (l : Lent) (f : FitResult) (p : Passed a l f) → FoundBounds (a .max-iter) (p .found)
+unfolding pathZero pathFlat
+found-bounds a l f p =
+    let shut = bounded-closed (a .max-iter) in
+    found-has a l f (FoundBounds (a .max-iter)) p (λ gap objective. shut gap) (shut _) (shut _) (λ z. bounded-end a (searches a l (questions.passed a l (p .asked)) z))
 
 pub bounds : (a : Asked) (l : Lent) (f : FitResult) → fit a l ≡ fitted f → Bounds (a .max-iter) f
 unfolding written
-bounds a l f e =
+bounds a l f e = let p = passed a l f e in subst (Bounds (a .max-iter)) (sym (p .made)) (found-bounds a l f p)
+
+-- ---- a spent limit
+abbrev Spent : ℕ → Found → Type 0
+Spent max-iter f = f .numbers .reason ≡ LimitSpent → f .numbers .«n_iter» ≡ max-iter
+
+spent-end : (a : Asked) → Searches a → Spent (a .max-iter) (pathEnd a (searchOf a))
+unfolding pathEnd searchOf interiorPoint
+spent-end a s = s .spent (a .max-iter)
+
+not-closed : {C : Type 0} → _≡_ {A = Reason} ClosedPath LimitSpent → C
+not-closed e = impossible cc
+
+found-spent : (a : Asked) (l : Lent) (f : FitResult) (p : Passed a l f) → Spent (a .max-iter) (p .found)
+unfolding pathZero pathFlat
+found-spent a l f p = found-has a l f (Spent (a .max-iter)) p (λ gap objective. not-closed) not-closed not-closed (λ z. spent-end a (searches a l (questions.passed a l (p .asked)) z))
+
+pub spent : (a : Asked) (l : Lent) (f : FitResult) → fit a l ≡ fitted f → f .numbers .reason ≡ LimitSpent → f .numbers .«n_iter» ≡ a .max-iter
+unfolding written
+spent a l f e =
     let p = passed a l f e in
-    subst (Bounds (a .max-iter)) (sym (p .made)) (subst (Within (a .max-iter)) (p .path-is) (within a l (questions.passed a l (p .asked))))
+    subst (λ (x : FitResult). x .numbers .reason ≡ LimitSpent → x .numbers .«n_iter» ≡ a .max-iter) (sym (p .made)) (found-spent a l f p)
 
 -- ---- another limit
-
--- an end with the same state, gaps and counts
-abbrev endWith : State → ℕ → Float → Float → ℕ → Ended State
-endWith s n-iter first best improvements = record { state = s; n-iter = n-iter; first = first; best = best; improvements = improvements; reason = small }
-
--- the reason does not reach the fit
-end-from : (a : Asked) (e : Ended State) → pathEnd a e ≡ pathEnd a (endWith (e .state) (e .n-iter) (e .first) (e .best) (e .improvements))
-unfolding pathEnd keptOf
-end-from a e = refl
-
-same-end : (a : Asked) (e f : Ended State) → search.Alike e f → pathEnd a e ≡ pathEnd a f
-same-end a e f h = end-from a e ∙ (λ i. pathEnd a (endWith (h .state i) (h .n-iter i) (h .first i) (h .best i) (h .improvements i))) ∙ sym (end-from a f)
 
 polished-other : (m : ℕ) (a : Asked) (c : Certificate) (z : Option (List Float)) → polished (withMaxIter m a) c z ≡ polished a c z
 unfolding polished
@@ -126,6 +116,9 @@ outcome-other : (n : ℕ) (a : Asked) (o : Option Found) → outcome (withMaxIte
 unfolding outcome written
 outcome-other n a none = refl
 outcome-other n a (some f) = refl
+
+same-found : {f g : Found} → some f ≡ some g → f ≡ g
+same-found {f} {g} e = (let h : f ≡ g = cc in h)
 
 -- where two searches end alike, or none is made, the same is found
 same-with : (p z m : Bool) (l2 : Option Found) (o c x y : Found) → (p ≡ false → z ≡ false → m ≡ false → x ≡ y)
@@ -161,33 +154,104 @@ path-steps a = go (eqb (a .penalty) 2) (lamZero a) (lamHigh a)
     go false false true = refl
     go false false false = refl
 
-end-steps : (a : Asked) (f : Found) → path a ≡ some f → eqb (a .penalty) 2 ≡ false → lamZero a ≡ false → lamHigh a ≡ false → searchOf a .n-iter ≡ f .numbers .«n_iter»
-end-steps a f e p z m = sym (path-steps a ∙ (λ i. cond (p i) 0 (cond (z i) 0 (cond (m i) 0 (searchOf a .n-iter))))) ∙ ap iterations e
+-- where the search is made, it gives what is found
+end-is : (a : Asked) (f : Found) → path a ≡ some f → eqb (a .penalty) 2 ≡ false → lamZero a ≡ false → lamHigh a ≡ false → pathEnd a (searchOf a) ≡ f
+end-is a f e p z m = same-found ((λ i. cond (sym p i) (pathL2 a) (some (cond (sym z i) (pathZero a) (cond (sym m i) (pathFlat a) (pathEnd a (searchOf a)))))) ∙ sym (path-is a) ∙ e)
 
--- where n_iter is below the limit, a limit that is at least n_iter
-ends-alike : (a : Asked) (other n : ℕ) → Searches a → searchOf a .n-iter ≡ n → n < a .max-iter → n ≤ other → search.Alike (searchOf (withMaxIter other a)) (searchOf a)
+end-told : (a : Asked) (f : Found) → pathEnd a (searchOf a) ≡ f → (searchOf a .n-iter ≡ f .numbers .«n_iter») × (searchOf a .reason ≡ f .numbers .reason)
+unfolding pathEnd
+end-told a f e = (ap (λ (x : Found). x .numbers .«n_iter») e, ap (λ (x : Found). x .numbers .reason) e)
+
+-- the search under another limit
+ends-above : (a : Asked) (other : ℕ) → Searches a → (searchOf a .reason ≡ LimitSpent → ⊥) → searchOf a .n-iter < other → searchOf (withMaxIter other a) ≡ searchOf a
 unfolding searchOf interiorPoint
-ends-alike a other n s e h g = s .alike (a .max-iter) other (subst (λ (x : ℕ). x < a .max-iter) (sym e) h) (subst (λ (x : ℕ). x ≤ other) (sym e) g)
+ends-above a other s r g = s .alike (a .max-iter) other r g
+
+ends-at : (a : Asked) (n : ℕ) → Searches a → searchOf a .n-iter ≡ n → n < a .max-iter → searchOf (withMaxIter n a) ≡ search.retold (searchOf a) (atLimit (searchOf a .reason))
+unfolding searchOf interiorPoint
+ends-at a n s e h =
+    ap (λ (x : ℕ). searchOf (withMaxIter x a)) (sym e)
+    ∙ s .at-limit (a .max-iter) (λ q. absurd (omega (arith, s .spent (a .max-iter) q, e, h)))
 
 ends-settled : (a : Asked) (one other : ℕ) → Searches a → 1447640 < one → 1447640 < other → searchOf (withMaxIter one a) ≡ searchOf (withMaxIter other a)
 unfolding searchOf interiorPoint
 ends-settled a one other s h g = s .settled other one g h
 
-pub alike : (a : Asked) (l : Lent) (f : FitResult) → fit a l ≡ fitted f → f .numbers .«n_iter» < a .max-iter → (other : ℕ) → 1 ≤ other → f .numbers .«n_iter» ≤ other → fit (withMaxIter other a) l ≡ fitted f
-unfolding written
-alike a l f e h other one g =
-    let p = passed a l f e in
-    let q = questions.passed a l (p .asked) in
-    let n : f .numbers .«n_iter» ≡ p .found .numbers .«n_iter» = ap (λ (x : FitResult). x .numbers .«n_iter») (p .made) in
-    fit-passed (withMaxIter other a) l (questions.same-question a l other (q .max-iter) one ∙ p .asked)
+-- another limit from 1 up: the same but for where the search ends
+relimited : (a : Asked) (l : Lent) (f : FitResult) (p : Passed a l f) (other : ℕ) → 1 ≤ other → fit (withMaxIter other a) l ≡ outcome a (pathWith a (pathEnd a (searchOf (withMaxIter other a))))
+relimited a l f p other one =
+    fit-passed (withMaxIter other a) l (questions.same-question a l other (questions.passed a l (p .asked) .max-iter) one ∙ p .asked)
     ∙ ap (λ (b : Bool). cond b (outcome (withMaxIter other a) (path (withMaxIter other a))) (refused 10)) (p .sound)
     ∙ outcome-other other a (path (withMaxIter other a))
+    ∙ ap (outcome a) (path-other other a)
+
+-- any reason but a spent limit: every limit above n_iter
+above : (a : Asked) (l : Lent) (f : FitResult) → fit a l ≡ fitted f → (f .numbers .reason ≡ LimitSpent → ⊥) → (other : ℕ) → f .numbers .«n_iter» < other → fit (withMaxIter other a) l ≡ fitted f
+unfolding written
+above a l f e r other g =
+    let p = passed a l f e in
+    let n : p .found .numbers .«n_iter» < other = subst (λ (x : FitResult). x .numbers .«n_iter» < other) (p .made) g in
+    let w : p .found .numbers .reason ≡ LimitSpent → ⊥ = subst (λ (x : FitResult). x .numbers .reason ≡ LimitSpent → ⊥) (p .made) r in
+    relimited a l f p other (omega arith)
     ∙ ap (outcome a)
-    (path-other other a
-    ∙ same-with (eqb (a .penalty) 2) (lamZero a) (lamHigh a) (pathL2 a) (pathZero a) (pathFlat a) (pathEnd a (searchOf (withMaxIter other a))) (pathEnd a (searchOf a))
-    (λ b z m. same-end a (searchOf (withMaxIter other a)) (searchOf a) (ends-alike a other (f .numbers .«n_iter») (searches a l q z) (end-steps a (p .found) (p .path-is) b z m ∙ sym n) h g))
+    (same-with (eqb (a .penalty) 2) (lamZero a) (lamHigh a) (pathL2 a) (pathZero a) (pathFlat a) (pathEnd a (searchOf (withMaxIter other a))) (pathEnd a (searchOf a))
+    (λ b z m.
+    let t = end-told a (p .found) (end-is a (p .found) (p .path-is) b z m) in
+    ap (pathEnd a) (ends-above a other (searches a l (questions.passed a l (p .asked)) z) (λ q. w (sym (t .1) ∙ q)) (omega (arith, t .0, n))))
     ∙ sym (path-is a) ∙ p .path-is)
     ∙ outcome-some a (p .found) ∙ ap fitted (sym (p .made))
+
+pub alike : (a : Asked) (l : Lent) (f : FitResult) → fit a l ≡ fitted f → f .numbers .«n_iter» < a .max-iter → (other : ℕ) → f .numbers .«n_iter» < other → fit (withMaxIter other a) l ≡ fitted f
+alike a l f e h = above a l f e (λ q. absurd (omega (arith, spent a l f e q, h)))
+
+pub other-reason : (a : Asked) (l : Lent) (f : FitResult) → fit a l ≡ fitted f → (f .numbers .reason ≡ LimitSpent → ⊥) → (other : ℕ) → a .max-iter < other → fit (withMaxIter other a) l ≡ fitted f
+other-reason a l f e r other g = above a l f e r other (omega (arith, bounds a l f e .limit, g))
+
+-- ---- the limit n_iter itself
+abbrev foundWith : Reason → Found → Found
+foundWith r f =
+    let s = f .numbers in
+    record {
+      trend = f .trend;
+      numbers = record { gap = s .gap; «first_gap» = s .«first_gap»; «best_gap» = s .«best_gap»; objective = s .objective; «n_iter» = s .«n_iter»; improvements = s .improvements; converged = s .converged; reason = r };
+    }
+
+end-retold : (a : Asked) (e : Ended State) (r : Reason) → pathEnd a (search.retold e r) ≡ foundWith r (pathEnd a e)
+unfolding pathEnd keptOf
+end-retold a e r = refl
+
+written-with : (a : Asked) (f : Found) (r : Reason) → written a (foundWith r f) ≡ withReason r (written a f)
+unfolding written
+written-with a f r = refl
+
+-- a path with an iteration is the search's
+only-search : (a : Asked) (n : ℕ) → 1 ≤ onPath a n → (x w : Found) → (eqb (a .penalty) 2 ≡ false → lamZero a ≡ false → lamHigh a ≡ false → x ≡ w) → pathWith a x ≡ some w
+only-search a n h x w k = go (eqb (a .penalty) 2) (lamZero a) (lamHigh a) h k
+  where
+    go : (p z m : Bool) → 1 ≤ cond p 0 (cond z 0 (cond m 0 n)) → (p ≡ false → z ≡ false → m ≡ false → x ≡ w) → cond p (pathL2 a) (some (cond z (pathZero a) (cond m (pathFlat a) x))) ≡ some w
+    go true z m h k = absurd (omega arith)
+    go false true m h k = absurd (omega arith)
+    go false false true h k = absurd (omega arith)
+    go false false false h k = ap some (k refl refl refl)
+
+pub at-limit : (a : Asked) (l : Lent) (f : FitResult) → fit a l ≡ fitted f → f .numbers .«n_iter» < a .max-iter → 1 ≤ f .numbers .«n_iter»
+    → fit (withMaxIter (f .numbers .«n_iter») a) l ≡ fitted (withReason (atLimit (f .numbers .reason)) f)
+unfolding written
+at-limit a l f e h one =
+    let p = passed a l f e in
+    let x = p .found in
+    let n : f .numbers .«n_iter» ≡ x .numbers .«n_iter» = ap (λ (y : FitResult). y .numbers .«n_iter») (p .made) in
+    relimited a l f p (f .numbers .«n_iter») one
+    ∙ ap (outcome a)
+    (only-search a (searchOf a .n-iter) (omega (arith, one, n, sym (path-steps a) ∙ ap iterations (p .path-is))) (pathEnd a (searchOf (withMaxIter (f .numbers .«n_iter») a))) (foundWith (atLimit (x .numbers .reason)) x)
+    (λ b z m.
+    let s = end-is a x (p .path-is) b z m in
+    let t = end-told a x s in
+    ap (pathEnd a) (ends-at a (f .numbers .«n_iter») (searches a l (questions.passed a l (p .asked)) z) (t .0 ∙ sym n) h)
+    ∙ end-retold a (searchOf a) (atLimit (searchOf a .reason))
+    ∙ λ i. foundWith (atLimit (t .1 i)) (s i)))
+    ∙ outcome-some a (foundWith (atLimit (x .numbers .reason)) x)
+    ∙ ap fitted (written-with a x (atLimit (x .numbers .reason)) ∙ sym (ap (λ (y : FitResult). withReason (atLimit (y .numbers .reason)) y) (p .made)))
 
 -- any two limits above 1,447,640
 from-high : (m : ℕ) → 1447640 < m → 1 ≤ m
@@ -219,4 +283,7 @@ settled a l one other h g =
 
 -- ---- the demand
 pub whole : (a : Asked) (l : Lent) → Demand3 a l
-whole a l = record { bounds = bounds a l; alike = alike a l; settled = settled a l }
+whole a l = record { bounds = bounds a l; alike = alike a l; at-limit = at-limit a l; settled = settled a l }
+
+pub lasting : (a : Asked) (l : Lent) → Lasting a l
+lasting a l = record { other-reason = other-reason a l; spent = spent a l }

@@ -5,4 +5,3 @@ pub mod Lengths
 pub mod Demand3
 pub mod Looser
 pub mod Known
-pub mod Corpus

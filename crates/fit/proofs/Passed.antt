@@ -1,4 +1,4 @@
--- How a fit comes about from the questions, and which limits and sizes they tell apart.
+-- How a fit comes about from the questions and the paths, and which limits and sizes they tell apart.
 use mathlib.Core.Path.{_≡_, refl, sym, ap, _∙_, subst}
 use Prim.Native.Nat.{ℕ, _≤_, _<_}
 use native.Mathlib.Omega.{arith}
@@ -6,10 +6,12 @@ use mathlib.Core.Bool.{Bool, true, false, cond}
 use mathlib.Core.Option.{Option, none, some}
 use lib.Dec.{T, eqb, eqb→eq}
 use lib.ListN.{length}
+use lib.Ieee.{Float}
+use Rattle.l2.specs.L2.{soundL2, trendL2}
 use Rattle.questions.specs.Questions.{Asked, Lent, oneOrTwo, question}
 use Rattle.questions.proofs.Laws.{same-question, too-long, not-too-long}
-use Rattle.fit.specs.Fit.{FitResult, Outcome, refused, fitted, Found, path, written, outcome, fit}
-use Rattle.fit.specs.Ways.{soundDD}
+use Rattle.fit.specs.Fit.{FitResult, Outcome, refused, fitted, Found, closed, pathL2, pathZero, pathFlat, searchOf, pathEnd, pathL1, path, written, outcome, fit}
+use Rattle.fit.specs.Ways.{lamZero, lamHigh, soundDD}
 use Rattle.fit.specs.Demand3.{withMaxIter}
 
 pub on : (b : Bool) → T b → b ≡ true
@@ -91,3 +93,32 @@ passed a l f e = go (eqb (question a l) 0) (soundDD a) (path a) (eqb→eq (quest
     go true true none h s r q = absurd (not-refused q)
     go true false o h s r q = absurd (not-refused q)
     go false c o h s r q = absurd (not-refused q)
+
+-- ---- what holds of every path
+abbrev pub Over : (Found → Type 0) → Option Found → Type 0
+Over P none = T true
+Over P (some f) = P f
+
+over-l2 : (a : Asked) (P : Found → Type 0) → ((gap objective : Float) → P (record { trend = trendL2 (a .order) (a .y) (a .lam); numbers = closed gap objective })) → Over P (pathL2 a)
+unfolding pathL2
+over-l2 a P h = go (soundL2 (a .order) (a .y) (a .lam)) _ (h _ _)
+  where
+    go : (b : Bool) (f : Found) → P f → Over P (cond b (some f) none)
+    go true f k = k
+    go false f k = tt
+
+over-path : (a : Asked) (P : Found → Type 0) → ((gap objective : Float) → P (record { trend = trendL2 (a .order) (a .y) (a .lam); numbers = closed gap objective }))
+    → P (pathZero a) → P (pathFlat a) → (lamZero a ≡ false → P (pathEnd a (searchOf a))) → Over P (path a)
+unfolding path pathL1
+over-path a P l2 zero flat end = go (eqb (a .penalty) 2) (lamZero a) refl (lamHigh a)
+  where
+    go : (p z : Bool) → lamZero a ≡ z → (m : Bool) → Over P (cond p (pathL2 a) (some (cond z (pathZero a) (cond m (pathFlat a) (pathEnd a (searchOf a))))))
+    go true z e m = over-l2 a P l2
+    go false true e m = zero
+    go false false e true = flat
+    go false false e false = end e
+
+-- so of what a fit found
+pub found-has : (a : Asked) (l : Lent) (f : FitResult) (P : Found → Type 0) (p : Passed a l f) → ((gap objective : Float) → P (record { trend = trendL2 (a .order) (a .y) (a .lam); numbers = closed gap objective }))
+    → P (pathZero a) → P (pathFlat a) → (lamZero a ≡ false → P (pathEnd a (searchOf a))) → P (p .found)
+found-has a l f P p l2 zero flat end = subst (Over P) (p .path-is) (over-path a P l2 zero flat end)
