@@ -1,6 +1,7 @@
 // The closed paths of a prepared series: what they have in common, L1 with lam at least lam_max, and L2. What a path answers, and where its trend stands.
 // work holds the preparation first; a path writes only behind it.
 use fit::Numbers;
+use search::Reason;
 ghost use mathlib.Core.Path.{_≡_};
 ghost use mathlib.Core.List.{List};
 ghost use Prim.Native.Nat.{ℕ};
@@ -52,6 +53,7 @@ pub fn closed(gap: f64, objective: f64) -> Numbers
         n_iter: 0,
         improvements: 0,
         converged: true,
+        reason: Reason::ClosedPath,
     }
 }
 

@@ -34,7 +34,9 @@ fn search_polish(
     requires { ⌜ Polishable k (now y) (now dy) (length (now work)) (length (now marks)) ⌝ }
     ensures { λ r. ⌜ SearchedArea (now (y .entry)) lam tol «max_iter» k (now (work .entry)) (now (work .exit)) (now (marks .entry)) (now (marks .exit)) r ⌝ }
 {
-    let r = interior_point::ipm_l1(work, y, dy, lam, tol, max_iter, k);
+    let e = interior_point::ipm_l1(work, y, dy, lam, tol, max_iter, k);
+    let r = e.run;
+    let why = e.reason;
     let q = polish::polish_l1(work, marks, y, dy, lam, k);
     let second = polish::won(q, r.gap);
     let gap = pick(second, r.gap, q.gap);
@@ -47,6 +49,7 @@ fn search_polish(
         n_iter: r.n_iter,
         improvements: r.improvements,
         converged: gap <= tol * primal,
+        reason: why,
     };
     Finding {
         trend: Trend::Won(second),

@@ -1,21 +1,27 @@
--- Two calls alike but for max_iter and for the buffers agree. Assumes nothing.
-use mathlib.Core.Path.{_≡_, refl, sym, ap, _∙_}
+-- Two calls alike but for max_iter and for the buffers agree, and what a reason tells of other limits. Assumes nothing.
+use mathlib.Core.Path.{_≡_, refl, sym, ap, subst, _∙_}
 use mathlib.Core.List.{List}
-use Prim.Native.Nat.{ℕ, _+_}
+use Prim.Native.Nat.{ℕ, _+_, _<_}
 use native.Mathlib.Omega.{arith}
 use lib.ListN.{length, take, drop}
 use lib.Seq.{take-at}
 use Rattle.float64.proofs.Clash.{impossible}
 use Rattle.vectors.specs.Vec.{put}
 use Rattle.decomposition.specs.Outputs.{Outputs}
+use Rattle.search.specs.declared.Reason.{Reason}
+use Rattle.search.specs.declared.Reason.the-variants.{LimitSpent}
+use Rattle.search.specs.Reasons.{atLimit}
 use Rattle.questions.specs.Questions.{Asked, Lent, room, question}
 use Rattle.fit.specs.Fit.{FitResult, Outcome, refused, fitted, Lengths, fit, after}
+use Rattle.fit.specs.Reasons.{withReason}
 use Rattle.fit.specs.Demand3.{withMaxIter}
 use Rattle.fit.proofs.Demand3 as demand
 use Rattle.trend_filter.specs.declared.Summary.{Summary}
 use Rattle.trend_filter.specs.declared.Answer.{Answer}
 use Rattle.trend_filter.specs.declared.Answer.the-variants.{Fit}
 use Rattle.trend_filter.specs.Answers.{Buffers, lent, summaryOf, answerOf}
+use Rattle.trend_filter.specs.Reasons.{reasoned}
+use Rattle.trend_filter.specs.Lasting.{LastingCalls}
 use Rattle.trend_filter.specs.TwoCalls.{TwoCalls, SamePlaces, Agree, Agreement, TwoCallsAgree}
 
 -- a fit reads the lengths lent in questions 8 and 9 alone
@@ -42,6 +48,10 @@ pub steps-told : (f : FitResult) (x : Summary) → summaryOf f ≡ x → f .numb
 unfolding summaryOf
 steps-told f x t = ap (λ (s : Summary). s .«n_iter») t
 
+reason-told : (f : FitResult) (x : Summary) → summaryOf f ≡ x → f .numbers .reason ≡ x .reason
+unfolding summaryOf
+reason-told f x t = ap (λ (s : Summary). s .reason) t
+
 -- the first places of what a fit wrote are the fit's
 first-places : {A : Type 0} (s t : List A) (n : ℕ) → length t ≡ n → take n (put s 0 t) ≡ t
 first-places s t n e = take-at t (drop (0 + length t) s) n e
@@ -54,30 +64,82 @@ same-places a f b d c e l p q = record {
   knots = ap (λ (o : Outputs). take (length (f .knots)) (o .knots)) q ∙ first-places (d .knots) (f .knots) _ refl ∙ sym (ap (λ (o : Outputs). take (length (f .knots)) (o .knots)) p ∙ first-places (b .knots) (f .knots) _ refl);
 }
 
+-- another reason: of the answer, and of what is written
+told-with : (q : Reason) (f : FitResult) → answerOf (fitted (withReason q f)) ≡ Fit (reasoned q (summaryOf f))
+unfolding answerOf summaryOf
+told-with q f = refl
+
+after-with : (q : Reason) (f : FitResult) (b : Outputs) → after (fitted (withReason q f)) b ≡ after (fitted f) b
+unfolding after
+after-with q f b = refl
+
+fit-knots : {x y : Summary} → Fit x ≡ Fit y → x .knots ≡ y .knots
+fit-knots {x} {y} e = ap (λ (s : Summary). s .knots) (let h : x ≡ y = cc in h)
+
 module _ (a : Asked) (other : ℕ) (r s : Answer) (b c d e : Buffers) (h : TwoCalls a other r s b c d e) where
+  -- the first call's fit
+  fits : (x : Summary) → r ≡ Fit x → Came (fit a (lent b)) x
+  fits x t = came (fit a (lent b)) x (sym (h .first .gives .answer) ∙ t)
+
+  same : (o : Outcome) → fit (withMaxIter other a) (lent b) ≡ o → fit (withMaxIter other a) (lent d) ≡ o
+  same o q = same-lent (withMaxIter other a) (lent d) (lent b) (h .same-room) ∙ q
+
+  -- the places of two calls that write one fit
+  placed : (f : FitResult) (o : Outcome) → fit a (lent b) ≡ fitted f → fit (withMaxIter other a) (lent d) ≡ o → ((v : Outputs) → after o v ≡ after (fitted f) v) → SamePlaces (length (a .y)) (length (f .knots)) (c .out) (e .out)
+  placed f o p q w =
+      same-places a f (b .out) (d .out) (c .out) (e .out) (h .first .sizes f p)
+      (h .first .gives .out ∙ ap (λ (x : Outcome). after x (b .out)) p) (h .second .gives .out ∙ ap (λ (x : Outcome). after x (d .out)) q ∙ w (d .out))
+
   -- calls whose outcome is one
   agree : fit (withMaxIter other a) (lent b) ≡ fit a (lent b) → Agree a r s c e
-  agree q =
-      let same = same-lent (withMaxIter other a) (lent d) (lent b) (h .same-room) ∙ q in
-      let first = h .first .gives in
-      let second = h .second .gives in
+  agree q = record {
+    answers = h .second .gives .answer ∙ ap answerOf (same (fit a (lent b)) q) ∙ sym (h .first .gives .answer);
+    places = λ x t.
+        let g = fits x t in
+        subst (λ (k : ℕ). SamePlaces (length (a .y)) k (c .out) (e .out)) (knots-told (g .result) x (g .told))
+        (placed (g .result) (fitted (g .result)) (g .is) (same (fit a (lent b)) q ∙ g .is) (λ v. refl));
+  }
+
+  -- calls whose outcome is one but for the reason
+  agree-but : (q : Reason) (x : Summary) (g : Came (fit a (lent b)) x) → fit (withMaxIter other a) (lent b) ≡ fitted (withReason q (g .result)) → Agree a (Fit (reasoned q x)) s c e
+  agree-but q x g w =
+      let o = same (fitted (withReason q (g .result))) w in
       record {
-        answers = second .answer ∙ ap answerOf same ∙ sym (first .answer);
-        places = λ x t.
-            let g = came (fit a (lent b)) x (sym (first .answer) ∙ t) in
-            let k : length (g .result .knots) ≡ x .knots = knots-told (g .result) x (g .told) in
-            rw (sym k) (same-places a (g .result) (b .out) (d .out) (c .out) (e .out) (h .first .sizes (g .result) (g .is))
-            (first .out ∙ ap (λ (o : Outcome). after o (b .out)) (g .is)) (second .out ∙ ap (λ (o : Outcome). after o (d .out)) (same ∙ g .is)));
+        answers = h .second .gives .answer ∙ ap answerOf o ∙ told-with q (g .result) ∙ ap (λ (z : Summary). Fit (reasoned q z)) (g .told);
+        places = λ z t.
+            subst (λ (k : ℕ). SamePlaces (length (a .y)) k (c .out) (e .out)) (knots-told (g .result) x (g .told) ∙ fit-knots t)
+            (placed (g .result) (fitted (withReason q (g .result))) (g .is) o (after-with q (g .result)));
       }
 
   agreed : Agreement a other r s c e
   agreed = record {
-    alike = λ x t low one g.
-        let f = came (fit a (lent b)) x (sym (h .first .gives .answer) ∙ t) in
+    alike = λ x t low g.
+        let f = fits x t in
         let n = steps-told (f .result) x (f .told) in
-        agree (demand.alike a (lent b) (f .result) (f .is) (rw n low) other one (rw n g) ∙ sym (f .is));
+        agree (demand.alike a (lent b) (f .result) (f .is) (rw n low) other (rw n g) ∙ sym (f .is));
+    at-limit = λ x t low one g.
+        let f = fits x t in
+        let n = steps-told (f .result) x (f .told) in
+        let q = reason-told (f .result) x (f .told) in
+        agree-but (atLimit (x .reason)) x f
+        (ap (λ (m : ℕ). fit (withMaxIter m a) (lent b)) (sym (n ∙ g))
+        ∙ demand.at-limit a (lent b) (f .result) (f .is) (rw n low) (omega (arith, n, g, one))
+        ∙ ap (λ (z : Reason). fitted (withReason (atLimit z) (f .result))) q);
     settled = λ low high. agree (demand.settled a (lent b) other (a .max-iter) high low);
   }
 
+  lasts : (x : Summary) → r ≡ Fit x → (x .reason ≡ LimitSpent → ⊥) → a .max-iter < other → Agree a r s c e
+  lasts x t w g =
+      let f = fits x t in
+      agree (demand.other-reason a (lent b) (f .result) (f .is) (λ z. w (sym (reason-told (f .result) x (f .told)) ∙ z)) other g ∙ sym (f .is))
+
 pub agreement : TwoCallsAgree
 agreement a other r s b c d e h = agreed a other r s b c d e h
+
+pub lasting : LastingCalls
+lasting = record {
+  other-reason = lasts;
+  spent = λ a r b c h x t q.
+      let f = came (fit a (lent b)) x (sym (h .gives .answer) ∙ t) in
+      sym (steps-told (f .result) x (f .told)) ∙ demand.spent a (lent b) (f .result) (f .is) (reason-told (f .result) x (f .told) ∙ q);
+}

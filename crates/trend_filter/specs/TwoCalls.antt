@@ -3,11 +3,13 @@ use mathlib.Core.Path.{_≡_}
 use Prim.Native.Nat.{ℕ, _≤_, _<_}
 use lib.ListN.{length, take}
 use Rattle.decomposition.specs.Outputs.{Outputs}
+use Rattle.search.specs.Reasons.{atLimit}
 use Rattle.questions.specs.Questions.{Asked, room}
 use Rattle.fit.specs.Demand3.{withMaxIter}
 use Rattle.trend_filter.specs.declared.Summary.{Summary}
 use Rattle.trend_filter.specs.declared.Answer.{Answer}
 use Rattle.trend_filter.specs.declared.Answer.the-variants.{Fit}
+use Rattle.trend_filter.specs.Reasons.{reasoned}
 use Rattle.trend_filter.specs.Answers.{Buffers, lent, Answered}
 
 -- The first call asks a, answers r, finds b in the buffers and leaves c. The second asks the same with max_iter `other`, answers s, finds d and leaves e.
@@ -30,8 +32,10 @@ pub record Agree (a : Asked) (r s : Answer) (c e : Buffers) : Type 0 where
 
 -- when two calls agree
 pub record Agreement (a : Asked) (other : ℕ) (r s : Answer) (c e : Buffers) : Type 0 where
-  -- If the first fits with n_iter below its max_iter, and the second's max_iter is at least that n_iter and 1, they agree.
-  pub alike : (x : Summary) → r ≡ Fit x → x .«n_iter» < a .max-iter → 1 ≤ other → x .«n_iter» ≤ other → Agree a r s c e
+  -- If the first fits with n_iter below its max_iter, and the second's max_iter is above that n_iter, they agree, in the reason too;
+  pub alike : (x : Summary) → r ≡ Fit x → x .«n_iter» < a .max-iter → x .«n_iter» < other → Agree a r s c e
+  -- if it is that n_iter, and at least 1, they agree in all but the reason: what stalled has then spent its limit.
+  pub at-limit : (x : Summary) → r ≡ Fit x → x .«n_iter» < a .max-iter → 1 ≤ other → x .«n_iter» ≡ other → Agree a (Fit (reasoned (atLimit (x .reason)) x)) s c e
   -- If both limits are above 1,447,640, they agree, be it in a fit or in a refusal.
   pub settled : 1447640 < a .max-iter → 1447640 < other → Agree a r s c e
 

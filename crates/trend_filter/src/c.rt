@@ -21,9 +21,10 @@ fn tell(numbers: &mut [f64; 5], counts: &mut [u64; 5], a: Answer) -> u32
         Answer::Refused(q) => q,
         Answer::Fit(s) => {
             let c = one_if(s.converged);
+            let why = s.reason;
+            let w = search::number(why);
             *numbers = [s.lam_max, s.gap, s.first_gap, s.best_gap, s.objective];
-            let why = search::number(s.reason);
-            *counts = [s.knots as u64, s.n_iter, s.improvements, c, why];
+            *counts = [s.knots as u64, s.n_iter, s.improvements, c, w];
             0
         }
     }

@@ -44,6 +44,7 @@ fn told(w: Written, lam_max: f64) -> Answer
         Written::Lost => Answer::Refused(10),
         Written::Done(t) => {
             let s = t.numbers;
+            let why = s.reason;
             Answer::Fit(Summary {
                 knots: t.knots,
                 lam_max: lam_max,
@@ -54,7 +55,7 @@ fn told(w: Written, lam_max: f64) -> Answer
                 n_iter: s.n_iter,
                 improvements: s.improvements,
                 converged: s.converged,
-                reason: s.reason,
+                reason: why,
             })
         }
     }

@@ -23,7 +23,7 @@ use Rattle.search_path.proofs.search_polish.Statement.{statement}
 use Rattle.search_path.proofs.search_polish.Tie as tie
 
 polish-l1-requires : tie.Need-polish-l1-requires
-polish-l1-requires c κs = let ip = c .before .before .before .before in
+polish-l1-requires c κs = let ip = c .before .before .before .before .before in
     let h = ip .before .before .before .before .before .before .pre in
     let r = h .ready in
     record { ready = record { series = r .series; room = omega (arith, r .room, ip .ipm-l1 .ensures .kept .size); known = r .known }; marked = h .marked }
@@ -31,7 +31,7 @@ polish-l1-requires c κs = let ip = c .before .before .before .before in
 returns : tie.Need-returns
 unfolding searchOf keptOf pathEnd
 returns c = let pl = c .before .before .before .before .before .before .before in
-    let ip = pl .before .before .before .before .before in
+    let ip = pl .before .before .before .before .before .before in
     let st = ip .before .before .before .before .before .before in
     let p = st .args in
     let y = p .y .now in
@@ -41,7 +41,7 @@ returns c = let pl = c .before .before .before .before .before .before .before i
     let wo = c .before .before .won .ensures in
     let f = ip .ipm-l1 .ensures in
     let g = pl .polish-l1 .ensures in
-    let r = ip .ipm-l1 .result in
+    let r = ip .ipm-l1 .result .run in
     let v = pl .polish-l1 .result in
     let s = pl .polish-l1 .last .0 in
     let of : Dual → Option (List Float) = λ d. polish k (gramRow k) (diffK k y) lam d in
@@ -66,6 +66,7 @@ returns c = let pl = c .before .before .before .before .before .before .before i
               «n_iter» = f .n-iter i;
               improvements = f .improvements i;
               converged = le (gap i) (p .tol ⊗ primal i);
+              reason = f .reason i;
             };
           };
       kept = kept-then 0 (searchArea n) (f .kept) (g .kept) (omega arith) (omega arith) (omega arith) (omega arith);
