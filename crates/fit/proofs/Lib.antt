@@ -5,3 +5,4 @@ pub mod Lengths
 pub mod Demand3
 pub mod Looser
 pub mod Known
+pub mod Corpus
