@@ -78,8 +78,8 @@ fn every_reason_arrives() {
         (ended(1, &hours, 3000.0, 1e-3, 2), (2, true, Reason::LimitSpent)),
         (ended(1, &far, 1e308, 1e-8, 100), (10, false, Reason::Stalled)),
         (ended(1, &far, 1e308, 1e-8, 10), (10, false, Reason::LimitSpent)),
-        (ended(2, &peak, 2e-308, 1e-8, 100), (2, true, Reason::PivotLost)),
-        (ended(2, &peak, 2e-308, 1e-8, 2), (2, true, Reason::PivotLost)),
+        (ended(2, &peak, 2e-308, 1e-8, 100), (2, false, Reason::PivotLost)),
+        (ended(2, &peak, 2e-308, 1e-8, 2), (2, false, Reason::PivotLost)),
         (ended(1, &three, 5e7, 0.196545, 11), (11, true, Reason::GapSmall)),
         (ended(1, &[-1.0, 0.0, -2.0, -1.0], 0.999_999_999_999_999_7, 1.0, 100), (0, false, Reason::GapSmall)),
     ];
