@@ -32,6 +32,16 @@ def make():
     return out
 
 
+# why the search stopped, by the number that ends the first line
+REASONS = [
+    "no search was needed",
+    "the search stopped because the gap was small enough",
+    "the search stopped at its step limit",
+    "the search stopped because ten steps in a row were no improvement",
+    "the search stopped because the equations of a step could not be solved",
+]
+
+
 def number(digits):
     return struct.unpack(">d", bytes.fromhex(digits))[0]
 
@@ -40,8 +50,9 @@ def show(lines):
     for line in lines:
         word, *rest = line.split()
         if word == "fit":
-            n, order, penalty, steps, gains, converged = rest
+            n, order, penalty, steps, gains, converged, reason = rest
             print(f"{n} hours, order {order}, penalty {penalty}: {steps} steps, {gains} of them improvements, {'settled' if converged == '1' else 'not settled'}")
+            print(REASONS[int(reason)])
         elif word == "h":
             print(f"hour {int(rest[0]):3}  trend {number(rest[1]):10.1f} ms  cycle {number(rest[2]):10.1f} ms")
         elif word == "knot":

@@ -5,6 +5,14 @@ tests/fits holds TABLE-PLACE.case, a call of the fit, and TABLE-PLACE.exp, the R
 writes the answers; oracle/src/stored.rs says what stands where). Each becomes a row of a table, and each table a proof that the
 definition works out to the Rust's bits. What the proofs open is taken from crates/fit/proofs/Known.antt.
 Table 7 is pairs alike but for tol: docs/PROMISES.md, "A looser tolerance costs no more steps", says what each meets.
+Table 8 is how each reason comes about:
+    1       a closed path
+    2       gap small enough before the first iteration
+    3, 4, 7 gap small enough after 3 iterations, the limit above them; the same with the limit 3; the limit 2 is spent
+    5, 6    stalled after 10 iterations, the limit above them; with the limit 10 it is the limit that is spent
+    8, 9    pivot lost in iteration 2, the limit above it; the same with the limit 2
+    10      gap small enough, and the polish leaves converged 0
+    11      gap small enough, limit spent and stalled at once: the first of them is the reason
 
 Without a word the file is written; with --check it is only compared, and another text, or no case, is an error.
 """
@@ -17,6 +25,7 @@ ROOT = pathlib.Path(__file__).resolve().parent.parent
 FITS = ROOT / "tests/fits"
 KNOWN = ROOT / "crates/fit/proofs/Known.antt"
 CORPUS = ROOT / "crates/fit/proofs/Corpus.antt"
+REASONS = ["ClosedPath", "GapSmall", "LimitSpent", "Stalled", "PivotLost"]
 
 
 def bits(x):
@@ -43,13 +52,13 @@ def row(path):
     room = fields(zip(["trend", "cycle", "knots", "work", "marks"], lent))
     end = lines[0]
     if not end.startswith("refused"):
-        n_iter, improvements, converged = end.split()[4:7]
+        n_iter, improvements, converged, reason = end.split()[4:8]
         numbers = ["F 0x" + w for w in lines[1].split()[1:]]
         places = [line.split() for line in lines if line.startswith("h ")]
         knots = [line.split()[1] for line in lines if line.startswith("knot ")]
         found = fields(
             list(zip(["gap", "«first_gap»", "«best_gap»", "objective"], numbers[1:]))
-            + [("«n_iter»", n_iter), ("improvements", improvements), ("converged", "true" if converged == "1" else "false")]
+            + [("«n_iter»", n_iter), ("improvements", improvements), ("converged", "true" if converged == "1" else "false"), ("reason", REASONS[int(reason)])]
         )
         end = "fitted (" + fields(
             [("trend", vector("F 0x" + p[2] for p in places)), ("cycle", vector("F 0x" + p[3] for p in places)), ("knots", vector(knots))]
@@ -78,7 +87,7 @@ def text():
     if not tables:
         sys.exit("known_fits: tests/fits holds no case")
     known = KNOWN.read_text().splitlines()
-    uses = [line for line in known if line.startswith("use Rattle") and ".specs.Known." not in line]
+    uses = [line for line in known if line.startswith("use Rattle") and ".specs.Known." not in line and ".Reason." not in line]
     # the outcome of a case is named beside what is opened
     uses = [re.sub(r"(\.specs\.Fit\.\{)(?!.*\bfitted\b)", r"\1fitted, ", line) for line in uses]
     opened = next(line for line in known if line.startswith("unfolding"))
@@ -90,6 +99,7 @@ def text():
         "use Prim.Native.Nat.{ℕ}",
         "use lib.Ieee.{Float, binary64, ofBits, ofInt, add, sub, mul, div, neg, lt, le, eq, isNan}",
         *uses,
+        "use Rattle.search.specs.declared.Reason.the-variants.{" + ", ".join(REASONS) + "}",
         "use Rattle.fit.specs.Known.{Case, worked, stated}",
         "",
         "-- a double by its bits",

@@ -19,12 +19,12 @@ struct Buffers {
     work: Vec<f64>,
     marks: Vec<u32>,
     numbers: [f64; 5],
-    counts: [u64; 4],
+    counts: [u64; 5],
 }
 
 impl Buffers {
     fn new(n: usize) -> Buffers {
-        Buffers { trend: vec![0.0; n], cycle: vec![0.0; n], knots: vec![0; n], work: vec![0.0; 40 * n], marks: vec![0; 2 * n], numbers: [0.0; 5], counts: [0; 4] }
+        Buffers { trend: vec![0.0; n], cycle: vec![0.0; n], knots: vec![0; n], work: vec![0.0; 40 * n], marks: vec![0; 2 * n], numbers: [0.0; 5], counts: [0; 5] }
     }
 
     fn fit(&mut self, y: &[f64], lam: f64, tol: f64, max_iter: u64, order: u32, penalty: u32) -> u64 {

@@ -9,7 +9,7 @@
 int main(void) {
     double y[N] = {8000, 0}, trend[N], cycle[N], work[40 * N], numbers[5];
     uint32_t knots[N], marks[2 * N];
-    uint64_t counts[4];
+    uint64_t counts[5];
     if (!trend_filter_environment_ok()) {
         printf("the floating-point environment is not the one that the promises assume\n");
         return 1;
@@ -19,7 +19,9 @@ int main(void) {
         printf("refused %" PRIu32 "\n", refused);
         return 1;
     }
-    printf("%" PRIu64 " steps, %" PRIu64 " knots, gap %g, objective %g\n", counts[1], counts[0], numbers[1], numbers[4]);
+    static const char *const reasons[] = {"closed path", "gap small enough", "limit spent", "stalled", "pivot lost"};
+    printf("%" PRIu64 " steps (%s), %" PRIu64 " knots, ", counts[1], reasons[counts[4]], counts[0]);
+    printf("gap %g, objective %g\n", numbers[1], numbers[4]);
     for (int i = 0; i < N; i++) printf("h %d %g %g\n", i, trend[i], cycle[i]);
     return 0;
 }

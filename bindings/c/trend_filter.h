@@ -19,12 +19,22 @@
  *
  * After a fit: the first n places of trend and cycle and the first counts[0] places of knots hold the answer; all later places are as found.
  *   numbers: lam_max, gap, first gap, best gap, objective
- *   counts:  knots, n_iter, improvements, converged (0 or 1)
+ *   counts:  knots, n_iter, improvements, converged (0 or 1), reason (0 to 4)
  * After a refusal: trend, cycle, knots, numbers and counts are as found; after 1 to 9 work and marks are too.
  * After a fit or number 10 the first 40 n places of work and 2 n of marks are free (nothing is promised of them); later ones are as found.
  *
  * Steps: n_iter is at most max_iter and at most 10 J + 10, where J, the improvements, is at most 144,763. A larger tol, all else alike,
  * never gives a greater n_iter.
+ *
+ * The reason is how the search ended; where more than one holds before an iteration, it is the first of 1, 2, 3:
+ *   0  closed path: there was no search (L2, or L1 with lam 0 or lam at least lam_max)
+ *   1  gap small enough: where the search stood, the gap was at most tol times the objective
+ *   2  limit spent: n_iter == max_iter
+ *   3  stalled: the last ten iterations were no improvements
+ *   4  pivot lost: the last iteration met a pivot that isn't finite and above 0, and the search stayed where it stood
+ * It tells of the search and not of the answer: the polish after it may lower the objective, so that converged is 0 after reason 1, or the
+ * gap, so that converged is 1 after 2, 3 or 4. A search that stalls just as its limit runs out reports 2. Any reason but 2 stays, with the
+ * whole answer, for every larger max_iter. Before the reason was added counts had four places: a program of that time has to lend five.
  *
  * The floating-point environment is taken as C starts a program: rounding to nearest, subnormal numbers kept (no flush to zero, no
  * denormals as zero), no exception that traps. A program that is linked with -ffast-math, or that called fesetround, feenableexcept
@@ -44,7 +54,16 @@ extern "C" {
 uint32_t trend_filter_fit(const double *y, size_t y_len, double lam, double tol, uint64_t max_iter, uint32_t order,
                           uint32_t penalty, double *trend, size_t trend_len, double *cycle, size_t cycle_len,
                           uint32_t *knots, size_t knots_len, double *work, size_t work_len, uint32_t *marks,
-                          size_t marks_len, double numbers[5], uint64_t counts[4]);
+                          size_t marks_len, double numbers[5], uint64_t counts[5]);
+
+/* The reasons, as counts[4] has them. */
+enum trend_filter_reason {
+    TREND_FILTER_CLOSED_PATH = 0,
+    TREND_FILTER_GAP_SMALL = 1,
+    TREND_FILTER_LIMIT_SPENT = 2,
+    TREND_FILTER_STALLED = 3,
+    TREND_FILTER_PIVOT_LOST = 4
+};
 
 /* Whether a floating-point exception traps; with another compiler than gcc or clang this isn't known, and the answer is 0. */
 static inline int trend_filter_traps(void) {

@@ -65,7 +65,10 @@ pub fn expected(c: &Case) -> Result<(TrendFilterFit, counted::Seen), u32> {
     let mut seen = counted::take_seen();
     if let (Ok(f), Ok(g)) = (&fit, &again) {
         assert!(f.n_iter == g.n_iter && same(f.duality_gap, g.duality_gap), "the copy with counters differs from the module");
-        if seen.reason == 0 {
+        // A search always leaves a reason above 0; none was made exactly where the module takes a path without one.
+        let closed = c.penalty == 2 || c.lam == 0.0 || c.lam >= f.lam_max;
+        assert!((seen.reason == 0) == closed && (!closed || f.n_iter == 0 && f.converged), "reason {} of a path that isn't its own", seen.reason);
+        if closed {
             seen.first = f.duality_gap;
             seen.best = f.duality_gap;
         }
@@ -103,7 +106,7 @@ fn same_fit(f: &TrendFilterFit, seen: &counted::Seen, a: &Answer) -> Result<(), 
     if let Some(i) = (0..5).find(|&i| !same(numbers[i], a.numbers[i])) {
         return Err(format!("number {i}: {:016x} by the Rust, {:016x} by the port", numbers[i].to_bits(), a.numbers[i].to_bits()));
     }
-    let counts = [f.knots.len() as u64, f.n_iter as u64, seen.improvements, f.converged as u64];
+    let counts = [f.knots.len() as u64, f.n_iter as u64, seen.improvements, f.converged as u64, seen.reason as u64];
     if a.counts != counts {
         return Err(format!("counts: {counts:?} by the Rust, {:?} by the port", a.counts));
     }

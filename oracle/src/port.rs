@@ -13,7 +13,7 @@ extern "C" {
         knots: *mut u32, knots_len: usize,
         work: *mut f64, work_len: usize,
         marks: *mut u32, marks_len: usize,
-        numbers: *mut [f64; 5], counts: *mut [u64; 4],
+        numbers: *mut [f64; 5], counts: *mut [u64; 5],
     ) -> u32;
 }
 
@@ -147,7 +147,7 @@ pub struct Answer {
     pub knots: Vec<u32>,
     /// lam_max, gap, first gap, best gap, objective
     pub numbers: Vec<f64>,
-    /// knots, n_iter, improvements, converged
+    /// knots, n_iter, improvements, converged, reason
     pub counts: Vec<u64>,
     /// how many places were compared with what they held before the call
     pub kept: u64,
@@ -167,7 +167,7 @@ impl Port {
         let work = self.work.filled(l.work, seed(3)) as *mut f64;
         let marks = self.marks.filled(l.marks, seed(4));
         let numbers = self.numbers.filled(5, seed(5)) as *mut [f64; 5];
-        let counts = self.counts.filled(4, seed(6)) as *mut [u64; 4];
+        let counts = self.counts.filled(5, seed(6)) as *mut [u64; 5];
         // SAFETY: each pointer is to as many places as the length beside it says, and none overlap.
         let refused = unsafe {
             trend_filter_fit(
@@ -191,7 +191,7 @@ impl Port {
             + self.work.kept("work", if_free(40 * n))?
             + self.marks.kept("marks", if_free(2 * n))?
             + self.numbers.kept("numbers", if_fit(5))?
-            + self.counts.kept("counts", if_fit(4))?;
+            + self.counts.kept("counts", if_fit(5))?;
         let doubles = |v: &Lent<u64>, n: usize| v.first(n).iter().map(|&b| f64::from_bits(b)).collect();
         Ok(Answer {
             refused,
@@ -199,7 +199,7 @@ impl Port {
             cycle: doubles(&self.cycle, if_fit(n)),
             knots: self.knots.first(count).to_vec(),
             numbers: doubles(&self.numbers, if_fit(5)),
-            counts: self.counts.first(if_fit(4)).to_vec(),
+            counts: self.counts.first(if_fit(5)).to_vec(),
             kept,
         })
     }
@@ -208,7 +208,7 @@ impl Port {
 /// The answer where nothing is lent but addresses of no places: every pointer but those of numbers and counts is null.
 pub fn nothing_lent(order: u32, penalty: u32) -> u32 {
     use std::ptr::{null, null_mut};
-    let (mut numbers, mut counts) = ([0.0; 5], [0; 4]);
+    let (mut numbers, mut counts) = ([0.0; 5], [0; 5]);
     // SAFETY: a slice of no places is never read or written.
     unsafe {
         trend_filter_fit(

@@ -2,7 +2,7 @@
 //!
 //! The file is the number of cases and then the cases. A case is: group, order, penalty, n, the lengths lent of trend, cycle, knots, work
 //! and marks, lam, tol, max_iter, the n places of y; then the refusal's number, 0 for a fit; and for a fit lam_max, gap, first gap, best
-//! gap, objective, how many knots, n_iter, improvements, converged, the n places of trend and of cycle, and the knots.
+//! gap, objective, how many knots, n_iter, improvements, converged, reason, the n places of trend and of cycle, and the knots.
 //! A double is its bits, any NaN 7ff8000000000000.
 use crate::cases::{damaged, good, lam_max_of, Case};
 use crate::compare::{answer, bits, expected};
@@ -26,7 +26,7 @@ fn words(group: usize, c: &Case, l: &Lengths, out: &mut Vec<u64>) {
         Ok((f, s)) => {
             out.push(0);
             out.extend([f.lam_max, f.duality_gap, s.first, s.best, f.objective].map(bits));
-            out.extend([f.knots.len() as u64, f.n_iter as u64, s.improvements, f.converged as u64]);
+            out.extend([f.knots.len() as u64, f.n_iter as u64, s.improvements, f.converged as u64, s.reason as u64]);
             out.extend(f.trend.iter().chain(&f.cycle).map(|&x| bits(x)));
             out.extend(f.knots.iter().map(|&k| k as u64));
         }

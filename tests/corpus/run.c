@@ -90,15 +90,15 @@ static void say(const char *name, const char *what) {
     if (wrong++ < 40) printf("%s: %s\n", name, what);
 }
 
-// The text that the .exp has, from what the call returned; the reason, which the call does not return, is taken over.
-static char *listing(size_t n, uint32_t order, uint32_t penalty, const char *reason, const double *t, const double *c,
-                     const uint32_t *k, const double num[5], const uint64_t cnt[4]) {
+// The text that the .exp has, from what the call returned.
+static char *listing(size_t n, uint32_t order, uint32_t penalty, const double *t, const double *c, const uint32_t *k,
+                     const double num[5], const uint64_t cnt[5]) {
     char *out = malloc(400 + (n <= 256 ? n * 80 : 0)), *p = out;
     uint64_t h[3] = {HASH0, HASH0, HASH0};
     for (size_t i = 0; i < n; i++) h[0] = hash_more(h[0], bits_of(t[i]), 8), h[1] = hash_more(h[1], bits_of(c[i]), 8);
     for (uint64_t i = 0; i < cnt[0]; i++) h[2] = hash_more(h[2], k[i], 4);
-    p += sprintf(p, "fit %zu %u %u %" PRIu64 " %" PRIu64 " %" PRIu64 " %s %" PRIu64 "\n", n, order, penalty, cnt[1], cnt[2], cnt[3], reason, cnt[0]);
-    p += sprintf(p, "num");
+    p += sprintf(p, "fit %zu %u %u %" PRIu64 " %" PRIu64 " %" PRIu64, n, order, penalty, cnt[1], cnt[2], cnt[3]);
+    p += sprintf(p, " %" PRIu64 " %" PRIu64 "\nnum", cnt[4], cnt[0]);
     for (int i = 0; i < 5; i++) p += sprintf(p, " %016" PRIx64, bits_of(num[i]));
     p += sprintf(p, "\nhash %016" PRIx64 " %016" PRIx64 " %016" PRIx64 "\n", h[0], h[1], h[2]);
     if (n <= 256) {
@@ -119,7 +119,7 @@ static void run(const char *dir, const char *name) {
     uint64_t max_iter;
     memcpy(&max_iter, d + 48, 8);
     Lent y = lend(8 * n), t = lend(8 * lt), c = lend(8 * lc), k = lend(4 * lk), w = lend(8 * lw), m = lend(4 * lm);
-    Lent nu = lend(40), co = lend(32);
+    Lent nu = lend(40), co = lend(40);
     memcpy(y.at, d + 56, 8 * n);
     uint32_t got = trend_filter_fit((double *)y.at, n, lam, tol, max_iter, order, penalty, (double *)t.at, lt, (double *)c.at, lc,
                                     (uint32_t *)k.at, lk, (double *)w.at, lw, (uint32_t *)m.at, lm, (double *)nu.at, (uint64_t *)co.at);
@@ -134,17 +134,15 @@ static void run(const char *dir, const char *name) {
         say(name, "a fit where a refusal is due");
     } else {
         const uint64_t *cnt = (uint64_t *)co.at;
-        char reason[8];
-        sscanf(e, "fit %*s %*s %*s %*s %*s %*s %7s", reason);
         if (cnt[0] > lk || cnt[0] > n) say(name, "more knots than places");
         else {
-            char *g = listing(n, order, penalty, reason, (double *)t.at, (double *)c.at, (uint32_t *)k.at, (double *)nu.at, cnt);
+            char *g = listing(n, order, penalty, (double *)t.at, (double *)c.at, (uint32_t *)k.at, (double *)nu.at, cnt);
             if (strcmp(g, e)) say(name, "another answer");
             free(g);
             if (!kept(t, 8 * n) || !kept(c, 8 * n) || !kept(k, 4 * cnt[0])) say(name, "a place past the answer changed");
         }
         if (!kept(w, 8 * 40 * n) || !kept(m, 4 * 2 * n)) say(name, "work or marks changed past the free places");
-        if (!kept(nu, 40) || !kept(co, 32)) say(name, "a guard of the numbers changed");
+        if (!kept(nu, 40) || !kept(co, 40)) say(name, "a guard of the numbers changed");
     }
     free(d), free(e), free(y.all), free(t.all), free(c.all), free(k.all), free(w.all), free(m.all), free(nu.all), free(co.all);
 }

@@ -3,7 +3,8 @@
 
 Each run must end within ten seconds, with status 0, and print a listing or one line `refused N`, nothing else.
 Beside that form, a plain reading of document 01's questions 11 to 13, 1, 2, 5, 6, 7 and 10 says for each input
-which refusal is right, and of a fit n, order, penalty, the bounds of n_iter and the rising knots are checked.
+which refusal is right, and of a fit n, order, penalty, the bounds of n_iter, the rising knots and what the other fields
+say of the reason are checked.
 Refusal 10 is right exactly where the Rust's elimination, done here in doubles, meets a pivot that isn't finite and above 0.
 """
 import functools
@@ -17,7 +18,8 @@ import sys
 
 LENGTHS = {1: 6, 2: 2, 3: 28}
 HEX = "[0-9a-f]{16}"
-FIT = re.compile(rf"fit (\d+) (\d+) (\d+) (\d+) (\d+) ([01])\n{HEX} {HEX} {HEX}\n((?:h \d+ {HEX} {HEX}\n)*)((?:knot \d+\n)*)")
+FIT = re.compile(rf"fit (\d+) (\d+) (\d+) (\d+) (\d+) ([01]) ([0-4])\n({HEX}) {HEX} {HEX}\n((?:h \d+ {HEX} {HEX}\n)*)((?:knot \d+\n)*)")
+CLOSED, SMALL, SPENT, STALLED, LOST = range(5)
 
 
 # ---- what is right
@@ -37,7 +39,7 @@ def split(data):
 
 
 def expected(data):
-    """A refusal's number, or (n, order, penalty, max_iter) of a series that reaches the fit."""
+    """A refusal's number, or (n, order, penalty, lam, max_iter) of a series that reaches the fit."""
     records = split(data) if len(data) <= 4096 else None
     if records is None:
         return 11
@@ -59,7 +61,7 @@ def expected(data):
         return 7
     if not (sound_dd(order, n - order) and (penalty == 1 or sound_l2(order, n, lam))):
         return 10
-    return n, order, penalty, limit
+    return n, order, penalty, lam, limit
 
 
 def sound(a, bandwidth):
@@ -104,6 +106,18 @@ def sound_l2(k, n, lam):
     return sound(rows, k)
 
 
+def ends_so(reason, penalty, lam, lam_max, n_iter, limit, improvements, converged):
+    """Whether a search can have ended for this reason, as far as the listing tells."""
+    closed = penalty == 2 or lam == 0 or lam >= lam_max
+    return {
+        CLOSED: closed and n_iter == 0 and improvements == 0 and converged == 1,
+        SMALL: not closed,
+        SPENT: not closed and n_iter == limit,
+        STALLED: not closed and improvements + 10 <= n_iter < limit,
+        LOST: not closed and improvements + 1 <= n_iter,
+    }[reason]
+
+
 def fault(data, run):
     """What is wrong with a run, or None."""
     if run.returncode != 0 or run.stderr:
@@ -111,19 +125,22 @@ def fault(data, run):
     want = expected(data)
     if isinstance(want, int):
         return None if run.stdout == b"refused %d\n" % want else f"refused {want} is right"
-    n, order, penalty, limit = want
+    n, order, penalty, lam, limit = want
     m = FIT.fullmatch(run.stdout.decode("ascii", "replace"))
     if not m:
         return "neither a listing nor a refusal"
-    head = [int(m.group(i)) for i in range(1, 7)]
-    n_iter, improvements = head[3], head[4]
+    head = [int(m.group(i)) for i in range(1, 8)]
+    n_iter, improvements, converged, reason = head[3:]
+    lam_max = struct.unpack(">d", bytes.fromhex(m.group(8)))[0]
     if head[:3] != [n, order, penalty]:
         return "another n, order or penalty"
     if n_iter > limit or n_iter > 10 * improvements + 10:
         return "more steps than allowed"
-    if [int(line.split()[1]) for line in m.group(7).splitlines()] != list(range(n)):
+    if not ends_so(reason, penalty, lam, lam_max, n_iter, limit, improvements, converged):
+        return f"reason {reason} does not go with the other fields"
+    if [int(line.split()[1]) for line in m.group(9).splitlines()] != list(range(n)):
         return "the hours are not numbered from 0"
-    knots = [int(line.split()[1]) for line in m.group(8).splitlines()]
+    knots = [int(line.split()[1]) for line in m.group(10).splitlines()]
     if knots != sorted(set(knots)) or any(k >= n - order for k in knots):
         return "the knots do not rise within the series"
     return None

@@ -1,8 +1,9 @@
 //! L1 trend filtering and its squared-penalty counterpart, by the proved port, with the names of the source module: a program that
 //! used `l1_trend_filter`, `TrendFilterOptions`, `Penalty` and `TrendFilterFit` of the source changes its `use` line only.
+//! `TrendFilterFit` has the source's fields and no other, so that a program which takes it apart or builds one compiles too.
 //!
-//! Beside the source's fields a fit has `first_gap`, `best_gap` and `improvements`. The refusals are [`Refused`], which holds the
-//! question's number and says it in words.
+//! What the port knows beyond the source, how the search went and why it stopped, is [`Search`]; [`l1_trend_filter_with_search`]
+//! gives it beside the fit. The refusals are [`Refused`], which holds the question's number and says it in words.
 //!
 //! The floating-point environment is taken as a program starts: rounding to nearest, subnormal numbers kept, no exception that
 //! traps. Rust assumes the same of all its code. Where other code on the thread has changed it (C's `fesetround` or
@@ -38,7 +39,7 @@ impl Default for TrendFilterOptions {
     }
 }
 
-/// Result of [`l1_trend_filter`].
+/// Result of [`l1_trend_filter`]: the source's fields.
 #[derive(Debug, Clone, PartialEq)]
 pub struct TrendFilterFit {
     pub trend: Vec<f64>,
@@ -51,12 +52,63 @@ pub struct TrendFilterFit {
     pub converged: bool,
     pub n_iter: usize,
     pub lam_max: f64,
-    /// The gap before the first step.
+}
+
+/// How the search of a fit went: what the source's fit doesn't have.
+#[derive(Debug, Clone, Copy, PartialEq)]
+pub struct Search {
+    /// The gap before the first step; on a closed path the gap.
     pub first_gap: f64,
     /// The least gap by which a step was an improvement; the first gap where none was.
     pub best_gap: f64,
     /// How many steps were improvements: `n_iter` is at most 10 times this plus 10.
     pub improvements: u64,
+    pub reason: Reason,
+}
+
+/// Why the search stopped. Where more than one of `GapSmall`, `LimitSpent` and `Stalled` holds, it is the first of them.
+///
+/// It tells of the search and not of the answer: the polish after it may lower the objective, so that `converged` is false after
+/// `GapSmall`, or the gap, so that it is true after `LimitSpent`, `Stalled` or `PivotLost`. Any reason but `LimitSpent` stays, with
+/// the whole answer, for every larger `max_iter`. `reason as u8` is the number that the weekly program prints.
+#[derive(Debug, Clone, Copy, PartialEq, Eq)]
+pub enum Reason {
+    /// There was no search: L2, or L1 with `lam` 0 or at least `lam_max`.
+    ClosedPath = 0,
+    /// Where the search stood, the gap was at most `tol` times the objective.
+    GapSmall = 1,
+    /// `n_iter` is `max_iter`; also where the search stalled just then.
+    LimitSpent = 2,
+    /// The last ten steps were no improvements.
+    Stalled = 3,
+    /// The last step met a pivot that isn't finite and above 0, and the search stayed where it stood.
+    PivotLost = 4,
+}
+
+impl Reason {
+    /// The reason of a number, as the entry returns it.
+    fn of(number: u64) -> Reason {
+        match number {
+            0 => Reason::ClosedPath,
+            1 => Reason::GapSmall,
+            2 => Reason::LimitSpent,
+            3 => Reason::Stalled,
+            4 => Reason::PivotLost,
+            _ => panic!("the static library is older than this crate: it returns no reason"),
+        }
+    }
+}
+
+impl fmt::Display for Reason {
+    fn fmt(&self, f: &mut fmt::Formatter<'_>) -> fmt::Result {
+        f.write_str(match self {
+            Reason::ClosedPath => "closed path",
+            Reason::GapSmall => "gap small enough",
+            Reason::LimitSpent => "limit spent",
+            Reason::Stalled => "stalled",
+            Reason::PivotLost => "pivot lost",
+        })
+    }
 }
 
 /// A refusal: the number of the first question answered no.
@@ -98,7 +150,7 @@ extern "C" {
         knots: *mut u32, knots_len: usize,
         work: *mut f64, work_len: usize,
         marks: *mut u32, marks_len: usize,
-        numbers: *mut [f64; 5], counts: *mut [u64; 4],
+        numbers: *mut [f64; 5], counts: *mut [u64; 5],
     ) -> u32;
 }
 
@@ -107,6 +159,14 @@ extern "C" {
 /// # Errors
 /// [`Refused`] with the number of the first question answered no.
 pub fn l1_trend_filter(y: &[f64], lam: f64, opts: TrendFilterOptions) -> Result<TrendFilterFit, Refused> {
+    l1_trend_filter_with_search(y, lam, opts).map(|(fit, _)| fit)
+}
+
+/// The trend of `y`, as [`l1_trend_filter`] gives it, and how its search went.
+///
+/// # Errors
+/// [`Refused`] with the number of the first question answered no.
+pub fn l1_trend_filter_with_search(y: &[f64], lam: f64, opts: TrendFilterOptions) -> Result<(TrendFilterFit, Search), Refused> {
     let n = y.len();
     if n > 65_536 {
         // Asked here so that no memory is taken for a series that is refused anyway; the earlier questions are the order's.
@@ -118,7 +178,7 @@ pub fn l1_trend_filter(y: &[f64], lam: f64, opts: TrendFilterOptions) -> Result<
     let mut work = vec![0.0; 40 * n];
     let mut marks = vec![0u32; 2 * n];
     let mut numbers = [0.0; 5];
-    let mut counts = [0; 4];
+    let mut counts = [u64::MAX; 5]; // no reason has this number
     let penalty = match opts.penalty {
         Penalty::L1 => 1,
         Penalty::L2 => 2,
@@ -137,8 +197,8 @@ pub fn l1_trend_filter(y: &[f64], lam: f64, opts: TrendFilterOptions) -> Result<
         return Err(Refused(refused));
     }
     let [lam_max, duality_gap, first_gap, best_gap, objective] = numbers;
-    let [count, n_iter, improvements, converged] = counts;
-    Ok(TrendFilterFit {
+    let [count, n_iter, improvements, converged, reason] = counts;
+    let fit = TrendFilterFit {
         trend,
         cycle,
         knots: knots[..count as usize].iter().map(|&i| i as usize).collect(),
@@ -147,8 +207,6 @@ pub fn l1_trend_filter(y: &[f64], lam: f64, opts: TrendFilterOptions) -> Result<
         converged: converged == 1,
         n_iter: n_iter as usize,
         lam_max,
-        first_gap,
-        best_gap,
-        improvements,
-    })
+    };
+    Ok((fit, Search { first_gap, best_gap, improvements, reason: Reason::of(reason) }))
 }

@@ -1,4 +1,4 @@
-use trend_filter::{l1_trend_filter, Penalty, Refused, TrendFilterOptions};
+use trend_filter::{l1_trend_filter, l1_trend_filter_with_search, Penalty, Reason, Refused, Search, TrendFilterFit, TrendFilterOptions};
 
 fn opts(order: usize, penalty: Penalty) -> TrendFilterOptions {
     TrendFilterOptions { order, penalty, tol: 1e-8, max_iter: 100 }
@@ -22,9 +22,79 @@ fn l2_of_six_and_zero() {
 
 #[test]
 fn a_search_with_a_polish() {
-    let f = l1_trend_filter(&[8000.0, 0.0, 100.0], 1000.0, opts(1, Penalty::L1)).unwrap();
-    assert_eq!((f.trend, f.n_iter, f.improvements), (vec![7000.0, 550.0, 550.0], 16, 13));
-    assert!(f.converged && f.first_gap == 8_100_000.0 && f.best_gap < 0.1);
+    let (f, s) = l1_trend_filter_with_search(&[8000.0, 0.0, 100.0], 1000.0, opts(1, Penalty::L1)).unwrap();
+    assert_eq!((f.trend, f.n_iter, s.improvements), (vec![7000.0, 550.0, 550.0], 16, 13));
+    assert!(f.converged && s.first_gap == 8_100_000.0 && s.best_gap < 0.1 && s.reason == Reason::GapSmall);
+}
+
+/// The source's signature.
+const SOURCE: fn(&[f64], f64, TrendFilterOptions) -> Result<TrendFilterFit, Refused> = l1_trend_filter;
+
+/// The source's fields, each with its type: a field more or less, or of another type, doesn't compile.
+type Fields = (Vec<f64>, Vec<f64>, Vec<usize>, f64, f64, bool, usize, f64);
+
+fn apart(f: TrendFilterFit) -> Fields {
+    let TrendFilterFit { trend, cycle, knots, duality_gap, objective, converged, n_iter, lam_max } = f;
+    (trend, cycle, knots, duality_gap, objective, converged, n_iter, lam_max)
+}
+
+fn built((trend, cycle, knots, duality_gap, objective, converged, n_iter, lam_max): Fields) -> TrendFilterFit {
+    TrendFilterFit { trend, cycle, knots, duality_gap, objective, converged, n_iter, lam_max }
+}
+
+#[test]
+fn the_fields_are_the_source_s() {
+    let f = SOURCE(&[6.0, 0.0], 1.0, opts(1, Penalty::L2)).unwrap();
+    assert_eq!(apart(f.clone()), (vec![4.0, 2.0], vec![2.0, -2.0], vec![0], 0.0, 6.0, true, 0, 3.0));
+    assert_eq!(built(apart(f.clone())), f);
+}
+
+#[test]
+fn both_entries_give_one_fit() {
+    for (y, lam) in [(&[8000.0, 0.0][..], 3000.0), (&[8000.0, 0.0], 4000.0), (&[1.0, f64::NAN], 1.0)] {
+        let o = opts(1, Penalty::L1);
+        assert_eq!(l1_trend_filter(y, lam, o), l1_trend_filter_with_search(y, lam, o).map(|(f, _)| f));
+    }
+}
+
+/// Steps, converged and reason of an L1 fit.
+fn ended(order: usize, y: &[f64], lam: f64, tol: f64, max_iter: usize) -> (usize, bool, Reason) {
+    let (f, s) = l1_trend_filter_with_search(y, lam, TrendFilterOptions { order, penalty: Penalty::L1, tol, max_iter }).unwrap();
+    (f.n_iter, f.converged, s.reason)
+}
+
+#[test]
+fn every_reason_arrives() {
+    let hours = [8000.0, 0.0];
+    let far = [1e308, -1e308];
+    let peak = [0.0, 1.0, 0.0];
+    let three = [-3e8, 2e8, -2e8];
+    let all = [
+        (ended(1, &hours, 4000.0, 1e-3, 100), (0, true, Reason::ClosedPath)),
+        (ended(1, &hours, 0.0, 1e-3, 100), (0, true, Reason::ClosedPath)),
+        (ended(1, &hours, 3000.0, 1.0, 100), (0, true, Reason::GapSmall)),
+        (ended(1, &hours, 3000.0, 1e-3, 100), (3, true, Reason::GapSmall)),
+        (ended(1, &hours, 3000.0, 1e-3, 3), (3, true, Reason::GapSmall)),
+        (ended(1, &hours, 3000.0, 1e-3, 2), (2, true, Reason::LimitSpent)),
+        (ended(1, &far, 1e308, 1e-8, 100), (10, false, Reason::Stalled)),
+        (ended(1, &far, 1e308, 1e-8, 10), (10, false, Reason::LimitSpent)),
+        (ended(2, &peak, 2e-308, 1e-8, 100), (2, false, Reason::PivotLost)),
+        (ended(2, &peak, 2e-308, 1e-8, 2), (2, false, Reason::PivotLost)),
+        (ended(1, &three, 5e7, 0.196545, 11), (11, true, Reason::GapSmall)),
+        (ended(1, &[-1.0, 0.0, -2.0, -1.0], 0.999_999_999_999_999_7, 1.0, 100), (0, false, Reason::GapSmall)),
+    ];
+    for (i, (got, right)) in all.iter().enumerate() {
+        assert_eq!(got, right, "case {i}");
+    }
+    let l2 = l1_trend_filter_with_search(&[6.0, 0.0], 1.0, opts(1, Penalty::L2)).unwrap().1;
+    assert_eq!(l2, Search { first_gap: 0.0, best_gap: 0.0, improvements: 0, reason: Reason::ClosedPath });
+}
+
+#[test]
+fn reasons_in_numbers_and_words() {
+    let all = [Reason::ClosedPath, Reason::GapSmall, Reason::LimitSpent, Reason::Stalled, Reason::PivotLost];
+    assert_eq!(all.map(|r| r as u8), [0, 1, 2, 3, 4]);
+    assert_eq!(all.map(|r| r.to_string()), ["closed path", "gap small enough", "limit spent", "stalled", "pivot lost"]);
 }
 
 #[test]
