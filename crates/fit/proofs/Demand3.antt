@@ -5,6 +5,7 @@ use native.Mathlib.Omega.{arith}
 use mathlib.Core.Bool.{Bool, true, false, cond, _&&_}
 use mathlib.Core.List.{List}
 use mathlib.Core.Option.{Option, none, some}
+use mathlib.Core.Logic.{_⊎_, inl, inr}
 use lib.Dec.{T, eqb, eqb→eq}
 use lib.Ieee.{Float}
 use Rattle.differences.specs.Diff.{gramRow}
@@ -17,7 +18,7 @@ use Rattle.search.specs.Search.{Problem, Ended}
 use Rattle.search.specs.Bounds.{Bounded}
 use Rattle.search.specs.Demand3 as search
 use Rattle.search.specs.Looser.{finiteAbove0}
-use Rattle.search.proofs.Demand.{demand3, bounded-closed}
+use Rattle.search.proofs.Demand.{demand3, never-closed, bounded-closed}
 use Rattle.search.proofs.Looser.{tol-positive}
 use Rattle.interior_point.specs.InteriorPoint.{State, problem, origin, interiorPoint}
 use Rattle.l2.specs.L2.{soundL2}
@@ -62,7 +63,8 @@ found-bounds : (a : Asked) (l : Lent) (f : FitResult) (p : Passed a l f) → Fou
 unfolding pathZero pathFlat
 found-bounds a l f p =
     let shut = bounded-closed (a .max-iter) in
-    found-has a l f (FoundBounds (a .max-iter)) p (λ gap objective. shut gap) (shut _) (shut _) (λ z. bounded-end a (searches a l (questions.passed a l (p .asked)) z))
+    found-has a l f (FoundBounds (a .max-iter)) p
+    (record { squared = λ _ gap objective. shut gap; zero = λ _. shut _; flat = λ _. shut _; searched = λ z. bounded-end a (searches a l (questions.passed a l (p .asked)) z) })
 
 pub bounds : (a : Asked) (l : Lent) (f : FitResult) → fit a l ≡ fitted f → Bounds (a .max-iter) f
 unfolding written
@@ -81,7 +83,9 @@ not-closed e = impossible cc
 
 found-spent : (a : Asked) (l : Lent) (f : FitResult) (p : Passed a l f) → Spent (a .max-iter) (p .found)
 unfolding pathZero pathFlat
-found-spent a l f p = found-has a l f (Spent (a .max-iter)) p (λ gap objective. not-closed) not-closed not-closed (λ z. spent-end a (searches a l (questions.passed a l (p .asked)) z))
+found-spent a l f p =
+    found-has a l f (Spent (a .max-iter)) p
+    (record { squared = λ _ gap objective. not-closed; zero = λ _. not-closed; flat = λ _. not-closed; searched = λ z. spent-end a (searches a l (questions.passed a l (p .asked)) z) })
 
 pub spent : (a : Asked) (l : Lent) (f : FitResult) → fit a l ≡ fitted f → f .numbers .reason ≡ LimitSpent → f .numbers .«n_iter» ≡ a .max-iter
 unfolding written
@@ -89,8 +93,23 @@ spent a l f e =
     let p = passed a l f e in
     subst (λ (x : FitResult). x .numbers .reason ≡ LimitSpent → x .numbers .«n_iter» ≡ a .max-iter) (sym (p .made)) (found-spent a l f p)
 
--- ---- another limit
+-- ---- a closed path
+abbrev Closed : Asked → Found → Type 0
+Closed a f = f .numbers .reason ≡ ClosedPath → (eqb (a .penalty) 2 ≡ true) ⊎ ((lamZero a ≡ true) ⊎ (lamHigh a ≡ true))
 
+end-not-closed : (a : Asked) → pathEnd a (searchOf a) .numbers .reason ≡ ClosedPath → ⊥
+unfolding pathEnd searchOf interiorPoint
+end-not-closed a = never-closed (problemOf a) (a .tol) (origin (places a)) (a .max-iter)
+
+pub closed-path : (a : Asked) (l : Lent) (f : FitResult) → fit a l ≡ fitted f → f .numbers .reason ≡ ClosedPath → (eqb (a .penalty) 2 ≡ true) ⊎ ((lamZero a ≡ true) ⊎ (lamHigh a ≡ true))
+unfolding written
+closed-path a l f e r =
+    let p = passed a l f e in
+    found-has a l f (Closed a) p
+    (record { squared = λ h gap objective _. inl h; zero = λ h _. inr (inl h); flat = λ h _. inr (inr h); searched = λ _ q. absurd (end-not-closed a q) })
+    (sym (ap (λ (x : FitResult). x .numbers .reason) (p .made)) ∙ r)
+
+-- ---- another limit
 polished-other : (m : ℕ) (a : Asked) (c : Certificate) (z : Option (List Float)) → polished (withMaxIter m a) c z ≡ polished a c z
 unfolding polished
 polished-other m a c none = refl
@@ -286,4 +305,4 @@ pub whole : (a : Asked) (l : Lent) → Demand3 a l
 whole a l = record { bounds = bounds a l; alike = alike a l; at-limit = at-limit a l; settled = settled a l }
 
 pub lasting : (a : Asked) (l : Lent) → Lasting a l
-lasting a l = record { other-reason = other-reason a l; spent = spent a l }
+lasting a l = record { other-reason = other-reason a l; spent = spent a l; closed = closed-path a l }

@@ -59,7 +59,7 @@ end-spans a e = kept-length a _ _ (certified a (e .state .point .z))
 
 found-spans : (a : Asked) (l : Lent) (f : FitResult) (p : Passed a l f) → Spans a (p .found)
 unfolding trendL2 pathZero pathFlat
-found-spans a l f p = found-has a l f (Spans a) p (λ gap objective. length-solve (a .order) _ (a .y)) refl (certified a _) (λ z. end-spans a (searchOf a))
+found-spans a l f p = found-has a l f (Spans a) p (record { squared = λ _ gap objective. length-solve (a .order) _ (a .y); zero = λ _. refl; flat = λ _. certified a _; searched = λ _. end-spans a (searchOf a) })
 
 pub lengths : (a : Asked) (l : Lent) (f : FitResult) → fit a l ≡ fitted f → Lengths a f
 unfolding written

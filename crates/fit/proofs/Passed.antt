@@ -95,7 +95,7 @@ passed a l f e = go (eqb (question a l) 0) (soundDD a) (path a) (eqb→eq (quest
     go false c o h s r q = absurd (not-refused q)
 
 -- ---- what holds of every path
-abbrev pub Over : (Found → Type 0) → Option Found → Type 0
+abbrev Over : (Found → Type 0) → Option Found → Type 0
 Over P none = T true
 Over P (some f) = P f
 
@@ -107,18 +107,23 @@ over-l2 a P h = go (soundL2 (a .order) (a .y) (a .lam)) _ (h _ _)
     go true f k = k
     go false f k = tt
 
-over-path : (a : Asked) (P : Found → Type 0) → ((gap objective : Float) → P (record { trend = trendL2 (a .order) (a .y) (a .lam); numbers = closed gap objective }))
-    → P (pathZero a) → P (pathFlat a) → (lamZero a ≡ false → P (pathEnd a (searchOf a))) → Over P (path a)
+-- P of what each path finds, where that path is taken
+pub record EachPath (a : Asked) (P : Found → Type 0) : Type 0 where
+  pub squared : eqb (a .penalty) 2 ≡ true → (gap objective : Float) → P (record { trend = trendL2 (a .order) (a .y) (a .lam); numbers = closed gap objective })
+  pub zero : lamZero a ≡ true → P (pathZero a)
+  pub flat : lamHigh a ≡ true → P (pathFlat a)
+  pub searched : lamZero a ≡ false → P (pathEnd a (searchOf a))
+
+over-path : (a : Asked) (P : Found → Type 0) → EachPath a P → Over P (path a)
 unfolding path pathL1
-over-path a P l2 zero flat end = go (eqb (a .penalty) 2) (lamZero a) refl (lamHigh a)
+over-path a P h = go (eqb (a .penalty) 2) refl (lamZero a) refl (lamHigh a) refl
   where
-    go : (p z : Bool) → lamZero a ≡ z → (m : Bool) → Over P (cond p (pathL2 a) (some (cond z (pathZero a) (cond m (pathFlat a) (pathEnd a (searchOf a))))))
-    go true z e m = over-l2 a P l2
-    go false true e m = zero
-    go false false e true = flat
-    go false false e false = end e
+    go : (p : Bool) → eqb (a .penalty) 2 ≡ p → (z : Bool) → lamZero a ≡ z → (m : Bool) → lamHigh a ≡ m → Over P (cond p (pathL2 a) (some (cond z (pathZero a) (cond m (pathFlat a) (pathEnd a (searchOf a))))))
+    go true b z e m d = over-l2 a P (h .squared b)
+    go false b true e m d = h .zero e
+    go false b false e true d = h .flat d
+    go false b false e false d = h .searched e
 
 -- so of what a fit found
-pub found-has : (a : Asked) (l : Lent) (f : FitResult) (P : Found → Type 0) (p : Passed a l f) → ((gap objective : Float) → P (record { trend = trendL2 (a .order) (a .y) (a .lam); numbers = closed gap objective }))
-    → P (pathZero a) → P (pathFlat a) → (lamZero a ≡ false → P (pathEnd a (searchOf a))) → P (p .found)
-found-has a l f P p l2 zero flat end = subst (Over P) (p .path-is) (over-path a P l2 zero flat end)
+pub found-has : (a : Asked) (l : Lent) (f : FitResult) (P : Found → Type 0) (p : Passed a l f) → EachPath a P → P (p .found)
+found-has a l f P p h = subst (Over P) (p .path-is) (over-path a P h)

@@ -12,7 +12,7 @@ use lib.Ieee.Fits.{sub-fits}
 use lib.Ieee.Positive.{positive, above}
 use Rattle.float64.specs.Ops.{c0·99}
 use Rattle.search.specs.declared.Reason.{Reason}
-use Rattle.search.specs.declared.Reason.the-variants.{GapSmall, LimitSpent, Stalled, PivotLost}
+use Rattle.search.specs.declared.Reason.the-variants.{ClosedPath, GapSmall, LimitSpent, Stalled, PivotLost}
 use Rattle.search.specs.Search.{Problem, Point, Ended, gap, startAt, enough, improved, searched}
 use Rattle.search.specs.Bounds.{units, Bounded}
 use Rattle.search.specs.Reasons.{atLimit}
@@ -98,6 +98,15 @@ module _ {S : Type 0} {L : Problem S} {tol : Float} where
   all-made (gains t s n m b tr) q = let h = all-made tr q in omega arith
   all-made (stays t s n m b tr) q = let h = all-made tr q in omega arith
 
+  -- a search that is made is no closed path
+  not-closed : {r : ℕ} {p : Point S} {e : Ended S} → Trace L tol r p e → e .reason ≡ ClosedPath → ⊥
+  not-closed (closes r p s) q = impossible cc
+  not-closed (spends p s) q = impossible cc
+  not-closed (stalls r p s n) q = impossible cc
+  not-closed (loses r p s n m) q = impossible cc
+  not-closed (gains t s n m b tr) q = not-closed tr q
+  not-closed (stays t s n m b tr) q = not-closed tr q
+
   -- a limit above where it ended: the same
   beyond : {r : ℕ} {p : Point S} {e : Ended S} (k : ℕ) → Trace L tol r p e → (e .reason ≡ LimitSpent → ⊥) → e .n-iter < p .n-iter + k → Trace L tol k p e
   beyond k (closes r p s) h g = closes k p s
@@ -134,6 +143,9 @@ module _ {S : Type 0} (L : Problem S) (tol : Float) (s : S) where
   at-limit : (max-iter : ℕ) → (searched L tol max-iter s .reason ≡ LimitSpent → ⊥)
       → searched L tol (searched L tol max-iter s .n-iter) s ≡ retold (searched L tol max-iter s) (atLimit (searched L tol max-iter s .reason))
   at-limit max-iter h = traced L tol (exactly (searched L tol max-iter s .n-iter) (trace L tol max-iter (startAt L s)) h (omega arith))
+
+  pub never-closed : (max-iter : ℕ) → searched L tol max-iter s .reason ≡ ClosedPath → ⊥
+  never-closed max-iter = not-closed (trace L tol max-iter (startAt L s))
 
 -- ---- the whole
 pub demand3 : {S : Type 0} (L : Problem S) (tol : Float) → T (positive tol) → ((s : S) → T (clear (L .primal s))) → (s : S) → SearchDemand3 L tol s
