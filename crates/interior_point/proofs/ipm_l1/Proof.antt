@@ -1,7 +1,9 @@
 use borrow.Author.Needs.{needs}
-use mathlib.Core.Path.{sym, _∙_}
-use Prim.Native.Nat.{_-_}
+use mathlib.Core.Path.{_≡_, sym, _∙_}
+use Prim.Native.Nat.{_-_, _<_}
 use native.Mathlib.Omega.{arith}
+use Rattle.interior_point.specs.Account.{testOf}
+use Rattle.interior_point.specs.declared.Test.the-variants.{Goes}
 use Rattle.interior_point.proofs.Turns.{Looping, loop-starts, still, loop-goes, all-found}
 use Rattle.interior_point.proofs.ipm_l1.Statement.{statement}
 use Rattle.interior_point.proofs.ipm_l1.Tie as tie
@@ -12,41 +14,56 @@ Inv-loop work₀ y dy lam tol max-iter k g r₀ work r = Looping k y lam g tol m
 abbrev μ-loop : tie.MeasureT-loop
 μ-loop work₀ y dy lam tol max-iter k g r₀ work r = max-iter - r .«n_iter»
 
+-- the steps back: from the loop to the start, the Gram row and the call
+abbrev started : tie.At-loop Inv-loop μ-loop → tie.After-start Inv-loop μ-loop
+started l = l .before .before .before
+
+abbrev rowed : tie.After-start Inv-loop μ-loop → tie.After-gram-offsets Inv-loop μ-loop
+rowed s = s .before .before
+
+abbrev called : tie.After-gram-offsets Inv-loop μ-loop → tie.Start Inv-loop μ-loop
+called g = g .before .before .before .before
+
 start-requires : tie.Need-start-requires Inv-loop μ-loop
-start-requires c κs = c .before .before .before .before .before .pre
+start-requires c κs = called (c .before) .pre
 
 loop-holds : tie.Need-loop-holds Inv-loop μ-loop
 loop-holds c = let st = c .before .before in
-    let go = st .before .before in
-    let a = go .before .before .before .before .args in
+    let go = rowed st in
+    let a = called go .args in
     loop-starts (a .k) (a .y .now) (a .lam) (go .gram-offsets .result) (a .tol) (a .max-iter) (a .work .now) (st .start .last .0) (st .start .result) (st .start .ensures)
 
 same-length : tie.Need-same-length Inv-loop μ-loop
 same-length c = let lc = c .before .before .before .before in
-    lc .loop .inv .kept .size ∙ lc .before .before .before .start .kept .0
+    lc .loop .inv .kept .size ∙ started lc .start .kept .0
 
 returns : tie.Need-returns Inv-loop μ-loop
 returns c = let w = c .before in
     let te = w .before .before in
     let lc = te .before in
-    let st = lc .before .before .before in
-    let go = st .before .before in
-    let a = go .before .before .before .before .args in
+    let st = started lc in
+    let go = rowed st in
+    let a = called go .args in
     all-found (a .k) (a .y .now) (a .lam) (go .gram-offsets .result) (a .tol) (a .max-iter) (a .work .now) (st .start .last .0) (lc .loop .work) (lc .loop .r) _ (go .gram-offsets .ensures) (st .start .ensures .kept) (lc .loop .inv)
     (sym (te .tested .ensures) ∙ w .why .given .1)
 
+-- the tests let another iteration be made
+goes : (c : tie.After-enum-told Inv-loop μ-loop) → let lc = c .before .before .before in let a = called (rowed (started lc)) .args in testOf (lc .loop .r) (a .tol) (a .max-iter) ≡ Goes
+goes c = sym (c .before .before .tested .ensures) ∙ c .enum-told .given .1
+
+allowed : (c : tie.After-enum-told Inv-loop μ-loop) → let lc = c .before .before .before in lc .loop .r .«n_iter» < called (rowed (started lc)) .args .max-iter
+allowed c = let l = c .before .before .before .loop in
+    let st = started (c .before .before .before) in
+    let a = called (rowed st) .args in
+    still (a .k) (a .y .now) (a .lam) (rowed st .gram-offsets .result) (a .tol) (a .max-iter) (st .start .last .0) (l .work) (l .r) (l .inv) (goes c)
+
 iterate-requires : tie.Need-iterate-requires Inv-loop μ-loop
-iterate-requires c κs = let et = c .before in
-    let te = et .before .before in
-    let lc = te .before in
-    let st = lc .before .before .before in
-    let go = st .before .before in
-    let b = go .before .before .before .before in
-    let a = b .args in
+iterate-requires c κs = let lc = c .before .before .before .before in
+    let st = started lc in
+    let b = called (rowed st) in
     let p = b .pre in
     let l = lc .loop in
-    let h = sym (te .tested .ensures) ∙ et .enum-told .given .1 in
-    let o = still (a .k) (a .y .now) (a .lam) (go .gram-offsets .result) (a .tol) (a .max-iter) (st .start .last .0) (l .work) (l .r) (l .inv) h in
+    let o = allowed (c .before) in
     record {
       ready = record { series = p .series; room = omega (arith, p .room, l .inv .kept .size, st .start .ensures .kept .size); known = p .known };
       counts = record { n-iter = omega (arith, o); improvements = l .inv .fewer; stall = l .inv .idle };
@@ -55,28 +72,17 @@ iterate-requires c κs = let et = c .before in
 
 loop-less : tie.Need-loop-less Inv-loop μ-loop
 loop-less c = let it = c .before .before in
-    let et = it .before .before in
-    let te = et .before .before in
-    let lc = te .before in
-    let st = lc .before .before .before in
-    let go = st .before .before in
-    let a = go .before .before .before .before .args in
-    let l = lc .loop in
-    let h = sym (te .tested .ensures) ∙ et .enum-told .given .1 in
-    let o = still (a .k) (a .y .now) (a .lam) (go .gram-offsets .result) (a .tol) (a .max-iter) (st .start .last .0) (l .work) (l .r) (l .inv) h in
-    omega (arith, o, it .iterate .ensures .n-iter)
+    omega (arith, allowed (it .before .before), it .iterate .ensures .n-iter)
 
 loop-again : tie.Need-loop-again Inv-loop μ-loop
 loop-again c = let it = c .before .before in
     let et = it .before .before in
-    let te = et .before .before in
-    let lc = te .before in
-    let st = lc .before .before .before in
-    let go = st .before .before in
-    let a = go .before .before .before .before .args in
+    let lc = et .before .before .before in
+    let st = started lc in
+    let go = rowed st in
+    let a = called go .args in
     let l = lc .loop in
-    loop-goes (a .k) (a .y .now) (a .lam) (go .gram-offsets .result) (a .tol) (a .max-iter) (st .start .last .0) (l .work) (l .r) (l .inv) (sym (te .tested .ensures) ∙ et .enum-told .given .1)
-    (it .iterate .last .0) (it .iterate .result) (it .iterate .ensures)
+    loop-goes (a .k) (a .y .now) (a .lam) (go .gram-offsets .result) (a .tol) (a .max-iter) (st .start .last .0) (l .work) (l .r) (l .inv) (goes et) (it .iterate .last .0) (it .iterate .result) (it .iterate .ensures)
 
 pub ipm-l1-spec : {M : Type 1} → statement M
 ipm-l1-spec =
