@@ -68,7 +68,7 @@ fn every_reason_arrives() {
     let hours = [8000.0, 0.0];
     let far = [1e308, -1e308];
     let peak = [0.0, 1.0, 0.0];
-    let three = [-3e8, 2e8, -2e8];
+    let small = [0.0, 5e-15];
     let all = [
         (ended(1, &hours, 4000.0, 1e-3, 100), (0, true, Reason::ClosedPath)),
         (ended(1, &hours, 0.0, 1e-3, 100), (0, true, Reason::ClosedPath)),
@@ -80,7 +80,9 @@ fn every_reason_arrives() {
         (ended(1, &far, 1e308, 1e-8, 10), (10, false, Reason::LimitSpent)),
         (ended(2, &peak, 2e-308, 1e-8, 100), (2, false, Reason::PivotLost)),
         (ended(2, &peak, 2e-308, 1e-8, 2), (2, false, Reason::PivotLost)),
-        (ended(1, &three, 5e7, 0.196545, 11), (11, true, Reason::GapSmall)),
+        (ended(1, &small, 2e-19, 0.996, 10), (10, true, Reason::GapSmall)),
+        (ended(1, &small, 2e-19, 0.99, 10), (10, true, Reason::LimitSpent)),
+        (ended(1, &small, 2e-19, 0.99, 11), (10, true, Reason::Stalled)),
         (ended(1, &[-1.0, 0.0, -2.0, -1.0], 0.999_999_999_999_999_7, 1.0, 100), (0, false, Reason::GapSmall)),
     ];
     for (i, (got, right)) in all.iter().enumerate() {

@@ -166,8 +166,8 @@ table-8 =
     ∷ record { asked = record { y = F 0x0000000000000000 ∷ F 0x3ff0000000000000 ∷ F 0x0000000000000000 ∷ []; lam = F 0x000e61acf033d1a4; tol = F 0x3e45798ee2308c3a; max-iter = 2; order = 2; penalty = 1 }; lent = record { trend = 3; cycle = 3; knots = 3; work = 120; marks = 6 }; outcome = fitted (record { trend = F 0x00097de7e636ae34 ∷ F 0x3ff0000000000000 ∷ F 0x00097de7e636ae34 ∷ []; cycle = F 0x80097de7e636ae34 ∷ F 0x0000000000000000 ∷ F 0x80097de7e636ae34 ∷ []; knots = 0 ∷ []; lam-max = F 0x3fd5555555555555; numbers = record { gap = F 0x0009c78a13fa46e0; «first_gap» = F 0x001cc359e067a348; «best_gap» = F 0x0009c78a13fa46e0; objective = F 0x001cc359e067a348; «n_iter» = 2; improvements = 1; converged = false; reason = PivotLost } }) }
     -- order 1, penalty 1, y (-1.0, 0.0, -2.0, -1.0), lam 0.9999999999999997, tol 1.0, at most 100 iterations: fit 4 1 1 0 0 0 1 1
     ∷ record { asked = record { y = F 0xbff0000000000000 ∷ F 0x0000000000000000 ∷ F 0xc000000000000000 ∷ F 0xbff0000000000000 ∷ []; lam = F 0x3feffffffffffffd; tol = F 0x3ff0000000000000; max-iter = 100; order = 1; penalty = 1 }; lent = record { trend = 4; cycle = 4; knots = 4; work = 160; marks = 8 }; outcome = fitted (record { trend = F 0xbcb8000000000000 ∷ F 0x0000000000000000 ∷ F 0xc000000000000000 ∷ F 0xbffffffffffffffe ∷ []; cycle = F 0xbfeffffffffffffd ∷ F 0x0000000000000000 ∷ F 0x0000000000000000 ∷ F 0x3feffffffffffffc ∷ []; knots = 1 ∷ []; lam-max = F 0x3ff0000000000000; numbers = record { gap = F 0x400ffffffffffffc; «first_gap» = F 0x400ffffffffffffd; «best_gap» = F 0x400ffffffffffffd; objective = F 0x4007fffffffffffe; «n_iter» = 0; improvements = 0; converged = false; reason = GapSmall } }) }
-    -- order 1, penalty 1, y (-300000000.0, 200000000.0, -200000000.0), lam 50000000.0, tol 0.196545, at most 11 iterations: fit 3 1 1 11 1 1 1 2
-    ∷ record { asked = record { y = F 0xc1b1e1a300000000 ∷ F 0x41a7d78400000000 ∷ F 0xc1a7d78400000000 ∷ []; lam = F 0x4187d78400000000; tol = F 0x3fc92862f5989df1; max-iter = 11; order = 1; penalty = 1 }; lent = record { trend = 3; cycle = 3; knots = 3; work = 120; marks = 6 }; outcome = fitted (record { trend = F 0xc1adce93dd7a4c4f ∷ F 0x419dcbc9e7a3bb17 ∷ F 0xc1a4da971657913d ∷ []; cycle = F 0xc187d2c88a16cec4 ∷ F 0x4191e33e185c44e9 ∷ F 0xc177e7674d437618 ∷ []; knots = 0 ∷ 1 ∷ []; lam-max = F 0x41a7d78400000000; numbers = record { gap = F 0x433a9e9a99b62558; «first_gap» = F 0x4363fbe85edc9000; «best_gap» = F 0x433aa535eba843fc; objective = F 0x4360ee0d23124b69; «n_iter» = 11; improvements = 1; converged = true; reason = GapSmall } }) }
+    -- order 1, penalty 1, y (0.0, 5e-15), lam 2e-19, tol 0.996, at most 10 iterations: fit 2 1 1 10 0 1 1 1
+    ∷ record { asked = record { y = F 0x0000000000000000 ∷ F 0x3cf6849b86a12b9b ∷ []; lam = F 0x3c0d83c94fb6d2ac; tol = F 0x3fefdf3b645a1cac; max-iter = 10; order = 1; penalty = 1 }; lent = record { trend = 2; cycle = 2; knots = 2; work = 80; marks = 4 }; outcome = fitted (record { trend = F 0x3c0d83c94fb6d2ac ∷ F 0x3cf684607f0e8c2d ∷ []; cycle = F 0xbc0d83c94fb6d2ac ∷ F 0x3c0d83c94fb70000 ∷ []; knots = 0 ∷ []; lam-max = F 0x3ce6849b86a12b9b; numbers = record { gap = F 0xb5d0000000000000; «first_gap» = F 0x3914c4e977ba1f5c; «best_gap» = F 0x3914c4e977ba1f5c; objective = F 0x3914c4b305c2e406; «n_iter» = 10; improvements = 0; converged = true; reason = GapSmall } }) }
     ∷ []
 
 pub known-8 : worked table-8 ≡ stated table-8
