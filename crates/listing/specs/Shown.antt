@@ -10,7 +10,8 @@ use Rattle.lines.specs.Lines.{three, fitLine, numbersLine, hourLinesFrom, knotL
 use Rattle.listing.specs.declared.Shown.{Shown}
 
 unfoldable pub shownLine : Shown → List ℕ
-shownLine f = fitLine (three (f .n) (f .order) (f .penalty) ++ three (f .«n_iter») (f .improvements) (cond (f .converged) 1 0) ++ field (reasonNumber (f .reason)))
+shownLine f =
+    fitLine (three (f .n) (f .order) (f .penalty) ++ three (f .«n_iter») (f .improvements) (cond (f .converged) 1 0) ++ field (reasonNumber (f .reason)))
 
 -- the lines of the first n hours, and of the first n knots
 abbrev pub firstHours : List Float → List Float → ℕ → List ℕ
