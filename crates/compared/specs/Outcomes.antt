@@ -18,7 +18,7 @@ sameSummary f s a = sameDoubles (numbersOf f) s a && sameNumbers (countsOf f) s 
 
 -- whether a fit is stored from word a on: 0, its numbers, its places
 unfoldable pub sameFit : Summary → List Float → List Float → List ℕ → List ℕ → ℕ → Bool
-sameFit f trend cycle knots s a = eqb (wordAt s a) 0 && (sameSummary f s (a + 1) && samePlaces trend cycle knots s (a + 10))
+sameFit f trend cycle knots s a = eqb (wordAt s a) 0 && (sameSummary f s (a + 1) && samePlaces trend cycle knots s (a + 11))
 
 -- whether an outcome is stored from word a on: a refusal is its number
 unfoldable pub sameOutcome : Outcome → List ℕ → ℕ → Bool

@@ -29,9 +29,11 @@ fn same_summary(f: Summary, s: &[u8; 131072], a: usize) -> bool
     requires { ⌜ a < 32768 ⌝ }
     ensures { λ r. ⌜ r ≡ sameSummary f (now (s .entry)) a ⌝ }
 {
+    let why = f.reason;
+    let r = search::number(why);
     let b = one_if(f.converged);
     let numbers = [f.lam_max, f.gap, f.first_gap, f.best_gap, f.objective];
-    let counts = [f.knots as u64, f.n_iter, f.improvements, b];
+    let counts = [f.knots as u64, f.n_iter, f.improvements, b, r];
     let d = stored::same_doubles(&numbers, s, a);
     let c = stored::same_counts(&counts, s, a + 5);
     stored::both(d, c)
@@ -52,7 +54,7 @@ fn same_fit(
 {
     let w = stored::word(s, a);
     let n = same_summary(f, s, a + 1);
-    let p = stored::same_places(trend, cycle, knots, s, a + 10);
+    let p = stored::same_places(trend, cycle, knots, s, a + 11);
     stored::both(w == 0, stored::both(n, p))
 }
 

@@ -4,11 +4,14 @@ use mathlib.Core.Bool.{cond}
 use mathlib.Core.List.{List, _++_}
 use lib.ListN.{take}
 use lib.Ieee.{Float}
+use Rattle.search.specs.Reasons.{reasonNumber}
+use Rattle.fields.specs.Fields.{field}
 use Rattle.lines.specs.Lines.{three, fitLine, numbersLine, hourLinesFrom, knotLines}
 use Rattle.listing.specs.declared.Shown.{Shown}
 
 unfoldable pub shownLine : Shown → List ℕ
-shownLine f = fitLine (three (f .n) (f .order) (f .penalty) ++ three (f .«n_iter») (f .improvements) (cond (f .converged) 1 0))
+shownLine f =
+    fitLine (three (f .n) (f .order) (f .penalty) ++ three (f .«n_iter») (f .improvements) (cond (f .converged) 1 0) ++ field (reasonNumber (f .reason)))
 
 -- the lines of the first n hours, and of the first n knots
 abbrev pub firstHours : List Float → List Float → ℕ → List ℕ

@@ -1,5 +1,6 @@
 // The listing of a fit, or of a refusal, as bytes at the start of a lent array, which always suffices.
 // Inside, each function writes from a place on and answers the place past it.
+use search::Reason;
 ghost use mathlib.Core.Path.{_≡_};
 ghost use mathlib.Core.Bool.{cond};
 ghost use Prim.Native.Nat.{_+_, _*_, _≤_};
@@ -17,6 +18,7 @@ pub struct Shown {
     pub n_iter: u64,
     pub improvements: u64,
     pub converged: bool,
+    pub reason: Reason,
     pub lam_max: f64,
     pub gap: f64,
     pub objective: f64,
@@ -67,13 +69,17 @@ fn bit(b: bool) -> u64
 
 // The first line of a fit.
 fn put_fit_line(out: &mut [u8], at: usize, f: Shown) -> usize
-    requires { ⌜ at + 130 ≤ length (now out) ⌝ }
-    ensures { λ r. ⌜ Puts (now (out .entry)) at (shownLine f) (now (out .exit)) r 130 ⌝ }
+    requires { ⌜ at + 151 ≤ length (now out) ⌝ }
+    ensures { λ r. ⌜ Puts (now (out .entry)) at (shownLine f) (now (out .exit)) r 151 ⌝ }
 {
+    let why = f.reason;
+    let reason = search::number(why);
+    let converged = bit(f.converged);
     let a1 = fields::put_all(out, at, b"fit");
     let a2 = lines::put_three(out, a1, f.n as u64, f.order as u64, f.penalty as u64);
-    let a3 = lines::put_three(out, a2, f.n_iter, f.improvements, bit(f.converged));
-    fields::put_byte(out, a3, 10)
+    let a3 = lines::put_three(out, a2, f.n_iter, f.improvements, converged);
+    let a4 = fields::put_field(out, a3, reason);
+    fields::put_byte(out, a4, 10)
 }
 
 // The whole listing of a fit, at the start of out: answers how many bytes it has.

@@ -37,9 +37,9 @@ sameNumbers x s a = sameTo (λ i. getD x i 0) s a (length x)
 unfoldable pub samePlaces : List Float → List Float → List ℕ → List ℕ → ℕ → Bool
 samePlaces t c k s a = sameDoubles t s a && (sameDoubles c s (a + length t) && sameNumbers k s (a + 2 * length t))
 
--- the word past the answer that is stored from word a on, of a series of n: a refusal is its number; a fit is 0, its 9 numbers, trend, cycle and knots
+-- the word past the answer that is stored from word a on, of a series of n: a refusal is its number; a fit is 0, its 10 numbers, trend, cycle and knots
 unfoldable pub pastAt : List ℕ → ℕ → ℕ → ℕ
-pastAt s a n = cond (eqb (wordAt s a) 0) (a + 10 + 2 * n + countAt s (a + 6) 168) (a + 1)
+pastAt s a n = cond (eqb (wordAt s a) 0) (a + 11 + 2 * n + countAt s (a + 6) 168) (a + 1)
 
 -- the lengths of the case that starts at word a, cut where the buffers of a week end
 unfoldable pub lentAt : List ℕ → ℕ → Lengths

@@ -109,7 +109,7 @@ pub fn past(s: &[u8; 131072], a: usize, n: usize) -> usize
     ensures { λ r. ⌜ (r ≡ pastAt (now (s .entry)) a n) × (r ≤ 40000) ⌝ }
 {
     if word(s, a) == 0 {
-        a + 10 + 2 * n + count_at(s, a + 6, 168)
+        a + 11 + 2 * n + count_at(s, a + 6, 168)
     } else {
         a + 1
     }

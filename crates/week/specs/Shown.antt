@@ -12,6 +12,7 @@ shown st n s = record {
   «n_iter» = s .«n_iter»;
   improvements = s .improvements;
   converged = s .converged;
+  reason = s .reason;
   «lam_max» = s .«lam_max»;
   gap = s .gap;
   objective = s .objective;

@@ -4,11 +4,13 @@ use mathlib.Core.Bool.{cond}
 use mathlib.Core.List.{List, _++_}
 use lib.ListN.{length}
 use lib.Ieee.{Float}
+use Rattle.search.specs.Reasons.{reasonNumber}
 use Rattle.questions.specs.Questions.{Asked, Lent}
 use Rattle.fit.specs.Fit.{FitResult, Outcome, refused, fitted, fit}
 use Rattle.records.specs.declared.Settings.{Settings}
 use Rattle.records.specs.Entries.{hoursOf}
 use Rattle.records.specs.Week.{Reading, unread, read, readWeek}
+use Rattle.fields.specs.Fields.{field}
 use Rattle.lines.specs.Lines.{three, fitLine, numbersLine, hourLinesFrom, knotLines, refusedLine}
 
 -- what the settings ask of the fit of a series
@@ -19,11 +21,12 @@ askedBy st y = record { y = y; lam = st .lam; tol = st .tol; max-iter = st .«ma
 abbrev pub weekLent : Lent
 weekLent = record { trend = 168; cycle = 168; knots = 168; work = 6720; marks = 336 }
 
--- the listing of a fit: n, order, penalty, n_iter, improvements, converged (0 or 1); lam_max, gap, objective; each hour; each knot
+-- the listing of a fit: n, order, penalty, n_iter, improvements, converged (0 or 1), reason (0 to 4); lam_max, gap, objective; each hour; each knot
 unfoldable pub listingOf : Asked → FitResult → List ℕ
 listingOf a f =
-    fitLine (three (length (a .y)) (a .order) (a .penalty) ++ three (f .numbers .«n_iter») (f .numbers .improvements) (cond (f .numbers .converged) 1 0))
-    ++ numbersLine (f .lam-max) (f .numbers .gap) (f .numbers .objective)
+    let s = f .numbers in
+    fitLine (three (length (a .y)) (a .order) (a .penalty) ++ three (s .«n_iter») (s .improvements) (cond (s .converged) 1 0) ++ field (reasonNumber (s .reason)))
+    ++ numbersLine (f .lam-max) (s .gap) (s .objective)
     ++ hourLinesFrom 0 (f .trend) (f .cycle)
     ++ knotLines (f .knots)
 

@@ -17,6 +17,7 @@ ghost use Rattle.week.specs.Week.{fitText, weekText};
 fn shown(st: Settings, n: usize, s: Summary) -> Shown
     ensures { λ r. ⌜ r ≡ shown st n s ⌝ }
 {
+    let why = s.reason;
     Shown {
         n,
         order: st.order,
@@ -24,6 +25,7 @@ fn shown(st: Settings, n: usize, s: Summary) -> Shown
         n_iter: s.n_iter,
         improvements: s.improvements,
         converged: s.converged,
+        reason: why,
         lam_max: s.lam_max,
         gap: s.gap,
         objective: s.objective,
