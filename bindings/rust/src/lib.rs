@@ -63,6 +63,7 @@ pub struct Search {
     pub best_gap: f64,
     /// How many steps were improvements: `n_iter` is at most 10 times this plus 10.
     pub improvements: u64,
+    /// Why it stopped.
     pub reason: Reason,
 }
 
