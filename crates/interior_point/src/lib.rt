@@ -74,7 +74,7 @@ fn start(work: &mut [f64], y: &[f64], dy: &[f64], lam: f64, k: usize) -> Run
 }
 
 // Whether another iteration is made, or why not.
-pub enum Test {
+enum Test {
     Goes,
     Stops(Reason),
 }

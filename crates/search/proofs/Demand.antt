@@ -11,8 +11,7 @@ use lib.Ieee.{Float, nan, inf, fin, binary64, mul, lt, isNan, ofBits}
 use lib.Ieee.Fits.{sub-fits}
 use lib.Ieee.Positive.{positive, above}
 use Rattle.float64.specs.Ops.{c0·99}
-use Rattle.search.specs.declared.Reason.{Reason}
-use Rattle.search.specs.declared.Reason.the-variants.{ClosedPath, GapSmall, LimitSpent, Stalled, PivotLost}
+use Rattle.search.specs.declared.Reason.the-variants.{ClosedPath, LimitSpent}
 use Rattle.search.specs.Search.{Problem, Point, Ended, gap, startAt, enough, improved, searched}
 use Rattle.search.specs.Bounds.{units, Bounded}
 use Rattle.search.specs.Reasons.{atLimit}

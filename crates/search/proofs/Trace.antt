@@ -9,7 +9,6 @@ use lib.Dec.{T, T-not, eqb, lit≤}
 use lib.Arith.{le-of-le-suc-ne}
 use lib.Ieee.Fits.{eq→eqb}
 use lib.Ieee.{Float}
-use Rattle.search.specs.declared.Reason.{Reason}
 use Rattle.search.specs.declared.Reason.the-variants.{GapSmall, LimitSpent, Stalled, PivotLost}
 use Rattle.search.specs.Search.{Turn, lost, moved, Problem, Point, Ended, Next, stop, go, gap, ended, enough, stuck, improved, advance, turned, iterate, run}
 

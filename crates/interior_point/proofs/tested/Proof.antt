@@ -1,4 +1,3 @@
-use borrow.Author.Needs.{needs}
 use borrow.Author.Tests.{le-ltb, lt-ltb, eq-eqb, ne-eqb}
 use Rattle.interior_point.proofs.tested.Statement.{statement}
 use Rattle.interior_point.proofs.tested.Tie as tie
