@@ -1,7 +1,7 @@
 -- Demand 3 holds of every problem whose primal objective is a NaN or has a clear sign.
 use mathlib.Core.Path.{_≡_, refl, sym, ap, subst}
 use mathlib.Core.Logic.{_⊎_, inl, inr}
-use Prim.Native.Nat.{ℕ, zero, suc, _+_, _*_, _≤_, _<_, zero-le}
+use Prim.Native.Nat.{ℕ, zero, suc, _+_, _-_, _*_, _≤_, _<_, zero-le}
 use native.Mathlib.Omega.{arith}
 use mathlib.Core.Bool.{Bool, true, false, not, _||_}
 use lib.Signed.{≤ℤ-refl}
@@ -11,6 +11,7 @@ use lib.Ieee.{Float, nan, inf, fin, binary64, mul, lt, isNan, ofBits}
 use lib.Ieee.Fits.{sub-fits}
 use lib.Ieee.Positive.{positive, above}
 use Rattle.float64.specs.Ops.{c0·99}
+use Rattle.search.specs.declared.Reason.{Reason}
 use Rattle.search.specs.declared.Reason.the-variants.{ClosedPath, LimitSpent}
 use Rattle.search.specs.Search.{Problem, Point, Ended, gap, startAt, enough, improved, searched}
 use Rattle.search.specs.Bounds.{units, Bounded}
@@ -87,6 +88,12 @@ module _ {S : Type 0} (L : Problem S) (tol : Float) (tol-pos : T (positive tol))
   steps-few max-iter s = let h = within-ten max-iter s in let g = gains-few max-iter s in omega arith
 
 -- ---- the same search under another limit
+
+-- the reason where a limit leaves j iterations
+abbrev leaving : ℕ → Reason → Reason
+leaving zero r = atLimit r
+leaving (suc j) r = r
+
 module _ {S : Type 0} {L : Problem S} {tol : Float} where
   -- a spent limit: every iteration that it allows was made
   all-made : {r : ℕ} {p : Point S} {e : Ended S} → Trace L tol r p e → e .reason ≡ LimitSpent → e .n-iter ≡ p .n-iter + r
@@ -106,42 +113,33 @@ module _ {S : Type 0} {L : Problem S} {tol : Float} where
   not-closed (gains t s n m b tr) q = not-closed tr q
   not-closed (stays t s n m b tr) q = not-closed tr q
 
-  -- a limit above where it ended: the same
-  beyond : {r : ℕ} {p : Point S} {e : Ended S} (k : ℕ) → Trace L tol r p e → (e .reason ≡ LimitSpent → ⊥) → e .n-iter < p .n-iter + k → Trace L tol k p e
-  beyond k (closes r p s) h g = closes k p s
-  beyond k (spends p s) h g = absurd (h refl)
-  beyond zero (stalls r p s n) h g = absurd (omega arith)
-  beyond (suc k) (stalls r p s n) h g = stalls k p s n
-  beyond zero (loses r p s n m) h g = absurd (omega arith)
-  beyond (suc k) (loses r p s n m) h g = loses k p s n m
-  beyond zero (gains t s n m b tr) h g = let z = steps-grow tr in absurd (omega arith)
-  beyond (suc k) (gains t s n m b tr) h g = gains t s n m b (beyond k tr h (omega arith))
-  beyond zero (stays t s n m b tr) h g = let z = steps-grow tr in absurd (omega arith)
-  beyond (suc k) (stays t s n m b tr) h g = stays t s n m b (beyond k tr h (omega arith))
-
-  -- a limit that is just where it ended: the same but for the reason
-  exactly : {r : ℕ} {p : Point S} {e : Ended S} (k : ℕ) → Trace L tol r p e → (e .reason ≡ LimitSpent → ⊥) → e .n-iter ≡ p .n-iter + k → Trace L tol k p (retold e (atLimit (e .reason)))
-  exactly k (closes r p s) h g = closes k p s
-  exactly k (spends p s) h g = absurd (h refl)
-  exactly zero (stalls r p s n) h g = spends p s
-  exactly (suc k) (stalls r p s n) h g = absurd (omega arith)
-  exactly zero (loses r p s n m) h g = absurd (omega arith)
-  exactly (suc k) (loses r p s n m) h g = loses k p s n m
-  exactly zero (gains t s n m b tr) h g = let z = steps-grow tr in absurd (omega arith)
-  exactly (suc k) (gains t s n m b tr) h g = gains t s n m b (exactly k tr h (omega arith))
-  exactly zero (stays t s n m b tr) h g = let z = steps-grow tr in absurd (omega arith)
-  exactly (suc k) (stays t s n m b tr) h g = stays t s n m b (exactly k tr h (omega arith))
+  -- another limit, which leaves j iterations where it ended: the same, but perhaps the reason
+  again : {r : ℕ} {p : Point S} {e : Ended S} (k j : ℕ) → Trace L tol r p e → (e .reason ≡ LimitSpent → ⊥) → e .n-iter + j ≡ p .n-iter + k → Trace L tol k p (retold e (leaving j (e .reason)))
+  again k zero (closes r p s) h g = closes k p s
+  again k (suc j) (closes r p s) h g = closes k p s
+  again k j (spends p s) h g = absurd (h refl)
+  again zero zero (stalls r p s n) h g = spends p s
+  again zero (suc j) (stalls r p s n) h g = absurd (omega arith)
+  again (suc k) zero (stalls r p s n) h g = absurd (omega arith)
+  again (suc k) (suc j) (stalls r p s n) h g = stalls k p s n
+  again zero j (loses r p s n m) h g = absurd (omega arith)
+  again (suc k) zero (loses r p s n m) h g = loses k p s n m
+  again (suc k) (suc j) (loses r p s n m) h g = loses k p s n m
+  again zero j (gains t s n m b tr) h g = let z = steps-grow tr in absurd (omega arith)
+  again (suc k) j (gains t s n m b tr) h g = gains t s n m b (again k j tr h (omega arith))
+  again zero j (stays t s n m b tr) h g = let z = steps-grow tr in absurd (omega arith)
+  again (suc k) j (stays t s n m b tr) h g = stays t s n m b (again k j tr h (omega arith))
 
 module _ {S : Type 0} (L : Problem S) (tol : Float) (s : S) where
   spent : (max-iter : ℕ) → searched L tol max-iter s .reason ≡ LimitSpent → searched L tol max-iter s .n-iter ≡ max-iter
   spent max-iter q = let h = all-made (trace L tol max-iter (startAt L s)) q in omega arith
 
   alike : (max-iter other : ℕ) → (searched L tol max-iter s .reason ≡ LimitSpent → ⊥) → searched L tol max-iter s .n-iter < other → searched L tol other s ≡ searched L tol max-iter s
-  alike max-iter other h g = traced L tol (beyond other (trace L tol max-iter (startAt L s)) h (omega (arith, g)))
+  alike max-iter other h g = traced L tol (again other (suc (other - suc (searched L tol max-iter s .n-iter))) (trace L tol max-iter (startAt L s)) h (omega (arith, g)))
 
   at-limit : (max-iter : ℕ) → (searched L tol max-iter s .reason ≡ LimitSpent → ⊥)
       → searched L tol (searched L tol max-iter s .n-iter) s ≡ retold (searched L tol max-iter s) (atLimit (searched L tol max-iter s .reason))
-  at-limit max-iter h = traced L tol (exactly (searched L tol max-iter s .n-iter) (trace L tol max-iter (startAt L s)) h (omega arith))
+  at-limit max-iter h = traced L tol (again (searched L tol max-iter s .n-iter) 0 (trace L tol max-iter (startAt L s)) h (omega arith))
 
   pub never-closed : (max-iter : ℕ) → searched L tol max-iter s .reason ≡ ClosedPath → ⊥
   never-closed max-iter = not-closed (trace L tol max-iter (startAt L s))
