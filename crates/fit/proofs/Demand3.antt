@@ -4,7 +4,7 @@ use Prim.Native.Nat.{ℕ, _≤_, _<_}
 use native.Mathlib.Omega.{arith}
 use mathlib.Core.Bool.{Bool, true, false, cond, _&&_}
 use mathlib.Core.List.{List}
-use mathlib.Core.Option.{Option, none, some}
+use mathlib.Core.Option.{Option, none, some, Option·some-injective}
 use mathlib.Core.Logic.{_⊎_, inl, inr}
 use lib.Dec.{T, eqb, eqb→eq}
 use lib.Ieee.{Float}
@@ -136,9 +136,6 @@ unfolding outcome written
 outcome-other n a none = refl
 outcome-other n a (some f) = refl
 
-same-found : {f g : Found} → some f ≡ some g → f ≡ g
-same-found {f} {g} e = (let h : f ≡ g = cc in h)
-
 -- where two searches end alike, or none is made, the same is found
 same-with : (p z m : Bool) (l2 : Option Found) (o c x y : Found) → (p ≡ false → z ≡ false → m ≡ false → x ≡ y)
     → cond p l2 (some (cond z o (cond m c x))) ≡ cond p l2 (some (cond z o (cond m c y)))
@@ -175,7 +172,7 @@ path-steps a = go (eqb (a .penalty) 2) (lamZero a) (lamHigh a)
 
 -- where the search is made, it gives what is found
 end-is : (a : Asked) (f : Found) → path a ≡ some f → eqb (a .penalty) 2 ≡ false → lamZero a ≡ false → lamHigh a ≡ false → pathEnd a (searchOf a) ≡ f
-end-is a f e p z m = same-found ((λ i. cond (sym p i) (pathL2 a) (some (cond (sym z i) (pathZero a) (cond (sym m i) (pathFlat a) (pathEnd a (searchOf a)))))) ∙ sym (path-is a) ∙ e)
+end-is a f e p z m = Option·some-injective _ _ ((λ i. cond (sym p i) (pathL2 a) (some (cond (sym z i) (pathZero a) (cond (sym m i) (pathFlat a) (pathEnd a (searchOf a)))))) ∙ sym (path-is a) ∙ e)
 
 end-told : (a : Asked) (f : Found) → pathEnd a (searchOf a) ≡ f → (searchOf a .n-iter ≡ f .numbers .«n_iter») × (searchOf a .reason ≡ f .numbers .reason)
 unfolding pathEnd
