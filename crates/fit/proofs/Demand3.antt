@@ -26,7 +26,7 @@ use Rattle.questions.specs.Questions.{Asked, Lent, question}
 use Rattle.questions.proofs.Laws as questions
 use Rattle.fit.specs.Fit.{Found, FitResult, Outcome, refused, fitted, places, closed, pathL2, pathZero, pathFlat, polished, searchOf, keptOf, pathEnd, pathL1, path, written, outcome, fit}
 use Rattle.fit.specs.Ways.{lamZero, lamHigh, soundDD}
-use Rattle.fit.specs.Reasons.{withReason}
+use Rattle.fit.specs.Reasons.{numbersWith, withReason}
 use Rattle.fit.specs.Demand3.{Bounds, withMaxIter, Demand3}
 use Rattle.fit.specs.Lasting.{Lasting}
 use Rattle.fit.proofs.Sign.{lam-positive, primal-clear}
@@ -225,12 +225,7 @@ other-reason a l f e r other g = above a l f e r other (omega (arith, bounds a l
 
 -- ---- the limit n_iter itself
 abbrev foundWith : Reason → Found → Found
-foundWith r f =
-    let s = f .numbers in
-    record {
-      trend = f .trend;
-      numbers = record { gap = s .gap; «first_gap» = s .«first_gap»; «best_gap» = s .«best_gap»; objective = s .objective; «n_iter» = s .«n_iter»; improvements = s .improvements; converged = s .converged; reason = r };
-    }
+foundWith r f = record { trend = f .trend; numbers = numbersWith r (f .numbers) }
 
 end-retold : (a : Asked) (e : Ended State) (r : Reason) → pathEnd a (search.retold e r) ≡ foundWith r (pathEnd a e)
 unfolding pathEnd keptOf

@@ -84,18 +84,22 @@ ended-at e p r why q s = record {
 }
 
 module _ (L : Problem State) (tol : Float) (max-iter : ℕ) (e : Ended State) (p : Point State) (gone : Bool) (why : Reason) (h : p .n-iter ≤ max-iter) (left : leftOf L tol (max-iter - p .n-iter) p gone ≡ e) where
+  -- no pivot was lost: what is left ends in e
+  rest : gone ≡ false → run L tol (max-iter - p .n-iter) p ≡ e
+  rest u = sym (ap (leftOf L tol (max-iter - p .n-iter) p) u) ∙ left
+
   pub finish : (a b c d : Bool) → gone ≡ a → enough L tol p ≡ b → ltb (p .n-iter) max-iter ≡ c → eqb (p .stall) 10 ≡ d
       → testBy a b c d ≡ Stops why → EndsAt e p why
   finish true b c d u v w x q = ended-at e p PivotLost why (sym (ap (leftOf L tol (max-iter - p .n-iter) p) u) ∙ left) q
-  finish false true c d u v w x q = ended-at e p GapSmall why (sym (run-small L tol (max-iter - p .n-iter) p v) ∙ sym (ap (leftOf L tol (max-iter - p .n-iter) p) u) ∙ left) q
+  finish false true c d u v w x q = ended-at e p GapSmall why (sym (run-small L tol (max-iter - p .n-iter) p v) ∙ rest u) q
   finish false false false d u v w x q =
       let o : max-iter ≤ p .n-iter = ltb-false (p .n-iter) max-iter w in
       let z : max-iter - p .n-iter ≡ 0 = omega arith in
-      ended-at e p LimitSpent why (sym (run-spent L tol p v) ∙ sym (ap (λ (j : ℕ). run L tol j p) z) ∙ sym (ap (leftOf L tol (max-iter - p .n-iter) p) u) ∙ left) q
+      ended-at e p LimitSpent why (sym (run-spent L tol p v) ∙ sym (ap (λ (j : ℕ). run L tol j p) z) ∙ rest u) q
   finish false false true true u v w x q =
       let o : p .n-iter < max-iter = ltb-true (p .n-iter) max-iter w in
       let z : max-iter - p .n-iter ≡ suc (max-iter - suc (p .n-iter)) = omega arith in
-      ended-at e p Stalled why (sym (run-stalled L tol (max-iter - suc (p .n-iter)) p v x) ∙ sym (ap (λ (j : ℕ). run L tol j p) z) ∙ sym (ap (leftOf L tol (max-iter - p .n-iter) p) u) ∙ left) q
+      ended-at e p Stalled why (sym (run-stalled L tol (max-iter - suc (p .n-iter)) p v x) ∙ sym (ap (λ (j : ℕ). run L tol j p) z) ∙ rest u) q
   finish false false true false u v w x q = impossible cc
 
 -- n is the length of the series and m of the dual point

@@ -1,4 +1,4 @@
--- The definitions that the contracts of trend_filter cite, and demand 3 and the looser tolerance of two calls.
+-- The definitions that the contracts of trend_filter cite, and demand 3, what a reason tells and the looser tolerance of two calls.
 pub mod Answers
 pub mod Calls
 pub mod Reasons
