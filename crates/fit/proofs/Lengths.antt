@@ -1,4 +1,4 @@
--- How long the lists of a fit are: trend and cycle have a place for each of y, and a knot is one of the n - k differences.
+-- How long the lists of a fit are: trend and cycle have a place for each of y, and a knot is one of the n - k differences; and that the knots rise.
 use mathlib.Core.Path.{_≡_, refl, sym, ap, _∙_, subst}
 use Prim.Native.Nat.{ℕ, _-_, _≤_}
 use native.Mathlib.Nat.{le-trans, le-of-eq}
@@ -14,13 +14,16 @@ use Rattle.banded.proofs.Forward.{length-forward}
 use Rattle.substitution.proofs.Laws.{length-divided, length-back}
 use Rattle.certificate.specs.Certificate.{Certificate, certify}
 use Rattle.certificate.proofs.Laws.{length-minus}
-use Rattle.decomposition.proofs.Above.{above-few}
+use Rattle.vectors.specs.Rising.{Rising}
+use Rattle.vectors.proofs.Rising.{rising-within}
+use Rattle.decomposition.proofs.Above.{above-few, above-rising}
 use Rattle.decomposition.specs.Knots.{knots}
 use Rattle.search.specs.Search.{Ended}
 use Rattle.interior_point.specs.InteriorPoint.{State}
 use Rattle.l2.specs.L2.{trendL2}
 use Rattle.questions.specs.Questions.{Asked, Lent}
-use Rattle.fit.specs.Fit.{Found, FitResult, Lengths, fitted, certificateAt, pathZero, pathFlat, replaces, polished, searchOf, keptOf, pathEnd, written, fit}
+use Rattle.fit.specs.Fit.{Found, FitResult, Lengths, fitted, places, certificateAt, pathZero, pathFlat, replaces, polished, searchOf, keptOf, pathEnd, written, fit}
+use Rattle.fit.specs.KnotPlaces.{KnotPlaces}
 use Rattle.fit.proofs.Passed.{Passed, passed, found-has}
 
 -- ---- of the parts
@@ -70,3 +73,12 @@ lengths a l f e =
     let d = length-diffK (a .order) x ∙ ap (λ (n : ℕ). n - a .order) s in
     subst (Lengths a) (sym (p .made))
     (record { trend = s; cycle = length-minus (a .y) x; knots = le-trans (length-knots (a .order) (a .y) (diffK (a .order) x)) (le-of-eq d) })
+
+-- ---- where the knots lie
+pub knot-places : (a : Asked) (l : Lent) → KnotPlaces a l
+unfolding written knots
+knot-places a l f e =
+    let p = passed a l f e in
+    let x = p .found .trend in
+    let d : length (diffK (a .order) x) ≡ length (a .y) - a .order = length-diffK (a .order) x ∙ ap (λ (n : ℕ). n - a .order) (found-spans a l f p) in
+    subst (λ (g : FitResult). Rising (places a) (g .knots)) (sym (p .made)) (rising-within (above-rising _ (diffK (a .order) x) (length (diffK (a .order) x))) (le-of-eq d))

@@ -6,3 +6,4 @@ pub mod Reasons
 pub mod Demand3
 pub mod Lasting
 pub mod Looser
+pub mod KnotPlaces

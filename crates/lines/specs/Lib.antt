@@ -1,2 +1,3 @@
--- The lines of a listing.
+-- The lines of a listing, and the positions that they print.
 pub mod Lines
+pub mod Positions

@@ -1,5 +1,5 @@
 -- Document 01, "The weekly program": the lines that are printed, byte by byte. Lines end in byte 10.
-use Prim.Native.Nat.{ℕ, suc}
+use Prim.Native.Nat.{ℕ}
 use mathlib.Core.List.{List, [], _∷_, _++_}
 use lib.Ieee.{Float}
 use Rattle.fields.specs.Fields.{field, hexOf, hexField}
@@ -16,17 +16,18 @@ fitLine fs = (102 ∷ 105 ∷ 116 ∷ []) ++ fs ++ (10 ∷ [])
 unfoldable pub numbersLine : Float → Float → Float → List ℕ
 numbersLine a b c = hexOf a ++ hexField b ++ hexField c ++ (10 ∷ [])
 
--- `h` (104), the hour's index, its trend and its cycle
+-- `h` (104), the hour's position, its trend and its cycle
 unfoldable pub hourLine : ℕ → Float → Float → List ℕ
 hourLine i t c = (104 ∷ []) ++ field i ++ hexField t ++ hexField c ++ (10 ∷ [])
 
--- the lines of hours with this trend and cycle, the first of index i
-unfoldable pub hourLinesFrom : ℕ → List Float → List Float → List ℕ
-hourLinesFrom i [] cs = []
-hourLinesFrom i (t ∷ ts) [] = []
-hourLinesFrom i (t ∷ ts) (c ∷ cs) = hourLine i t c ++ hourLinesFrom (suc i) ts cs
+-- the lines of hours with these positions, trend and cycle
+unfoldable pub hourLines : List ℕ → List Float → List Float → List ℕ
+hourLines [] ts cs = []
+hourLines (p ∷ ps) [] cs = []
+hourLines (p ∷ ps) (t ∷ ts) [] = []
+hourLines (p ∷ ps) (t ∷ ts) (c ∷ cs) = hourLine p t c ++ hourLines ps ts cs
 
--- `knot` (107 110 111 116) and its index
+-- `knot` (107 110 111 116) and its position
 unfoldable pub knotLine : ℕ → List ℕ
 knotLine i = (107 ∷ 110 ∷ 111 ∷ 116 ∷ []) ++ field i ++ (10 ∷ [])
 

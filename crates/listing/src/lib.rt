@@ -3,12 +3,12 @@
 use search::Reason;
 ghost use mathlib.Core.Path.{_≡_};
 ghost use mathlib.Core.Bool.{cond};
-ghost use Prim.Native.Nat.{_+_, _*_, _≤_};
-ghost use lib.ListN.{length};
+ghost use Prim.Native.Nat.{_+_, _*_, _≤_, _<_};
+ghost use lib.ListN.{length, getD};
 ghost use Rattle.vectors.specs.Parts.{Wrote};
 ghost use Rattle.fields.specs.Puts.{Puts};
 ghost use Rattle.lines.specs.Lines.{refusedLine};
-ghost use Rattle.listing.specs.Shown.{shownLine, firstHours, firstKnots, shownListing};
+ghost use Rattle.listing.specs.Shown.{shownLine, firstHours, firstKnots, Below, shownListing};
 
 // What is shown of a fit besides its trend, its cycle and its knots: n hours, and so many knots.
 pub struct Shown {
@@ -25,37 +25,54 @@ pub struct Shown {
     pub knots: usize,
 }
 
-// The lines of the first n hours.
-fn put_hours(out: &mut [u8], at: usize, trend: &[f64], cycle: &[f64], n: usize) -> usize
-    requires { ⌜ (n ≤ length (now trend)) × (n ≤ length (now cycle)) ⌝ }
-    requires { ⌜ at + 57 * n ≤ length (now out) ⌝ }
-    ensures { λ r. ⌜ Puts (now (out .entry)) at (firstHours (now (trend .entry)) (now (cycle .entry)) n) (now (out .exit)) r (57 * n) ⌝ }
-{
-    let mut i: usize = 0;
-    let mut pos = at;
-    while i < n {
-        pos = lines::put_hour_line(out, pos, i as u64, trend[i], cycle[i]);
-        i += 1;
-    }
-    pos
-}
-
 fn wide(x: u32) -> u64
     ensures { λ r. ⌜ r ≡ x ⌝ }
 {
     x as u64
 }
 
-// The lines of the first n knots.
-fn put_knots(out: &mut [u8], at: usize, knots: &[u32], n: usize) -> usize
-    requires { ⌜ n ≤ length (now knots) ⌝ }
-    requires { ⌜ at + 26 * n ≤ length (now out) ⌝ }
-    ensures { λ r. ⌜ Puts (now (out .entry)) at (firstKnots (now (knots .entry)) n) (now (out .exit)) r (26 * n) ⌝ }
+// The lines of the first n hours.
+fn put_hours(
+    out: &mut [u8],
+    at: usize,
+    positions: &[u32],
+    trend: &[f64],
+    cycle: &[f64],
+    n: usize,
+) -> usize
+    requires { ⌜ (n ≤ length (now positions)) × (n ≤ length (now trend)) × (n ≤ length (now cycle)) ⌝ }
+    requires { ⌜ at + 57 * n ≤ length (now out) ⌝ }
+    ensures { λ r. ⌜ Puts (now (out .entry)) at (firstHours (now (positions .entry)) (now (trend .entry)) (now (cycle .entry)) n) (now (out .exit)) r (57 * n) ⌝ }
 {
     let mut i: usize = 0;
     let mut pos = at;
     while i < n {
-        pos = lines::put_knot_line(out, pos, wide(knots[i]));
+        let p = wide(positions[i]);
+        pos = lines::put_hour_line(out, pos, p, trend[i], cycle[i]);
+        i += 1;
+    }
+    pos
+}
+
+// The position of a knot.
+fn knot_position(positions: &[u32], knot: u32) -> u64
+    requires { ⌜ knot < length (now positions) ⌝ }
+    ensures { λ r. ⌜ r ≡ getD (now (positions .entry)) knot 0 ⌝ }
+{
+    wide(positions[knot as usize])
+}
+
+// The lines of the first n knots.
+fn put_knots(out: &mut [u8], at: usize, positions: &[u32], knots: &[u32], n: usize) -> usize
+    requires { ⌜ (n ≤ length (now knots)) × Below (now knots) n (length (now positions)) ⌝ }
+    requires { ⌜ at + 26 * n ≤ length (now out) ⌝ }
+    ensures { λ r. ⌜ Puts (now (out .entry)) at (firstKnots (now (positions .entry)) (now (knots .entry)) n) (now (out .exit)) r (26 * n) ⌝ }
+{
+    let mut i: usize = 0;
+    let mut pos = at;
+    while i < n {
+        let p = knot_position(positions, knots[i]);
+        pos = lines::put_knot_line(out, pos, p);
         i += 1;
     }
     pos
@@ -82,23 +99,25 @@ fn put_fit_line(out: &mut [u8], at: usize, f: Shown) -> usize
     fields::put_byte(out, a4, 10)
 }
 
-// The whole listing of a fit, at the start of out: answers how many bytes it has.
+// The whole listing of a fit, at the start of out: answers how many bytes it has. Each hour has its position.
 pub fn put_listing(
     out: &mut [u8; 16384],
     f: Shown,
+    positions: &[u32],
     trend: &[f64; 168],
     cycle: &[f64; 168],
     knots: &[u32; 168],
 ) -> usize
     requires { ⌜ (f .n ≤ 168) × (f .knots ≤ 168) ⌝ }
-    ensures { λ r. ⌜ Wrote (now (out .entry)) 0 (shownListing f (now (trend .entry)) (now (cycle .entry)) (now (knots .entry))) (now (out .exit)) r ⌝ }
+    requires { ⌜ (f .n ≤ length (now positions)) × Below (now knots) (f .knots) (length (now positions)) ⌝ }
+    ensures { λ r. ⌜ Wrote (now (out .entry)) 0 (shownListing f (now (positions .entry)) (now (trend .entry)) (now (cycle .entry)) (now (knots .entry))) (now (out .exit)) r ⌝ }
 {
     let n = f.n;
     let k = f.knots;
     let a1 = put_fit_line(out, 0, f);
     let a2 = lines::put_numbers_line(out, a1, f.lam_max, f.gap, f.objective);
-    let a3 = put_hours(out, a2, trend, cycle, n);
-    put_knots(out, a3, knots, k)
+    let a3 = put_hours(out, a2, positions, trend, cycle, n);
+    put_knots(out, a3, positions, knots, k)
 }
 
 // The line of a refusal, at the start of out: answers how many bytes it has.

@@ -8,10 +8,9 @@ use lib.ListN.{length}
 use lib.Ieee.{Float}
 use borrow.Author.Tests.{lt-ltb, le-ltb, le-leb, lt-leb, eq-eqb, ne-eqb}
 use Rattle.float64.proofs.Clash.{impossible}
-use Rattle.vectors.specs.Parts.{Wrote}
 use Rattle.records.specs.Entries.{Entry, slot, settings, slotsOf, countSettings}
 use Rattle.records.specs.Week.{unread, read, entriesIn, askEntries, readWeek}
-use Rattle.records.specs.Inner.{answer, Reads, hoursIn, tallyOf, openingOf}
+use Rattle.records.specs.Inner.{answer, Reads, hoursIn, positionsIn, tallyOf, openingOf, WroteHours}
 use Rattle.records.specs.declared.Settings.{Settings}
 use Rattle.records.specs.declared.Tally.the-variants.{Broken, Whole}
 use Rattle.records.specs.declared.Opening.the-variants.{Other, Set}
@@ -89,10 +88,10 @@ module _ (s : List ℕ) (h : length s ≤ 4096) where
         week-taken l = let g = first es f in asked ∙ ap askEntries (e ∙ ap some (g .1)) ∙ ask-taken st (g .0) (rw (g .1) at c) (rw (g .1) at l) ∙ ap (λ (x : List Entry). read st (slotsOf x)) (sym (g .1))
 
 -- a refusal, as the contract has it, and a week that is taken
-pub refuses : (s : List ℕ) {k : ℕ} {y : List Float} → readWeek s ≡ unread k → Reads (readWeek s) (answer (unread k)) y y
-refuses s {k} {y} e = rw e (record { said = refl; wrote = refl })
+pub refuses : (s : List ℕ) {k : ℕ} {y : List Float} {q : List ℕ} → readWeek s ≡ unread k → Reads (readWeek s) (answer (unread k)) y y q q
+refuses s {k} {y} e = rw e (record { said = refl; wrote = refl; numbered = refl })
 
-pub takes : (s : List ℕ) (es : List Entry) {st : Settings} {y z : List Float} {n : ℕ} → readWeek s ≡ read st (slotsOf es) → Wrote y 0 (hoursIn es) z n → Reads (readWeek s) (Read st n) y z
-takes s es {st} {y} {z} {n} e w =
-    let m : n ≡ length (hoursIn es) = omega (arith, w .next) in
-    rw e (record { said = ap (Read st) m; wrote = w .text })
+pub takes : (s : List ℕ) (es : List Entry) {st : Settings} {y z : List Float} {q u : List ℕ} {n : ℕ} → readWeek s ≡ read st (slotsOf es) → WroteHours (hoursIn es) (positionsIn es) 0 y z q u n → Reads (readWeek s) (Read st n) y z q u
+takes s es {st} {y} {z} {q} {u} {n} e w =
+    let m : n ≡ length (hoursIn es) = omega (arith, w .hours .next) in
+    rw e (record { said = ap (Read st) m; wrote = w .hours .text; numbered = w .positions .text })

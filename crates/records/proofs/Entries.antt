@@ -9,7 +9,7 @@ use mathlib.Core.Option.{Option, none, some, Option·map}
 use lib.ListN.{length, take, drop, length-drop}
 use lib.Seq.{length-take-le}
 use lib.Dec.{eqb}
-use lib.Ieee.{binary64, ofBits, ofInt}
+use lib.Ieee.{Float, binary64, ofBits, ofInt}
 use borrow.Author.Tests.{eqb-true}
 use Rattle.float64.proofs.Clash.{clash, impossible}
 use Rattle.framing.specs.Bytes.{numberAt, signed32}
@@ -20,9 +20,10 @@ use Rattle.framing.proofs.Numbers.{number-of-part}
 use Rattle.framing.proofs.Heads.{Opens, Heads, heads}
 use Rattle.records.specs.Entries.{Entry, slot, settings, silent, sounding, millisecondsIn, settingsIn, entryOf, both, entries, slotsOf, countSettings, hoursOf}
 use Rattle.records.specs.Week.{saidBy, entriesIn}
+use Rattle.records.specs.Positions.{positionsFrom}
 use Rattle.records.specs.declared.Settings.{Settings}
 use Rattle.records.specs.declared.Opening.the-variants.{Other, Set}
-use Rattle.records.specs.Inner.{known, hoursIn, openingOf, hourAt, Says, hour, quiet, setup, Found}
+use Rattle.records.specs.Inner.{known, hoursIn, openingOf, hourAt, positionAt, slotsAt, Says, hour, quiet, setup, Found}
 
 -- an entry and the record that says it
 record Entered (k n : ℕ) (b : List ℕ) : Type 0 where
@@ -51,6 +52,17 @@ by-none k n b false false false u₁ u₂ u₃ e₁ e₂ e₃ f₁ f₂ f₃ l h
 by-none k n b true t₂ t₃ true u₂ u₃ e₁ e₂ e₃ f₁ f₂ f₃ l h = absurd (clash refl h)
 by-none k n b false true t₃ u₁ true u₃ e₁ e₂ e₃ f₁ f₂ f₃ l h = absurd (clash refl h)
 by-none k n b false false true u₁ u₂ true e₁ e₂ e₃ f₁ f₂ f₃ l h = absurd (clash refl h)
+
+-- what a record says, by its kind
+pub entry-says : (k : ℕ) (b : List ℕ) (e : Entry) → entryOf (rec k b) ≡ some e → Says k (length b) b e
+entry-says k b e h = go (known k (length b)) refl
+  where
+    go : (t : Bool) → known k (length b) ≡ t → Says k (length b) b e
+    go true g =
+        let w = by-kind k (length b) b _ _ _ _ _ _ refl refl refl refl refl refl refl g in
+        let i : w .entry ≡ e = cc (w .read) in
+        rw i at (w .says)
+    go false g = impossible (cc (by-none k (length b) b _ _ _ _ _ _ refl refl refl refl refl refl refl g))
 
 -- a record and then others, said
 said-first : (r : Rec) (o : Option (List Rec)) → saidBy (Option·map (λ (rs : List Rec). r ∷ rs) o) ≡ both (entryOf r) (saidBy o)
@@ -97,12 +109,25 @@ module _ {s : List ℕ} {at k b n : ℕ} (o : Opens s at k b n) where
   pub found-unknown : false ≡ known k (n - b) → entriesIn (drop at s) ≡ none
   found-unknown h = said (by-none k (n - b) (take (n - b) (drop b s)) _ _ _ _ _ _ refl refl refl refl refl refl size (sym h))
 
--- what an entry adds to the count of settings and to the series
+-- what depends on an entry's kind alone is a function of the kind
+by-says : {A : Type 0} (f : Entry → A) (g : ℕ → A) → ((x : Float) → f (slot (sounding x)) ≡ g 1) → f (slot silent) ≡ g 2 → ((st : Settings) → f (settings st) ≡ g 3)
+    → {k n : ℕ} {b : List ℕ} {e : Entry} → Says k n b e → f e ≡ g k
+by-says f g h q s (hour k n e) = rw (e, k) (h _)
+by-says f g h q s (quiet k n e) = rw (e, k) q
+by-says f g h q s (setup k n e) = rw (e, k) (s _)
+
+-- what an entry adds to the count of settings, to the slots, to the positions where p slots stand before it, and to the series
 pub says-count : {k n : ℕ} {b : List ℕ} {e : Entry} → Says k n b e → countSettings (e ∷ []) ≡ cond (eqb k 3) 1 0
 unfolding countSettings
-says-count (hour k n e) = rw (e, k)
-says-count (quiet k n e) = rw (e, k)
-says-count (setup k n e) = rw (e, k)
+says-count = by-says (λ e. countSettings (e ∷ [])) (λ k. cond (eqb k 3) 1 0) (λ x. refl) refl (λ st. refl)
+
+says-slots : {k n : ℕ} {b : List ℕ} {e : Entry} → Says k n b e → length (slotsOf (e ∷ [])) ≡ slotsAt k
+unfolding slotsOf
+says-slots = by-says (λ e. length (slotsOf (e ∷ []))) slotsAt (λ x. refl) refl (λ st. refl)
+
+says-positions : {k n : ℕ} {b : List ℕ} {e : Entry} (p : ℕ) → Says k n b e → positionsFrom p (slotsOf (e ∷ [])) ≡ positionAt k p
+unfolding positionsFrom slotsOf
+says-positions p = by-says (λ e. positionsFrom p (slotsOf (e ∷ []))) (λ k. positionAt k p) (λ x. refl) refl (λ st. refl)
 
 says-hours : (s : List ℕ) (k n b : ℕ) (e : Entry) → Says k n (take n (drop b s)) e → hoursIn (e ∷ []) ≡ hourAt s k b
 unfolding hoursOf slotsOf
@@ -130,6 +155,12 @@ no-settings (setup k n e) h = absurd (h k)
 module _ {s : List ℕ} {at k b n : ℕ} (f : Found s at k b n) where
   pub found-hours : hoursIn (f .entry ∷ []) ≡ hourAt s k b
   found-hours = says-hours s k (n - b) b (f .entry) (f .says)
+
+  pub found-positions : (p : ℕ) → positionsFrom p (slotsOf (f .entry ∷ [])) ≡ positionAt k p
+  found-positions p = says-positions p (f .says)
+
+  pub found-slots : length (slotsOf (f .entry ∷ [])) ≡ slotsAt k
+  found-slots = says-slots (f .says)
 
   pub hour-inside : k ≡ 1 → b + 4 ≤ length s
   hour-inside h = omega (arith, hour-size (f .says) h, f .inside)

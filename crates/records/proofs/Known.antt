@@ -6,10 +6,12 @@ use native.Mathlib.Omega.{arith}
 use lib.Ieee
 use lib.Ieee.{binary64, toBits}
 use lib.ListN.{length, take, length-append}
+use Rattle.vectors.specs.Vec.{list}
 use Rattle.framing.specs.Bytes.{littleEndian, signed32}
 use Rattle.framing.specs.Frames.{recordsPast}
 use Rattle.records.specs.Entries.{Slot, silent, sounding, settingsIn, entryOf, entries, slotsOf, countSettings, hoursOf}
 use Rattle.records.specs.Week.{Reading, unread, read, readWeek, askEntries}
+use Rattle.records.specs.Positions.{positionsFrom, positionsOf}
 use Rattle.records.proofs.Asking.{week-long}
 
 -- no double's pattern: a silent hour's
@@ -22,10 +24,10 @@ patterns [] = []
 patterns (silent ∷ ws) = pause ∷ patterns ws
 patterns (sounding x ∷ ws) = toBits binary64 x ∷ patterns ws
 
--- a refusal is its number; a week that is taken is 0, its settings (doubles by their bits), its slots and how many hours it has
+-- a refusal is its number; a week that is taken is 0, its settings (doubles by their bits), its slots, how many hours it has, and their positions
 numbers : Reading → List ℕ
 numbers (unread k) = k ∷ []
-numbers (read st ws) = 0 ∷ toBits binary64 (st .lam) ∷ toBits binary64 (st .tol) ∷ st .«max_iter» ∷ st .order ∷ st .penalty ∷ patterns ws ++ (length (hoursOf ws) ∷ [])
+numbers (read st ws) = 0 ∷ toBits binary64 (st .lam) ∷ toBits binary64 (st .tol) ∷ st .«max_iter» ∷ st .order ∷ st .penalty ∷ patterns ws ++ (length (hoursOf ws) ∷ positionsOf ws)
 
 -- x, n times over
 times : ℕ → List ℕ → List ℕ
@@ -65,9 +67,9 @@ nan-pattern = 0x7ff8_0000_0000_0000
 table : List (List ℕ × List ℕ)
 table =
     ([], 12 ∷ [])
-    -- document 01's file; a silent hour has its slot and is left out of the series; milliseconds are signed
-    ∷ (settings ++ hour ++ punctual, said ++ (0x40bf_4000_0000_0000 ∷ 0 ∷ 2 ∷ []))
-    ∷ (settings ++ hour ++ quiet ++ early ++ earliest, said ++ (0x40bf_4000_0000_0000 ∷ pause ∷ 0xbff0_0000_0000_0000 ∷ 0xc1e0_0000_0000_0000 ∷ 3 ∷ []))
+    -- document 01's file; a silent hour has its slot and is left out of the series, and later hours keep their positions; milliseconds are signed
+    ∷ (settings ++ hour ++ punctual, said ++ (0x40bf_4000_0000_0000 ∷ 0 ∷ 2 ∷ 0 ∷ 1 ∷ []))
+    ∷ (settings ++ hour ++ quiet ++ early ++ earliest, said ++ (0x40bf_4000_0000_0000 ∷ pause ∷ 0xbff0_0000_0000_0000 ∷ 0xc1e0_0000_0000_0000 ∷ 3 ∷ 0 ∷ 2 ∷ 3 ∷ []))
     ∷ (settings, said ++ (0 ∷ []))
     ∷ (odd-settings, 0 ∷ nan-pattern ∷ nan-pattern ∷ 18446744073709551615 ∷ 2 ∷ 255 ∷ 0 ∷ [])
     -- a record that the input cuts, a length of 0, an hour of another length, a kind that there is not
@@ -83,9 +85,11 @@ table =
     ∷ (hour, 12 ∷ [])
     ∷ (hour ++ settings, 12 ∷ [])
     ∷ (settings ++ hour ++ settings, 12 ∷ [])
-    -- 168 hours and a silent one; 169 hours
-    ∷ (settings ++ times 168 hour ++ quiet, said ++ times 168 (0x40bf_4000_0000_0000 ∷ []) ++ (pause ∷ 168 ∷ []))
+    -- a silent hour and 168 others; 169 hours
+    ∷ (settings ++ quiet ++ times 168 hour, said ++ (pause ∷ []) ++ times 168 (0x40bf_4000_0000_0000 ∷ []) ++ (168 ∷ list 168 suc))
     ∷ (settings ++ times 169 hour, 13 ∷ [])
+    -- an hour after as many silent ones as a file can have
+    ∷ (settings ++ times 1014 quiet ++ punctual, said ++ times 1014 (pause ∷ []) ++ (0 ∷ 1 ∷ 1014 ∷ []))
     -- 11 comes before 12, and 12 before 13
     ∷ (hour ++ settings ++ take 3 quiet, 11 ∷ [])
     ∷ (settings ++ times 169 hour ++ settings, 12 ∷ [])
@@ -100,7 +104,7 @@ expected [] = []
 expected (p ∷ ps) = p .1 ∷ expected ps
 
 known : says table ≡ expected table
-unfolding patterns numbers times says expected table readWeek askEntries entries entryOf settingsIn slotsOf countSettings hoursOf recordsPast littleEndian signed32 Ieee.ofBits Ieee.toBits Ieee.ofInt
+unfolding list positionsFrom patterns numbers times says expected table readWeek askEntries entries entryOf settingsIn slotsOf countSettings hoursOf recordsPast littleEndian signed32 Ieee.ofBits Ieee.toBits Ieee.ofInt
 known = refl
 
 -- 4,098 bytes, all of them whole records, are too many; so are 4,097 of any kind

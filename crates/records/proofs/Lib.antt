@@ -1,5 +1,6 @@
--- Laws of entries, of a walk over them, and of the questions.
+-- Laws of entries, of their positions, of a walk over them, and of the questions.
 mod Entries
+pub mod Positions
 mod Passing
 mod Asking
 mod Known

@@ -8,11 +8,13 @@ use lib.ListN.{length, take, drop}
 use lib.Dec.{eqb}
 use lib.Ieee.{Float, binary64, ofInt}
 use Rattle.vectors.specs.Vec.{put}
+use Rattle.vectors.specs.Parts.{Wrote}
 use Rattle.framing.specs.Bytes.{numberAt, signed32}
 use Rattle.framing.specs.declared.Head.{Head}
 use Rattle.framing.specs.declared.Head.the-variants.{End, Bad, Record}
 use Rattle.records.specs.Entries.{Entry, slot, settings, silent, sounding, millisecondsIn, settingsIn, slotsOf, countSettings, hoursOf}
 use Rattle.records.specs.Week.{Reading, unread, read, entriesIn}
+use Rattle.records.specs.Positions.{positionsOf}
 use Rattle.records.specs.declared.Tally.{Tally}
 use Rattle.records.specs.declared.Tally.the-variants.{Broken, Whole}
 use Rattle.records.specs.declared.Opening.{Opening}
@@ -25,18 +27,26 @@ abbrev pub answer : Reading → Week
 answer (unread k) = Refused k
 answer (read st ws) = Read st (length (hoursOf ws))
 
--- what stands in the lent slice then: after a refusal what it held, else the series in its first places
+-- what stands in the lent slices then: after a refusal what they held, else the series and its positions in their first places
 abbrev pub series : Reading → List Float → List Float
 series (unread k) y = y
 series (read st ws) y = put y 0 (hoursOf ws)
 
-pub record Reads (a : Reading) (r : Week) (y₀ y : List Float) : Type 0 where
+abbrev pub positions : Reading → List ℕ → List ℕ
+positions (unread k) q = q
+positions (read st ws) q = put q 0 (positionsOf ws)
+
+pub record Reads (a : Reading) (r : Week) (y₀ y : List Float) (q₀ q : List ℕ) : Type 0 where
   pub said : r ≡ answer a
   pub wrote : y ≡ series a y₀
+  pub numbered : q ≡ positions a q₀
 
--- the hours of entries, and their counts
+-- the hours of entries, their positions, and their counts
 abbrev pub hoursIn : List Entry → List Float
 hoursIn es = hoursOf (slotsOf es)
+
+abbrev pub positionsIn : List Entry → List ℕ
+positionsIn es = positionsOf (slotsOf es)
 
 -- an input that splits, and its hours have room in m places
 pub record Room (o : Option (List Entry)) (m : ℕ) : Type 0 where
@@ -61,6 +71,18 @@ known k n = cond (eqb k 1) (eqb n 4) (cond (eqb k 2) (eqb n 0) (cond (eqb k 3) (
 -- the hour of the record of kind k whose body starts at b, if it is one
 abbrev pub hourAt : List ℕ → ℕ → ℕ → List Float
 hourAt s k b = cond (eqb k 1) (ofInt binary64 (signed32 (numberAt b 4 s)) ∷ []) []
+
+-- its position, where p slots stand before it, and how many slots it is
+abbrev pub positionAt : ℕ → ℕ → List ℕ
+positionAt k p = cond (eqb k 1) (p ∷ []) []
+
+abbrev pub slotsAt : ℕ → ℕ
+slotsAt k = cond (eqb k 1) 1 (cond (eqb k 2) 1 0)
+
+-- hours and their positions were written from place n on, and r is the place past them
+pub record WroteHours (hs : List Float) (ps : List ℕ) (n : ℕ) (y₀ y : List Float) (q₀ q : List ℕ) (r : ℕ) : Type 0 where
+  pub hours : Wrote y₀ n hs y r
+  pub positions : Wrote q₀ n ps q r
 
 -- an entry, by the kind and the size of its record's body
 pub data Says (k n : ℕ) (b : List ℕ) (e : Entry) : Type 0 where

@@ -1,4 +1,5 @@
 -- What the records of a week say, and the questions over them; apart, what the code's own contracts cite.
 pub mod Entries
 pub mod Week
+pub mod Positions
 pub mod Inner

@@ -7,10 +7,9 @@ ghost use mathlib.Core.Option.{some};
 ghost use Prim.Native.Nat.{_+_, _≤_};
 ghost use lib.Dec.{eqb};
 ghost use lib.ListN.{length, take, drop};
-ghost use Rattle.vectors.specs.Parts.{Wrote};
 ghost use Rattle.records.specs.Entries.{Entry, settingsIn};
 ghost use Rattle.records.specs.Week.{readWeek, entriesIn};
-ghost use Rattle.records.specs.Inner.{Reads, Room, hoursIn, tallyOf, openingOf, known, hourAt, Stands};
+ghost use Rattle.records.specs.Inner.{Reads, Room, hoursIn, positionsIn, tallyOf, openingOf, known, hourAt, positionAt, slotsAt, WroteHours, Stands};
 
 // What a walk over the input finds: how many records of settings and how many hours there are.
 enum Tally {
@@ -104,27 +103,49 @@ fn walk(s: &[u8]) -> Tally
     }
 }
 
-// Puts what a record says of the series at place n of y, and answers the next place.
-fn put_hour(s: &[u8], kind: u64, body: usize, y: &mut [f64], n: usize) -> usize
+// How many hours of the week a record is: silent or not, an hour is one.
+fn slots(kind: u64) -> u32
+    ensures { λ r. ⌜ (r ≡ slotsAt kind) × (r ≤ 1) ⌝ }
+{
+    match kind {
+        1 => 1,
+        2 => 1,
+        _ => 0,
+    }
+}
+
+// Puts what a record says of the series at place n of y, and its position p at place n of positions, and answers the next place.
+fn put_hour(
+    s: &[u8],
+    kind: u64,
+    body: usize,
+    p: u32,
+    y: &mut [f64],
+    positions: &mut [u32],
+    n: usize,
+) -> usize
     requires { ⌜ (kind ≡ 1 → body + 4 ≤ length (now s)) ⌝ }
-    requires { ⌜ n + length (hourAt (now s) kind body) ≤ length (now y) ⌝ }
-    ensures { λ r. ⌜ Wrote (now (y .entry)) n (hourAt (now (s .entry)) kind body) (now (y .exit)) r ⌝ }
+    requires { ⌜ (n + length (hourAt (now s) kind body) ≤ length (now y)) × (n + length (hourAt (now s) kind body) ≤ length (now positions)) ⌝ }
+    ensures { λ r. ⌜ WroteHours (hourAt (now (s .entry)) kind body) (positionAt kind p) n (now (y .entry)) (now (y .exit)) (now (positions .entry)) (now (positions .exit)) r ⌝ }
 {
     if kind == 1 {
         y[n] = framing::signed(framing::four(s, body));
+        positions[n] = p;
         n + 1
     } else {
         n
     }
 }
 
-// Puts the hours of an input that splits at the start of y, and answers how many there are.
-fn fill(s: &[u8], y: &mut [f64]) -> usize
-    requires { ⌜ Room (entriesIn (now s)) (length (now y)) ⌝ }
-    ensures { λ r. ⌜ ((es : List Entry) → entriesIn (now (s .entry)) ≡ some es → Wrote (now (y .entry)) 0 (hoursIn es) (now (y .exit)) r) ⌝ }
+// Puts the hours of an input that splits at the start of y and their positions at the start of positions, and answers how many there are.
+fn fill(s: &[u8], y: &mut [f64], positions: &mut [u32]) -> usize
+    requires { ⌜ length (now s) ≤ 4096 ⌝ }
+    requires { ⌜ Room (entriesIn (now s)) (length (now y)) × (length (now y) ≤ length (now positions)) ⌝ }
+    ensures { λ r. ⌜ ((es : List Entry) → entriesIn (now (s .entry)) ≡ some es → WroteHours (hoursIn es) (positionsIn es) 0 (now (y .entry)) (now (y .exit)) (now (positions .entry)) (now (positions .exit)) r) ⌝ }
 {
     let mut at: usize = 0;
     let mut n: usize = 0;
+    let mut p: u32 = 0;
     loop {
         match record_at(s, at) {
             Head::End => {
@@ -134,7 +155,8 @@ fn fill(s: &[u8], y: &mut [f64]) -> usize
                 return n;
             }
             Head::Record { kind, body, next } => {
-                n = put_hour(s, kind, body, y, n);
+                n = put_hour(s, kind, body, p, y, positions, n);
+                p = p + slots(kind);
                 at = next;
             }
         }
@@ -176,9 +198,9 @@ fn first_record(s: &[u8]) -> Opening
     }
 }
 
-// Questions 11, 12 and 13 over the bytes of a week, and then its settings and its hours, which go to the start of y.
-pub fn read_week(s: &[u8], y: &mut [f64; 168]) -> Week
-    ensures { λ r. ⌜ Reads (readWeek (now (s .entry))) r (now (y .entry)) (now (y .exit)) ⌝ }
+// Questions 11, 12 and 13 over the bytes of a week, and then its settings and its hours, which go to the start of y, and their positions to the start of positions.
+pub fn read_week(s: &[u8], y: &mut [f64; 168], positions: &mut [u32; 168]) -> Week
+    ensures { λ r. ⌜ Reads (readWeek (now (s .entry))) r (now (y .entry)) (now (y .exit)) (now (positions .entry)) (now (positions .exit)) ⌝ }
 {
     if s.len() > 4096 {
         return Week::Refused(11);
@@ -195,6 +217,6 @@ pub fn read_week(s: &[u8], y: &mut [f64; 168]) -> Week
     if hours > 168 {
         return Week::Refused(13);
     }
-    let n = fill(s, y);
+    let n = fill(s, y, positions);
     Week::Read { settings: found, n }
 }

@@ -3,3 +3,4 @@ pub mod Laws
 pub mod Parts
 pub mod Texts
 pub mod Sums
+pub mod Rising

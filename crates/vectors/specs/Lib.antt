@@ -2,3 +2,4 @@
 pub mod Vec
 pub mod Sums
 pub mod Parts
+pub mod Rising

@@ -1,3 +1,4 @@
--- Laws of what is printed, and known weeks.
+-- Laws of what is printed, of the positions in it, and known weeks.
 mod Showing
+pub mod Positions
 mod Known

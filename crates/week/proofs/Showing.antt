@@ -1,12 +1,12 @@
 -- From the answers of `read_week` and of the fit to the text. Assumes nothing.
 use mathlib.Core.Path.{_≡_, refl, sym, ap, ap₂, _∙_, subst}
 use mathlib.Core.Bool.{Bool, true, false, cond}
-use Prim.Native.Nat.{ℕ, _+_, _≤_}
+use Prim.Native.Nat.{ℕ, _+_, _≤_, _<_}
 use native.Mathlib.Omega.{arith}
 use mathlib.Core.List.{List, [], _∷_}
 use mathlib.Core.Option.{Option, none, some}
-use lib.ListN.{length, take, drop, length-append}
-use lib.Seq.{take-append-seam, take-at, length-take-le}
+use lib.ListN.{length, getD, take, drop, length-append, List·getD-append}
+use lib.Seq.{take-all, take-at, length-take-le}
 use lib.Dec.{leb, ltb, eqb}
 use lib.Ieee.{Float}
 use borrow.Author.Tests.{leb-true}
@@ -17,15 +17,17 @@ use Rattle.vectors.specs.Parts.{Wrote}
 use Rattle.vectors.proofs.Texts.{wrote-length}
 use Rattle.records.specs.Entries.{Slot, Entry, slot, settings, slotsOf, countSettings, hoursOf}
 use Rattle.records.specs.Week.{readWeek, askEntries, entriesIn}
+use Rattle.records.specs.Positions.{positionsOf}
 use Rattle.records.specs.Inner.{answer, Reads}
+use Rattle.records.proofs.Positions.{week-positions}
 use Rattle.records.specs.Week as read
 use Rattle.records.specs.declared.Settings.{Settings}
 use Rattle.records.specs.declared.Week.the-variants as week
 use Rattle.lines.specs.Lines.{refusedLine}
-use Rattle.listing.specs.Shown.{shownLine, shownListing}
+use Rattle.listing.specs.Shown.{Below, shownLine, shownListing}
 use Rattle.questions.specs.Questions.{Asked, Lent}
 use Rattle.fit.specs.Fit.{FitResult, Outcome, refused, fitted, fit, after}
-use Rattle.fit.proofs.Lengths.{lengths}
+use Rattle.fit.proofs.Lengths.{lengths, knot-places}
 use Rattle.decomposition.specs.Outputs.{Outputs, outputs}
 use Rattle.trend_filter.specs.Answers.{summaryOf, answerOf, Gives}
 use Rattle.trend_filter.specs.declared.Summary.{Summary}
@@ -67,73 +69,86 @@ was-refused : (a : read.Reading) {k : ℕ} → week.Refused k ≡ answer a → a
 was-refused (read.unread j) e = ap read.unread (sym (let f : _ ≡ j = cc in f))
 was-refused (read.read st ws) e = impossible cc
 
-pub record Taken (a : read.Reading) (st : Settings) (n : ℕ) (z : List Float) : Type 0 where
+-- only the first places of a buffer are shown: what lies past them does not matter
+front : {A : Type 0} (t s : List A) (n : ℕ) → length t ≡ n → take n (put s 0 t) ≡ t
+front t s n e = take-at t (drop (0 + length t) s) n e
+
+-- t stands in the first n places of z
+pub record Front {A : Type 0} (n : ℕ) (z t : List A) : Type 0 where
+  pub is : take n z ≡ t
+  pub size : n ≡ length t
+  pub room : n ≤ length z
+
+fronted : {A : Type 0} {n : ℕ} {z : List A} (y t : List A) → z ≡ put y 0 t → n ≡ length t → Front n z t
+fronted {A} {n} {z} y t p e = record {
+  is = ap (take n) p ∙ front t y n (sym e);
+  size = e;
+  room = omega (arith, ap length p, length-append t (drop (0 + length t) y));
+}
+
+pub record Taken (a : read.Reading) (st : Settings) (n : ℕ) (z : List Float) (q : List ℕ) : Type 0 where
   pub slots : List Slot
   pub week : a ≡ read.read st slots
-  pub count : n ≡ length (hoursOf slots)
-  pub front : take n z ≡ hoursOf slots
-  pub room : n ≤ length z
+  pub hours : Front n z (hoursOf slots)
+  pub positions : Front n q (positionsOf slots)
   pub few : n ≤ 168
 
-was-taken : (a : read.Reading) (y : List Float) {st : Settings} {n : ℕ} {z : List Float} → Reads a (week.Read st n) y z → Short a → Taken a st n z
-was-taken (read.unread j) y r h = let e = r .said in impossible cc
-was-taken (read.read sd ws) y {st} {n} {z} r h =
+was-taken : (a : read.Reading) {st : Settings} {n : ℕ} {y z : List Float} {q₀ q : List ℕ} → Reads a (week.Read st n) y z q₀ q → Short a → Taken a st n z q
+was-taken (read.unread j) r h = let e = r .said in impossible cc
+was-taken (read.read sd ws) {st} {n} r h =
     let e = r .said in
-    let p = r .wrote in
-    let hs = hoursOf ws in
     let es : sd ≡ st = cc in
-    let en : n ≡ length hs = cc in
+    let en : n ≡ length (hoursOf ws) = cc in
     record {
       slots = ws;
       week = ap (λ (x : Settings). read.read x ws) es;
-      count = en;
-      front = ap₂ (λ (i : ℕ) (l : List Float). take i l) en p ∙ take-append-seam hs (drop (0 + length hs) y);
-      room = omega (arith, en, ap length p, length-append hs (drop (0 + length hs) y));
+      hours = fronted _ (hoursOf ws) (r .wrote) en;
+      positions = fronted _ (positionsOf ws) (r .numbered) (en ∙ sym (week-positions ws .each));
       few = omega arith;
     }
 
-pub taken-week : (s : List ℕ) (y : List Float) {st : Settings} {n : ℕ} {z : List Float} → Reads (readWeek s) (week.Read st n) y z → Taken (readWeek s) st n z
-taken-week s y r = was-taken (readWeek s) y r (short s)
+pub taken-week : (s : List ℕ) {st : Settings} {n : ℕ} {y z : List Float} {q₀ q : List ℕ} → Reads (readWeek s) (week.Read st n) y z q₀ q → Taken (readWeek s) st n z q
+taken-week s r = was-taken (readWeek s) r (short s)
 
 -- the text of a week
 pub text-refused : (s : List ℕ) {k : ℕ} → week.Refused k ≡ answer (readWeek s) → weekText s ≡ refusedLine k
 unfolding weekText readingText
 text-refused s e = ap readingText (was-refused (readWeek s) e)
 
-pub text-taken : (s : List ℕ) {st : Settings} {n : ℕ} {z : List Float} → Taken (readWeek s) st n z → weekText s ≡ fitText st (take n z)
+pub text-taken : (s : List ℕ) {st : Settings} {n : ℕ} {z : List Float} {q : List ℕ} → Taken (readWeek s) st n z q → weekText s ≡ fitText st (take n z) (take n q)
 unfolding weekText readingText
-text-taken s {st} w = ap readingText (w .week) ∙ ap (fitText st) (sym (w .front))
-
--- only the first places of a buffer are shown: what lies past them does not matter
-front : {A : Type 0} (t s : List A) (n : ℕ) → length t ≡ n → take n (put s 0 t) ≡ t
-front t s n e = take-at t (drop (0 + length t) s) n e
+text-taken s {st} w = ap readingText (w .week) ∙ ap₂ (fitText st) (sym (w .hours .is)) (sym (w .positions .is))
 
 -- what an answer of the fit says
-was-no-fit : (a : Asked) (o : Outcome) {k : ℕ} → fits.Refused k ≡ answerOf o → outcomeText a o ≡ refusedLine k
+was-no-fit : (a : Asked) (ps : List ℕ) (o : Outcome) {k : ℕ} → fits.Refused k ≡ answerOf o → outcomeText a ps o ≡ refusedLine k
 unfolding outcomeText answerOf
-was-no-fit a (refused j) e = ap refusedLine (sym (let f : _ ≡ j = cc in f))
-was-no-fit a (fitted f) e = impossible cc
+was-no-fit a ps (refused j) e = ap refusedLine (sym (let f : _ ≡ j = cc in f))
+was-no-fit a ps (fitted f) e = impossible cc
 
-pub record Listed (st : Settings) (y : List Float) (s : Summary) (t c : List Float) (k : List ℕ) : Type 0 where
-  pub text : fitText st y ≡ shownListing (shown st (length y) s) t c k
+pub record Listed (st : Settings) (y : List Float) (ps : List ℕ) (s : Summary) (t c : List Float) (k : List ℕ) : Type 0 where
+  pub text : fitText st y ps ≡ shownListing (shown st (length y) s) ps t c k
   pub few : s .knots ≤ length y
+  pub below : Below k (s .knots) (length ps)
 
-was-fit : (st : Settings) (y : List Float) (o : Outcome) (before : Outputs) {r : Answer} {s : Summary} {t c : List Float} {k : List ℕ}
-    → fit (askedBy st y) weekLent ≡ o → r ≡ fits.Fit s → Gives o r before (outputs t c k) → Listed st y s t c k
+was-fit : (st : Settings) (y : List Float) (ps : List ℕ) (o : Outcome) (before : Outputs) {r : Answer} {s : Summary} {t c : List Float} {k : List ℕ}
+    → length ps ≡ length y → fit (askedBy st y) weekLent ≡ o → r ≡ fits.Fit s → Gives o r before (outputs t c k) → Listed st y ps s t c k
 unfolding fitText outcomeText listingOf shownLine shownListing summaryOf answerOf after
-was-fit st y (refused i) before {r} {s} g e h =
+was-fit st y ps (refused i) before {r} {s} n g e h =
     let p : fits.Fit s ≡ answerOf (refused i) = sym e ∙ h .answer in
     impossible cc
-was-fit st y (fitted f) before {r} {s} {t} {c} {k} g e h =
+was-fit st y ps (fitted f) before {r} {s} {t} {c} {k} n g e h =
     let p : fits.Fit s ≡ answerOf (fitted f) = sym e ∙ h .answer in
     let es : summaryOf f ≡ s = cc in
     let l = lengths (askedBy st y) weekLent f g in
     let trend-is = ap (λ (o : Outputs). o .trend) (h .out) in
     let cycle-is = ap (λ (o : Outputs). o .cycle) (h .out) in
     let knots-is = ap (λ (o : Outputs). o .knots) (h .out) in
-    subst (λ (x : Summary). Listed st y x t c k) es (record {
-      text = ap (outcomeText (askedBy st y)) g ∙ rw (trend-is, cycle-is, knots-is, front (f .trend) (before .trend) (length y) (l .trend), front (f .cycle) (before .cycle) (length y) (l .cycle), front (f .knots) (before .knots) (length (f .knots)) refl);
+    let knot-at : (i : ℕ) → i < length (f .knots) → getD k i 0 ≡ getD (f .knots) i 0 = λ i d. ap (λ (v : List ℕ). getD v i 0) knots-is ∙ List·getD-append (f .knots) (drop (0 + length (f .knots)) (before .knots)) 0 i d in
+    let r = knot-places (askedBy st y) weekLent f g in
+    subst (λ (x : Summary). Listed st y ps x t c k) es (record {
+      text = ap (outcomeText (askedBy st y) ps) g ∙ rw (take-all (length y) ps (omega arith), trend-is, cycle-is, knots-is, front (f .trend) (before .trend) (length y) (l .trend), front (f .cycle) (before .cycle) (length y) (l .cycle), front (f .knots) (before .knots) (length (f .knots)) refl);
       few = omega (arith, l .knots);
+      below = λ i d. omega (arith, knot-at i d, r .below i d);
     })
 
 -- a call of the fit with what the program lends: its answer, and the places that it left
@@ -145,12 +160,12 @@ pub fits-lent : (st : Settings) (y : List Float) (l : Lent) {r : Answer} {b : Ou
 fits-lent st y l {r} {b} {t} {c} {k} h g = record { before = b; gives = subst (λ (x : Lent). Gives (fit (askedBy st y) x) r b (outputs t c k)) (sym g) h }
 
 module _ {st : Settings} {y : List Float} {r : Answer} {t c : List Float} {k : List ℕ} (f : Fitted st y r t c k) where
-  pub fit-listed : {s : Summary} → r ≡ fits.Fit s → Listed st y s t c k
-  fit-listed {s} e = was-fit st y (fit (askedBy st y) weekLent) (f .before) refl e (f .gives)
+  pub fit-listed : {s : Summary} (ps : List ℕ) → length ps ≡ length y → r ≡ fits.Fit s → Listed st y ps s t c k
+  fit-listed {s} ps n e = was-fit st y ps (fit (askedBy st y) weekLent) (f .before) n refl e (f .gives)
 
-  pub fit-refused : {j : ℕ} → r ≡ fits.Refused j → fitText st y ≡ refusedLine j
+  pub fit-refused : {j : ℕ} (ps : List ℕ) → r ≡ fits.Refused j → fitText st y ps ≡ refusedLine j
   unfolding fitText
-  fit-refused e = was-no-fit (askedBy st y) (fit (askedBy st y) weekLent) (sym e ∙ f .gives .answer)
+  fit-refused ps e = was-no-fit (askedBy st y) ps (fit (askedBy st y) weekLent) (sym e ∙ f .gives .answer)
 
 pub lent-is : {t c k w m : ℕ} → 168 ≡ t → 168 ≡ c → 168 ≡ k → 6720 ≡ w → 336 ≡ m → weekLent ≡ record { trend = t; cycle = c; knots = k; work = w; marks = m }
 lent-is et ec ek ew em = rw (sym et, sym ec, sym ek, sym ew, sym em)

@@ -33,10 +33,10 @@ fn shown(st: Settings, n: usize, s: Summary) -> Shown
     }
 }
 
-// Fits the series under its settings and writes its listing, or its refusal: answers how many bytes that is.
-fn fit_week(y: &[f64], st: Settings, out: &mut [u8; 16384]) -> usize
-    requires { ⌜ length (now y) ≤ 168 ⌝ }
-    ensures { λ r. ⌜ Wrote (now (out .entry)) 0 (fitText st (now (y .entry))) (now (out .exit)) r ⌝ }
+// Fits the series under its settings and writes its listing, with the position of each hour, or its refusal: answers how many bytes that is.
+fn fit_week(y: &[f64], positions: &[u32], st: Settings, out: &mut [u8; 16384]) -> usize
+    requires { ⌜ (length (now y) ≤ 168) × (length (now positions) ≡ length (now y)) ⌝ }
+    ensures { λ r. ⌜ Wrote (now (out .entry)) 0 (fitText st (now (y .entry)) (now (positions .entry))) (now (out .exit)) r ⌝ }
 {
     let mut trend = [0.0f64; 168];
     let mut cycle = [0.0f64; 168];
@@ -62,7 +62,7 @@ fn fit_week(y: &[f64], st: Settings, out: &mut [u8; 16384]) -> usize
         Answer::Refused(number) => listing::put_refused(out, number),
         Answer::Fit(s) => {
             let f = shown(st, y.len(), s);
-            listing::put_listing(out, f, &trend, &cycle, &knots)
+            listing::put_listing(out, f, positions, &trend, &cycle, &knots)
         }
     }
 }
@@ -73,8 +73,9 @@ pub fn weekly(input: &[u8], out: &mut [u8; 16384]) -> usize
     ensures { λ r. ⌜ Counts r (now (out .exit)) ⌝ }
 {
     let mut y = [0.0f64; 168];
-    match records::read_week(input, &mut y) {
+    let mut positions = [0u32; 168];
+    match records::read_week(input, &mut y, &mut positions) {
         Week::Refused(number) => listing::put_refused(out, number),
-        Week::Read { settings, n } => fit_week(&y[..n], settings, out),
+        Week::Read { settings, n } => fit_week(&y[..n], &positions[..n], settings, out),
     }
 }

@@ -58,11 +58,12 @@ returns-5 c = let d = c .before in
     refuses _ (week-hours _ (short e) (f .splits) (set o) (sym (f .settings) ∙ d .if2 .left) (omega (arith, f .hours)))
 
 fill-requires : tie.Need-fill-requires
-fill-requires c κs = let f = split (at-split (c .before .before .before .before)) in
-    record { entries = f .entries; splits = f .splits; room = omega (arith, f .hours) }
+fill-requires c κs = let e = at-split (c .before .before .before .before .before) in
+    let f = split e in
+    (short e, (record { entries = f .entries; splits = f .splits; room = omega (arith, f .hours) }, search needs))
 
 returns-6 : tie.Need-returns-6
-returns-6 c = let d = c .before .before .before in
+returns-6 c = let d = c .before .before .before .before in
     let o = d .before .before in
     let e = at-split o in
     let f = split e in

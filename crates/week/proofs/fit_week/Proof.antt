@@ -25,7 +25,7 @@ abbrev called : tie.After-marks2 → tie.After-l1-trend-filter
 called m = let k = m .before .before in k .before .before .before
 
 abbrev begun : tie.After-marks → tie.Start
-begun m = let k = m .before .before in k .before .before .before .before
+begun m = let k = m .before .before in k .before .before .before .before .before
 
 fitted : (m : tie.After-marks2) → let f = called m in let a = begun (f .before) .args in
     Fitted (a .st) (now (a .y)) (f .l1-trend-filter .result) (f .l1-trend-filter .last .1 .1 .1 .0) (f .l1-trend-filter .last .1 .1 .1 .1 .0) (f .l1-trend-filter .last .1 .1 .1 .1 .1 .0)
@@ -44,17 +44,20 @@ put-listing-requires c κs = let h = c .before .before .before .before in
     let s = h .before .before in
     let m = s .before .before in
     let a = begun (called m .before) in
-    rw (h .shown .ensures) (a .pre, omega (arith, fit-listed (fitted m) (s .s .given .1) .few, a .pre))
+    let w = fit-listed (fitted m) (now (a .args .positions)) (a .pre .1) (s .s .given .1) in
+    rw (h .shown .ensures) ((a .pre .0, omega (arith, w .few, a .pre .0)), (omega (arith, a .pre .1), w .below))
 
 returns : tie.Need-returns
 returns c = let n = c .before .before .before in
-    rw (fit-refused (fitted (n .before .before)) (n .number .given .1)) (c .put-refused .ensures)
+    rw (fit-refused (fitted (n .before .before)) _ (n .number .given .1)) (c .put-refused .ensures)
 
 returns-2 : tie.Need-returns-2
 returns-2 c = let a = c .before .before .before .before in
     let h = a .before in
     let s = h .before .before in
-    rw (fit-listed (fitted (s .before .before)) (s .s .given .1) .text, ← h .shown .ensures) (c .put-listing .ensures)
+    let m = s .before .before in
+    let b = begun (called m .before) in
+    rw (fit-listed (fitted m) (now (b .args .positions)) (b .pre .1) (s .s .given .1) .text, ← h .shown .ensures) (c .put-listing .ensures)
 
 pub fit-week-spec : {M : Type 1} → statement M
 fit-week-spec =

@@ -1,0 +1,144 @@
+-- Laws of positions, which specs/Positions.antt states. Assumes nothing.
+use mathlib.Core.Path.{_≡_, refl, sym, ap, _∙_}
+use mathlib.Core.Bool.{Bool, true, false, cond}
+use Prim.Native.Nat.{ℕ, zero, suc, _+_, _≤_, _<_}
+use native.Mathlib.Omega.{arith}
+use mathlib.Core.List.{List, [], _∷_, _++_}
+use mathlib.Core.Option.{Option, none, some}
+use lib.ListN.{length, getD, take}
+use lib.Ieee.{Float}
+use Rattle.float64.proofs.Clash.{impossible}
+use Rattle.vectors.specs.Vec.{at, list}
+use Rattle.vectors.proofs.Laws.{list-is, list-ext}
+use Rattle.framing.specs.Frames.{Rec, rec}
+use Rattle.records.specs.Entries.{Slot, silent, sounding, Entry, millisecondsIn, both, entryOf, entries, slotsOf, hoursOf}
+use Rattle.records.specs.Positions.{positionsFrom, positionsOf, HasPosition, Positions, countKind, InFile, PositionsInFile}
+use Rattle.records.specs.Inner.{Says, hour, quiet, setup}
+use Rattle.records.proofs.Entries.{entry-says}
+
+-- one position for each sounding hour
+each-one : (p : ℕ) (ws : List Slot) → length (positionsFrom p ws) ≡ length (hoursOf ws)
+unfolding positionsFrom hoursOf
+each-one p [] = refl
+each-one p (silent ∷ ws) = each-one (suc p) ws
+each-one p (sounding x ∷ ws) = ap suc (each-one (suc p) ws)
+
+-- q is r slots past p, and r is the position of place i
+record Past (p : ℕ) (ws : List Slot) (i q : ℕ) : Type 0 where
+  r : ℕ
+  is : q ≡ p + r
+  stands : HasPosition ws i r
+
+past : (p : ℕ) (ws : List Slot) (i : ℕ) → i < length (hoursOf ws) → Past p ws i (getD (positionsFrom p ws) i 0)
+unfolding positionsFrom hoursOf
+past p [] i h = absurd (omega arith)
+past p (silent ∷ ws) i h =
+    let w = past (suc p) ws i h in
+    record { r = suc (w .r); is = omega (arith, w .is); stands = record { sounds = w .stands .sounds; before = w .stands .before } }
+past p (sounding x ∷ ws) zero h = record { r = 0; is = omega arith; stands = record { sounds = refl; before = refl } }
+past p (sounding x ∷ ws) (suc i) h =
+    let w = past (suc p) ws i (omega arith) in
+    record { r = suc (w .r); is = omega (arith, w .is); stands = record { sounds = w .stands .sounds; before = ap suc (w .stands .before) } }
+
+placed : (ws : List Slot) (i : ℕ) → i < length (hoursOf ws) → HasPosition ws i (getD (positionsOf ws) i 0)
+placed ws i h =
+    let w = past 0 ws i h in
+    let e : getD (positionsOf ws) i 0 ≡ w .r = omega (arith, w .is) in
+    rw e (w .stands)
+
+-- a slot that sounds is the place that counts the sounding ones before it
+some-place : (p : ℕ) (ws : List Slot) (q : ℕ) (x : Float) → getD ws q silent ≡ sounding x
+    → let i = length (hoursOf (take q ws)) in (i < length (hoursOf ws)) × (getD (positionsFrom p ws) i 0 ≡ p + q)
+unfolding positionsFrom hoursOf
+some-place p [] q x e = impossible cc
+some-place p (silent ∷ ws) zero x e = impossible cc
+some-place p (silent ∷ ws) (suc q) x e = let w = some-place (suc p) ws q x e in (w .0, omega (arith, w .1))
+some-place p (sounding y ∷ ws) zero x e = (omega arith, omega arith)
+some-place p (sounding y ∷ ws) (suc q) x e = let w = some-place (suc p) ws q x e in (omega (arith, w .0), omega (arith, w .1))
+
+rise : (p : ℕ) (ws : List Slot) (i j : ℕ) → i < j → j < length (positionsFrom p ws) → getD (positionsFrom p ws) i 0 < getD (positionsFrom p ws) j 0
+unfolding positionsFrom hoursOf
+rise p [] i j h k = absurd (omega arith)
+rise p (silent ∷ ws) i j h k = rise (suc p) ws i j h k
+rise p (sounding x ∷ ws) i zero h k = absurd (omega arith)
+rise p (sounding x ∷ ws) zero (suc j) h k = omega (arith, past (suc p) ws j (omega (arith, each-one (suc p) ws)) .is)
+rise p (sounding x ∷ ws) (suc i) (suc j) h k = rise (suc p) ws i j (omega arith) (omega arith)
+
+bounded : (p : ℕ) (ws : List Slot) (i : ℕ) → i < length (positionsFrom p ws) → getD (positionsFrom p ws) i 0 < p + length ws
+unfolding positionsFrom
+bounded p [] i h = absurd (omega arith)
+bounded p (silent ∷ ws) i h = omega (arith, bounded (suc p) ws i h)
+bounded p (sounding x ∷ ws) zero h = omega arith
+bounded p (sounding x ∷ ws) (suc i) h = omega (arith, bounded (suc p) ws i (omega arith))
+
+-- no more hours sound than there are
+few-sound : (ws : List Slot) → length (hoursOf ws) ≤ length ws
+unfolding hoursOf
+few-sound [] = omega arith
+few-sound (silent ∷ ws) = omega (arith, few-sound ws)
+few-sound (sounding x ∷ ws) = omega (arith, few-sound ws)
+
+all-sound : (p : ℕ) (ws : List Slot) → length (hoursOf ws) ≡ length ws → (i : ℕ) → i < length ws → getD (positionsFrom p ws) i 0 ≡ p + i
+unfolding positionsFrom hoursOf
+all-sound p [] e i h = absurd (omega arith)
+all-sound p (silent ∷ ws) e i h = absurd (omega (arith, few-sound ws))
+all-sound p (sounding x ∷ ws) e zero h = omega arith
+all-sound p (sounding x ∷ ws) e (suc i) h = omega (arith, all-sound (suc p) ws (omega arith) i (omega arith))
+
+own-places : (ws : List Slot) → length (hoursOf ws) ≡ length ws → positionsOf ws ≡ list (length ws) (λ i. i)
+own-places ws e =
+    let n = each-one 0 ws ∙ e in
+    list-is 0 (positionsOf ws) ∙ ap (λ (m : ℕ). list m (λ i. getD (positionsOf ws) i 0)) n ∙ list-ext (length ws) _ (λ i. i) (λ i h. omega (arith, all-sound 0 ws e i h))
+
+pub week-positions : (ws : List Slot) → Positions ws
+week-positions ws = record {
+  each = each-one 0 ws;
+  place = placed ws;
+  every = λ p x e. let w = some-place 0 ws p x e in (w .0, omega (arith, w .1));
+  rising = record { below = λ i h. omega (arith, bounded 0 ws i h); strictly = rise 0 ws };
+  none-silent = own-places ws;
+}
+
+-- an entry and then others, where there are both
+record Parted (r : Option Entry) (rs : Option (List Entry)) (es : List Entry) : Type 0 where
+  first : Entry
+  rest : List Entry
+  one : r ≡ some first
+  more : rs ≡ some rest
+  all : first ∷ rest ≡ es
+
+parted : (r : Option Entry) (rs : Option (List Entry)) (es : List Entry) → both r rs ≡ some es → Parted r rs es
+parted none rs es e = impossible cc
+parted (some a) none es e = impossible cc
+parted (some a) (some t) es e = record { first = a; rest = t; one = refl; more = refl; all = (let f : a ∷ t ≡ es = cc in f) }
+
+-- the same of a file whose first slot has position p
+record From (p : ℕ) (P : List Rec) (x : Float) (ws : List Slot) : Type 0 where
+  inside : countKind 1 P < length (hoursOf ws)
+  milliseconds : at (hoursOf ws) (countKind 1 P) ≡ x
+  position : getD (positionsFrom p ws) (countKind 1 P) 0 ≡ p + countKind 1 P + countKind 2 P
+
+from-first : (p n : ℕ) (b : List ℕ) (e : Entry) (t : List Entry) → Says 1 n b e → From p [] (millisecondsIn b) (slotsOf (e ∷ t))
+unfolding positionsFrom hoursOf slotsOf countKind
+from-first p n b e t (hour k l h) = rw h (record { inside = omega arith; milliseconds = refl; position = omega arith })
+from-first p n b e t (quiet k l h) = absurd (omega arith)
+from-first p n b e t (setup k l h) = absurd (omega arith)
+
+module _ (p n : ℕ) (c : List ℕ) (e : Entry) (P : List Rec) (x : Float) (t : List Entry) where
+  from-more : (k : ℕ) → Says k n c e → ((q : ℕ) → From q P x (slotsOf t)) → From p (rec k c ∷ P) x (slotsOf (e ∷ t))
+  unfolding positionsFrom hoursOf slotsOf countKind
+  from-more k (hour kind l h) f = let w = f (suc p) in rw (h, kind) (record { inside = omega (arith, w .inside); milliseconds = w .milliseconds; position = w .position ∙ omega arith })
+  from-more k (quiet kind l h) f = let w = f (suc p) in rw (h, kind) (record { inside = w .inside; milliseconds = w .milliseconds; position = w .position ∙ omega arith })
+  from-more k (setup kind l h) f = let w = f p in rw (h, kind) (record { inside = w .inside; milliseconds = w .milliseconds; position = w .position })
+
+from : (P Q : List Rec) (b : List ℕ) (es : List Entry) → entries (P ++ rec 1 b ∷ Q) ≡ some es → (p : ℕ) → From p P (millisecondsIn b) (slotsOf es)
+unfolding entries
+from [] Q b es e p =
+    let w = parted (entryOf (rec 1 b)) (entries Q) es e in
+    rw (sym (w .all)) (from-first p (length b) b (w .first) (w .rest) (entry-says 1 b (w .first) (w .one)))
+from (rec k c ∷ P) Q b es e p =
+    let w = parted (entryOf (rec k c)) (entries (P ++ rec 1 b ∷ Q)) es e in
+    rw (sym (w .all)) (from-more p (length c) c (w .first) P (millisecondsIn b) (w .rest) k (entry-says k c (w .first) (w .one)) (from P Q b (w .rest) (w .more)))
+
+pub positions-in-file : PositionsInFile
+positions-in-file P Q b es e = let w = from P Q b es e 0 in record { inside = w .inside; milliseconds = w .milliseconds; position = omega (arith, w .position) }

@@ -1,0 +1,55 @@
+-- Document 02, A1: an hour's position, and what is proved of positions. The fit closes up the series; the listing prints the position of each place.
+use mathlib.Core.Path.{_≡_}
+use mathlib.Core.Bool.{cond}
+use Prim.Native.Nat.{ℕ, zero, suc, _+_, _<_}
+use mathlib.Core.List.{List, [], _∷_, _++_}
+use mathlib.Core.Option.{some}
+use lib.ListN.{length, getD, take}
+use lib.Dec.{eqb}
+use lib.Ieee.{Float}
+use Rattle.vectors.specs.Vec.{at, list}
+use Rattle.vectors.specs.Rising.{Rising}
+use Rattle.framing.specs.Frames.{Rec, rec}
+use Rattle.records.specs.Entries.{Slot, silent, sounding, Entry, millisecondsIn, entries, slotsOf, hoursOf}
+
+-- the positions of the sounding hours among slots of which the first has position p
+unfoldable pub positionsFrom : ℕ → List Slot → List ℕ
+positionsFrom p [] = []
+positionsFrom p (silent ∷ ws) = positionsFrom (suc p) ws
+positionsFrom p (sounding x ∷ ws) = p ∷ positionsFrom (suc p) ws
+
+-- the position of each place of the series: how many slots stand before its own, silent ones too
+abbrev pub positionsOf : List Slot → List ℕ
+positionsOf ws = positionsFrom 0 ws
+
+-- p is the position of place i of the series: the slot there sounds with that place's milliseconds, and i sounding ones stand before it
+pub record HasPosition (ws : List Slot) (i p : ℕ) : Type 0 where
+  pub sounds : getD ws p silent ≡ sounding (at (hoursOf ws) i)
+  pub before : length (hoursOf (take p ws)) ≡ i
+
+-- what is proved of the positions of any week
+pub record Positions (ws : List Slot) : Type 0 where
+  -- there is one for each place of the series, and it is that place's
+  pub each : length (positionsOf ws) ≡ length (hoursOf ws)
+  pub place : (i : ℕ) → i < length (hoursOf ws) → HasPosition ws i (getD (positionsOf ws) i 0)
+  -- a slot that sounds is some place's
+  pub every : (p : ℕ) (x : Float) → getD ws p silent ≡ sounding x → (length (hoursOf (take p ws)) < length (hoursOf ws)) × (getD (positionsOf ws) (length (hoursOf (take p ws))) 0 ≡ p)
+  -- they rise strictly, all below the number of slots
+  pub rising : Rising (length ws) (positionsOf ws)
+  -- with no silent hour each place is its own position
+  pub none-silent : length (hoursOf ws) ≡ length ws → positionsOf ws ≡ list (length ws) (λ i. i)
+
+-- how many of the records have kind k
+unfoldable pub countKind : ℕ → List Rec → ℕ
+countKind k [] = zero
+countKind k (rec j b ∷ rs) = cond (eqb j k) (suc (countKind k rs)) (countKind k rs)
+
+-- in the file: the place of an hour counts the records of kind 1 before it, P being all records before it, and its position those of kinds 1 and 2
+pub record InFile (P : List Rec) (b : List ℕ) (ws : List Slot) : Type 0 where
+  pub inside : countKind 1 P < length (hoursOf ws)
+  pub milliseconds : at (hoursOf ws) (countKind 1 P) ≡ millisecondsIn b
+  pub position : getD (positionsOf ws) (countKind 1 P) 0 ≡ countKind 1 P + countKind 2 P
+
+-- so for every hour, with the body b, of every file
+abbrev pub PositionsInFile : Type 0
+PositionsInFile = (P Q : List Rec) (b : List ℕ) (es : List Entry) → entries (P ++ rec 1 b ∷ Q) ≡ some es → InFile P b (slotsOf es)
