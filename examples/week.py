@@ -2,7 +2,8 @@
 """A sample week, and a reader for its listing.
 
 week.py make FILE    writes the sample week: 168 hours, four of them silent
-week.py show         reads a listing from standard input and prints it with plain numbers
+week.py show         reads a listing from standard input and prints it with plain numbers; hours are numbered from 0, silent
+                     ones too: of the sample week hour 0 is Monday, 00:00, and hour 77 Thursday, 05:00
 
     python3 examples/week.py make examples/week.bin
     target/bin/weektrend < examples/week.bin | python3 examples/week.py show
@@ -54,9 +55,9 @@ def show(lines):
             print(f"{n} hours, order {order}, penalty {penalty}: {steps} steps, {gains} of them improvements, {'settled' if converged == '1' else 'not settled'}")
             print(REASONS[int(reason)])
         elif word == "h":
-            print(f"hour {int(rest[0]):3}  trend {number(rest[1]):10.1f} ms  cycle {number(rest[2]):10.1f} ms")
+            print(f"hour {int(rest[0]):4}  trend {number(rest[1]):10.1f} ms  cycle {number(rest[2]):10.1f} ms")
         elif word == "knot":
-            print(f"the trend bends at hour {rest[0]}")
+            print(f"the trend bends after hour {rest[0]}")
         elif word == "refused":
             print(f"refused: question {rest[0]}")
         else:

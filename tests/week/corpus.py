@@ -1,12 +1,16 @@
 #!/usr/bin/env python3
-"""corpus.py [--no-reason] DIR [PROGRAM]: runs the weekly program on every DIR/NAME.in and compares what it prints with DIR/NAME.out.
+"""corpus.py [--no-reason] [--places] DIR [PROGRAM]: runs the weekly program on every DIR/NAME.in and compares what it prints with DIR/NAME.out.
 
 With --no-reason the listings of DIR are from before A11 of document 02, when the first line ended with converged: the reason, a
-number from 0 to 4 that must stand there, is left out of what the program prints. Refusals are compared as they are.
+number from 0 to 4 that must stand there, is left out of what the program prints. With --places they are from before A1, when an
+hour had its place in the series, silent hours left out: each such number becomes that hour's position among the records of
+kinds 1 and 2, counted here from NAME.in. Refusals are compared as they are.
 PROGRAM is target/bin/weektrend unless it is given. The last line counts; the exit status is 0 only if all agree.
 """
+import os
 import pathlib
 import re
+import struct
 import subprocess
 import sys
 
@@ -17,24 +21,44 @@ def without_reason(listing):
     return shorter if found or not listing.startswith(b"fit") else b""
 
 
+def positions(data):
+    """How many records of kinds 1 and 2 stand before each record of kind 1."""
+    found, before, at = [], 0, 0
+    while at + 4 <= len(data):
+        length, kind = struct.unpack_from("<HH", data, at)
+        if kind == 1:
+            found.append(before)
+        before += kind in (1, 2)
+        at += 2 + length
+    return found
+
+
+def renumbered(listing, data):
+    """A listing of places with the position of each; a place that the input hasn't gets none, which no program prints."""
+    position = {b"%d" % place: b"%d" % p for place, p in enumerate(positions(data))}
+    return re.sub(rb"(?m)^(h|knot) (\w+)", lambda line: line[1] + b" " + position.get(line[2], b"none"), listing)
+
+
 def main():
     words = sys.argv[1:]
-    earlier = words[:1] == ["--no-reason"]
-    if earlier:
-        del words[0]
-    if not words:
+    earlier = set()
+    while words and words[0] in ("--no-reason", "--places"):
+        earlier.add(words.pop(0))
+    if not words or words[0].startswith("--"):
         sys.exit(__doc__)
     folder = pathlib.Path(words[0])
     program = words[1] if len(words) > 1 else "target/bin/weektrend"
     cases = sorted(folder.glob("*.in"))
     wrong = 0
     for case in cases:
-        want = case.with_suffix(".out").read_bytes()
-        run = subprocess.run([program], input=case.read_bytes(), capture_output=True, timeout=60)
-        got = without_reason(run.stdout) if earlier else run.stdout
+        data, want = case.read_bytes(), case.with_suffix(".out").read_bytes()
+        run = subprocess.run([program], input=data, capture_output=True, timeout=60)
+        got = without_reason(run.stdout) if "--no-reason" in earlier else run.stdout
+        want = renumbered(want, data) if "--places" in earlier else want
         if got != want or run.stderr or run.returncode != 0:
             wrong += 1
-            print(f"{case.name}: printed {run.stdout[:80]!r}, and {want[:80]!r} is right")
+            line = want.rfind(b"\n", 0, len(os.path.commonprefix([got, want]))) + 1
+            print(f"{case.name}: printed {got[line:][:80]!r}, and {want[line:][:80]!r} is right")
     print(f"{len(cases) - wrong} of {len(cases)} weeks agree")
     sys.exit(1 if wrong or not cases else 0)
 

@@ -3,8 +3,10 @@
 
 Each run must end within ten seconds, with status 0, and print a listing or one line `refused N`, nothing else.
 Beside that form, a plain reading of document 01's questions 11 to 13, 1, 2, 5, 6, 7 and 10 says for each input
-which refusal is right, and of a fit n, order, penalty, the bounds of n_iter, the rising knots and what the other fields
-say of the reason are checked.
+which refusal is right, and of a fit n, order, penalty, the bounds of n_iter and what the other fields say of the reason are
+checked. The hours must be printed by their positions (document 02, A1), each with the cycle that the trend leaves of the
+milliseconds at that position, and the knots by the positions of exactly the places at which document 01 has the printed
+trend bend.
 Refusal 10 is right exactly where the Rust's elimination, done here in doubles, meets a pivot that isn't finite and above 0.
 """
 import functools
@@ -17,8 +19,8 @@ import subprocess
 import sys
 
 LENGTHS = {1: 6, 2: 2, 3: 28}
-HEX = "[0-9a-f]{16}"
-FIT = re.compile(rf"fit (\d+) (\d+) (\d+) (\d+) (\d+) ([01]) ([0-4])\n({HEX}) {HEX} {HEX}\n((?:h \d+ {HEX} {HEX}\n)*)((?:knot \d+\n)*)")
+WHOLE, HEX = "(?:0|[1-9][0-9]*)", "[0-9a-f]{16}"
+FIT = re.compile(rf"fit{f' ({WHOLE})' * 5} ([01]) ([0-4])\n({HEX}) {HEX} {HEX}\n((?:h {WHOLE} {HEX} {HEX}\n)*)((?:knot {WHOLE}\n)*)")
 CLOSED, SMALL, SPENT, STALLED, LOST = range(5)
 
 
@@ -39,13 +41,14 @@ def split(data):
 
 
 def expected(data):
-    """A refusal's number, or (n, order, penalty, lam, max_iter) of a series that reaches the fit."""
+    """A refusal's number, or (series, order, penalty, lam, max_iter) that reach the fit; a series is the (position, milliseconds) of each place."""
     records = split(data) if len(data) <= 4096 else None
     if records is None:
         return 11
     if not records or records[0][0] != 3 or any(k == 3 for k, _ in records[1:]):
         return 12
-    n = sum(k == 1 for k, _ in records)
+    series = [(p, float(struct.unpack("<i", body)[0])) for p, (k, body) in enumerate(records[1:]) if k == 1]
+    n = len(series)
     if n > 168:
         return 13
     lam, tol, limit, order, penalty = struct.unpack("<ddQBB", records[0][1])
@@ -61,7 +64,7 @@ def expected(data):
         return 7
     if not (sound_dd(order, n - order) and (penalty == 1 or sound_l2(order, n, lam))):
         return 10
-    return n, order, penalty, lam, limit
+    return series, order, penalty, lam, limit
 
 
 def sound(a, bandwidth):
@@ -118,6 +121,23 @@ def ends_so(reason, penalty, lam, lam_max, n_iter, limit, improvements, converge
     }[reason]
 
 
+def number(word):
+    return struct.unpack(">d", bytes.fromhex(word))[0]
+
+
+def digits(x):
+    return "7ff8000000000000" if math.isnan(x) else struct.pack(">d", x).hex()
+
+
+def bends(y, trend, order):
+    """The places at which a trend bends: where the size of its difference is above the threshold."""
+    d_y, d_trend = y, trend
+    for _ in range(order):
+        d_y, d_trend = [[b - a for a, b in zip(x, x[1:])] for x in (d_y, d_trend)]
+    threshold = max(1e-6 * max(map(abs, d_y)), 1e-12 * max(map(abs, y)))
+    return [i for i, d in enumerate(d_trend) if abs(d) > threshold]
+
+
 def fault(data, run):
     """What is wrong with a run, or None."""
     if run.returncode != 0 or run.stderr:
@@ -125,32 +145,39 @@ def fault(data, run):
     want = expected(data)
     if isinstance(want, int):
         return None if run.stdout == b"refused %d\n" % want else f"refused {want} is right"
-    n, order, penalty, lam, limit = want
+    series, order, penalty, lam, limit = want
+    positions, y = zip(*series)
     m = FIT.fullmatch(run.stdout.decode("ascii", "replace"))
     if not m:
         return "neither a listing nor a refusal"
     head = [int(m.group(i)) for i in range(1, 8)]
     n_iter, improvements, converged, reason = head[3:]
-    lam_max = struct.unpack(">d", bytes.fromhex(m.group(8)))[0]
-    if head[:3] != [n, order, penalty]:
+    lam_max = number(m.group(8))
+    if head[:3] != [len(series), order, penalty]:
         return "another n, order or penalty"
     if n_iter > limit or n_iter > 10 * improvements + 10:
         return "more steps than allowed"
     if not ends_so(reason, penalty, lam, lam_max, n_iter, limit, improvements, converged):
         return f"reason {reason} does not go with the other fields"
-    if [int(line.split()[1]) for line in m.group(9).splitlines()] != list(range(n)):
-        return "the hours are not numbered from 0"
-    knots = [int(line.split()[1]) for line in m.group(10).splitlines()]
-    if knots != sorted(set(knots)) or any(k >= n - order for k in knots):
-        return "the knots do not rise within the series"
+    lines = [line.split()[1:] for line in m.group(9).splitlines()]
+    if [int(p) for p, _, _ in lines] != list(positions):
+        return "the hours do not have their positions"
+    trend = [number(t) for _, t, _ in lines]
+    if [c for _, _, c in lines] != [digits(a - b) for a, b in zip(y, trend)]:
+        return "a cycle is not what the trend leaves of its hour"
+    if [int(line.split()[1]) for line in m.group(10).splitlines()] != [positions[i] for i in bends(y, trend, order)]:
+        return "the knots do not have the positions of the places at which the trend bends"
     return None
 
 
 # ---- inputs
 
-def bits(r):
-    """Eight bytes of a double: mostly sensible, else an edge or any pattern."""
-    kind = r.random()
+SILENT = struct.pack("<HH", 2, 2)
+
+
+def bits(r, right):
+    """Eight bytes of a double: a sensible one if it has to be right; else mostly, or an edge, or any pattern."""
+    kind = 0 if right else r.random()
     if kind < 0.6:
         return struct.pack("<d", 10 ** r.uniform(-9, 7))
     if kind < 0.75:
@@ -161,21 +188,39 @@ def bits(r):
 
 
 def settings(r):
-    limit = r.choice([0, 1, 2, 20, 60, 100, 2 ** 32, 2 ** 64 - 1, r.getrandbits(64)])
-    small = lambda: r.choice([1, 2, 1, 2, 1, 2, 0, 3, r.getrandbits(8)])
-    return struct.pack("<HH", 28, 3) + bits(r) + bits(r) + struct.pack("<QBB", limit, small(), small())
+    """Settings, in half of the inputs such as no question refuses."""
+    right = r.random() < 0.5
+    limit = r.choice([1 if right else 0, 1, 2, 20, 60, 100, 2 ** 32, 2 ** 64 - 1, r.getrandbits(64)])
+    small = lambda: r.choice([1, 2] if right else [1, 2, 1, 2, 1, 2, 0, 3, r.getrandbits(8)])
+    return struct.pack("<HH", 28, 3) + bits(r, right) + bits(r, right) + struct.pack("<QBB", limit, small(), small())
 
 
 def hours(r):
     n = r.choice([0, 1, 2, 3, r.randrange(4, 40), r.randrange(100, 169), 168, 169])
-    level, out = r.randrange(-8000, 8000), []
-    for _ in range(n):
+    level, out, changes = r.randrange(-8000, 8000), [], []
+    for i in range(n):
         if r.random() < 0.03:
             level = r.choice([r.randrange(-8000, 8000), r.randrange(-2 ** 31, 2 ** 31), 2 ** 31 - 1, -2 ** 31])
-        if r.random() < 0.05:
-            out.append(struct.pack("<HH", 2, 2))
+            changes.append(i)
         out.append(struct.pack("<HHi", 6, 1, max(-2 ** 31, min(2 ** 31 - 1, level + r.randrange(-300, 300)))))
-    return out
+    return [SILENT * s + hour for s, hour in zip(silences(r, n, changes), [*out, b""])]
+
+
+def silences(r, n, changes):
+    """How many silent hours stand before each of n hours and after the last: none, single ones, or a few runs."""
+    kind, silent = r.random(), [0] * (n + 1)
+    if 0.3 <= kind < 0.5:
+        often = r.choice([0.05, 0.5])
+        silent = [int(r.random() < often) for _ in silent]
+    elif 0.5 <= kind:
+        room = max(0, 1016 - 2 * n)  # 4,096 bytes have room for so many beside the settings and n hours
+        near = [c + side for c in changes for side in (0, 1)]  # before the hour at which the level changes, and after it
+        for _ in range(r.choice([1, 2, 4])):
+            run = min(room, r.choice([1, 2, r.randrange(1, 13), r.randrange(1, 400), room]))
+            silent[r.choice([0, n, r.randrange(n + 1), *r.sample(near, min(2, len(near)))])] += run
+            room -= run
+        silent[-1] += r.random() < 0.02  # one too many, where there was no room left
+    return silent
 
 
 def mutated(r, data):
@@ -193,7 +238,7 @@ def mutated(r, data):
         elif way == 4:
             data += settings(r)
         elif way == 5:
-            data += struct.pack("<HH", 2, 2) * r.choice([1, 10, 1100])
+            data += SILENT * r.choice([1, 10, 1100])
         elif at < len(data):
             data[at] = r.getrandbits(8)
     return bytes(data)
@@ -229,7 +274,7 @@ def main():
             if what:
                 wrong += 1
                 print(f"input {seed}: {what}")
-    print(f"{count - wrong} of {count} inputs: a listing or a refusal, as document 01 has it")
+    print(f"{count - wrong} of {count} inputs: a listing or a refusal, as documents 01 and 02 have it")
     sys.exit(1 if wrong else 0)
 
 
