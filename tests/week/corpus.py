@@ -4,15 +4,16 @@
 With --no-reason the listings of DIR are from before A11 of document 02, when the first line ended with converged: the reason, a
 number from 0 to 4 that must stand there, is left out of what the program prints. With --places they are from before A1, when an
 hour had its place in the series, silent hours left out: each such number becomes that hour's position among the records of
-kinds 1 and 2, counted here from NAME.in. Refusals are compared as they are.
+kinds 1 and 2, counted from NAME.in. Refusals are compared as they are.
 PROGRAM is target/bin/weektrend unless it is given. The last line counts; the exit status is 0 only if all agree.
 """
 import os
 import pathlib
 import re
-import struct
 import subprocess
 import sys
+
+import fuzz
 
 
 def without_reason(listing):
@@ -21,21 +22,9 @@ def without_reason(listing):
     return shorter if found or not listing.startswith(b"fit") else b""
 
 
-def positions(data):
-    """How many records of kinds 1 and 2 stand before each record of kind 1."""
-    found, before, at = [], 0, 0
-    while at + 4 <= len(data):
-        length, kind = struct.unpack_from("<HH", data, at)
-        if kind == 1:
-            found.append(before)
-        before += kind in (1, 2)
-        at += 2 + length
-    return found
-
-
 def renumbered(listing, data):
     """A listing of places with the position of each; a place that the input hasn't gets none, which no program prints."""
-    position = {b"%d" % place: b"%d" % p for place, p in enumerate(positions(data))}
+    position = {b"%d" % place: b"%d" % p for place, (p, _) in enumerate(fuzz.series_of(fuzz.split(data) or []))}
     return re.sub(rb"(?m)^(h|knot) (\w+)", lambda line: line[1] + b" " + position.get(line[2], b"none"), listing)
 
 

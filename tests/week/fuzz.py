@@ -40,18 +40,24 @@ def split(data):
     return records
 
 
+def series_of(records):
+    """The (position, milliseconds) of each place of the series: how many records of kinds 1 and 2 stand before its own, and its body."""
+    slots = [(k, body) for k, body in records if k in (1, 2)]
+    return [(p, float(struct.unpack("<i", body)[0])) for p, (k, body) in enumerate(slots) if k == 1]
+
+
 def expected(data):
-    """A refusal's number, or (series, order, penalty, lam, max_iter) that reach the fit; a series is the (position, milliseconds) of each place."""
+    """A refusal's number, or what reaches the fit: the series and (lam, tol, max_iter, order, penalty)."""
     records = split(data) if len(data) <= 4096 else None
     if records is None:
         return 11
     if not records or records[0][0] != 3 or any(k == 3 for k, _ in records[1:]):
         return 12
-    series = [(p, float(struct.unpack("<i", body)[0])) for p, (k, body) in enumerate(records[1:]) if k == 1]
+    series = series_of(records)
     n = len(series)
     if n > 168:
         return 13
-    lam, tol, limit, order, penalty = struct.unpack("<ddQBB", records[0][1])
+    settings = lam, tol, limit, order, penalty = struct.unpack("<ddQBB", records[0][1])
     if order not in (1, 2) or penalty not in (1, 2):
         return 1
     if n < order + 1:
@@ -64,7 +70,7 @@ def expected(data):
         return 7
     if not (sound_dd(order, n - order) and (penalty == 1 or sound_l2(order, n, lam))):
         return 10
-    return series, order, penalty, lam, limit
+    return series, settings
 
 
 def sound(a, bandwidth):
@@ -145,7 +151,7 @@ def fault(data, run):
     want = expected(data)
     if isinstance(want, int):
         return None if run.stdout == b"refused %d\n" % want else f"refused {want} is right"
-    series, order, penalty, lam, limit = want
+    series, (lam, _, limit, order, penalty) = want
     positions, y = zip(*series)
     m = FIT.fullmatch(run.stdout.decode("ascii", "replace"))
     if not m:

@@ -44,8 +44,9 @@ def main():
             data = fuzz.made(seed)
             want = fuzz.expected(data)
             if not isinstance(want, int):
-                weeks[seed] = data, [p for p, _ in want[0]]
-                (folder / f"{seed}.case").write_bytes(case(want[0], struct.unpack("<ddQBB", fuzz.split(data)[0][1])))
+                series, settings = want
+                weeks[seed] = data, [p for p, _ in series]
+                (folder / f"{seed}.case").write_bytes(case(series, settings))
         subprocess.run([sys.argv[3], "answers", folder], check=True, stdout=subprocess.DEVNULL)
         wrong = 0
         for seed, (data, positions) in weeks.items():
