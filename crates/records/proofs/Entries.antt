@@ -121,11 +121,11 @@ pub says-count : {k n : ℕ} {b : List ℕ} {e : Entry} → Says k n b e → cou
 unfolding countSettings
 says-count = by-says (λ e. countSettings (e ∷ [])) (λ k. cond (eqb k 3) 1 0) (λ x. refl) refl (λ st. refl)
 
-says-slots : {k n : ℕ} {b : List ℕ} {e : Entry} → Says k n b e → length (slotsOf (e ∷ [])) ≡ slotsAt k
+pub says-slots : {k n : ℕ} {b : List ℕ} {e : Entry} → Says k n b e → length (slotsOf (e ∷ [])) ≡ slotsAt k
 unfolding slotsOf
 says-slots = by-says (λ e. length (slotsOf (e ∷ []))) slotsAt (λ x. refl) refl (λ st. refl)
 
-says-positions : {k n : ℕ} {b : List ℕ} {e : Entry} (p : ℕ) → Says k n b e → positionsFrom p (slotsOf (e ∷ [])) ≡ positionAt k p
+pub says-positions : {k n : ℕ} {b : List ℕ} {e : Entry} (p : ℕ) → Says k n b e → positionsFrom p (slotsOf (e ∷ [])) ≡ positionAt k p
 unfolding positionsFrom slotsOf
 says-positions p = by-says (λ e. positionsFrom p (slotsOf (e ∷ []))) (λ k. positionAt k p) (λ x. refl) refl (λ st. refl)
 
@@ -155,12 +155,6 @@ no-settings (setup k n e) h = absurd (h k)
 module _ {s : List ℕ} {at k b n : ℕ} (f : Found s at k b n) where
   pub found-hours : hoursIn (f .entry ∷ []) ≡ hourAt s k b
   found-hours = says-hours s k (n - b) b (f .entry) (f .says)
-
-  pub found-positions : (p : ℕ) → positionsFrom p (slotsOf (f .entry ∷ [])) ≡ positionAt k p
-  found-positions p = says-positions p (f .says)
-
-  pub found-slots : length (slotsOf (f .entry ∷ [])) ≡ slotsAt k
-  found-slots = says-slots (f .says)
 
   pub hour-inside : k ≡ 1 → b + 4 ≤ length s
   hour-inside h = omega (arith, hour-size (f .says) h, f .inside)

@@ -15,7 +15,7 @@ use Rattle.records.specs.Entries.{Slot, silent, sounding, Entry, slot, s
 use Rattle.records.specs.Week.{entriesIn}
 use Rattle.records.specs.Positions.{positionsFrom}
 use Rattle.records.specs.Inner.{hoursIn, positionsIn, hourAt, positionAt, slotsAt, WroteHours, Found, Room}
-use Rattle.records.proofs.Entries.{says-count, found-hours, found-positions, found-slots}
+use Rattle.records.proofs.Entries.{says-count, says-slots, says-positions, found-hours}
 
 -- P, and then what is still to come
 abbrev onto : List Entry → Option (List Entry) → Option (List Entry)
@@ -137,12 +137,12 @@ module _ {s : List ℕ} {at : ℕ} {y₀ y : List Float} {q₀ q : List ℕ} {m 
   filled-more {z} {u} {n} {k} {b} {next} {r} f v e =
       let one = f .entry ∷ [] in
       let hs : hoursIn (w .done ++ one) ≡ hoursIn (w .done) ++ hourAt s k b = hours-append (w .done) one ∙ ap (λ (t : List Float). hoursIn (w .done) ++ t) (found-hours f) in
-      let ps : positionsIn (w .done ++ one) ≡ positionsIn (w .done) ++ positionAt k p = positions-append (w .done) one ∙ ap (λ (t : List ℕ). positionsIn (w .done) ++ t) (found-positions f _ ∙ ap (positionAt k) (sym (w .slots))) in
+      let ps : positionsIn (w .done ++ one) ≡ positionsIn (w .done) ++ positionAt k p = positions-append (w .done) one ∙ ap (λ (t : List ℕ). positionsIn (w .done) ++ t) (says-positions _ (f .says) ∙ ap (positionAt k) (sym (w .slots))) in
       record {
         done = w .done ++ one;
         passed = passed-more (w .passed) f;
         wrote = rw (hs, ps) (record { hours = wrote-then (w .wrote .hours) (v .hours); positions = wrote-then (w .wrote .positions) (v .positions) });
-        slots = omega (arith, w .slots, e .0, found-slots f, ap length (slots-append (w .done) one), length-append (slotsOf (w .done)) (slotsOf one));
+        slots = omega (arith, w .slots, e .0, says-slots (f .says), ap length (slots-append (w .done) one), length-append (slotsOf (w .done)) (slotsOf one));
         inside = f .inside;
         few = omega (arith, w .few, e .1, f .body, f .more);
       }

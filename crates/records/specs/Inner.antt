@@ -12,7 +12,7 @@ use Rattle.vectors.specs.Parts.{Wrote}
 use Rattle.framing.specs.Bytes.{numberAt, signed32}
 use Rattle.framing.specs.declared.Head.{Head}
 use Rattle.framing.specs.declared.Head.the-variants.{End, Bad, Record}
-use Rattle.records.specs.Entries.{Entry, slot, settings, silent, sounding, millisecondsIn, settingsIn, slotsOf, countSettings, hoursOf}
+use Rattle.records.specs.Entries.{Slot, Entry, slot, settings, silent, sounding, millisecondsIn, settingsIn, slotsOf, countSettings, hoursOf}
 use Rattle.records.specs.Week.{Reading, unread, read, entriesIn}
 use Rattle.records.specs.Positions.{positionsOf}
 use Rattle.records.specs.declared.Tally.{Tally}
@@ -27,19 +27,15 @@ abbrev pub answer : Reading → Week
 answer (unread k) = Refused k
 answer (read st ws) = Read st (length (hoursOf ws))
 
--- what stands in the lent slices then: after a refusal what they held, else the series and its positions in their first places
-abbrev pub series : Reading → List Float → List Float
-series (unread k) y = y
-series (read st ws) y = put y 0 (hoursOf ws)
-
-abbrev pub positions : Reading → List ℕ → List ℕ
-positions (unread k) q = q
-positions (read st ws) q = put q 0 (positionsOf ws)
+-- what stands in a lent slice then: after a refusal what it held, else what f gives of the week, in its first places
+abbrev pub lentWith : {A : Type 0} → (List Slot → List A) → Reading → List A → List A
+lentWith f (unread k) y = y
+lentWith f (read st ws) y = put y 0 (f ws)
 
 pub record Reads (a : Reading) (r : Week) (y₀ y : List Float) (q₀ q : List ℕ) : Type 0 where
   pub said : r ≡ answer a
-  pub wrote : y ≡ series a y₀
-  pub numbered : q ≡ positions a q₀
+  pub wrote : y ≡ lentWith hoursOf a y₀
+  pub numbered : q ≡ lentWith positionsOf a q₀
 
 -- the hours of entries, their positions, and their counts
 abbrev pub hoursIn : List Entry → List Float

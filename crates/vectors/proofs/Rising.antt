@@ -42,7 +42,7 @@ module _ (n : ℕ) (l : List ℕ) where
 abbrev picked : List ℕ → List ℕ → List ℕ
 picked ps ks = map (λ (k : ℕ). getD ps k 0) ks
 
-pub getD-picked : (ps ks : List ℕ) (i : ℕ) → i < length ks → getD (picked ps ks) i 0 ≡ getD ps (getD ks i 0) 0
+getD-picked : (ps ks : List ℕ) (i : ℕ) → i < length ks → getD (picked ps ks) i 0 ≡ getD ps (getD ks i 0) 0
 getD-picked ps [] i h = absurd (omega arith)
 getD-picked ps (k ∷ ks) zero h = refl
 getD-picked ps (k ∷ ks) (suc i) h = getD-picked ps ks i (omega arith)

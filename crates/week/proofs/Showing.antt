@@ -76,13 +76,11 @@ front t s n e = take-at t (drop (0 + length t) s) n e
 -- t stands in the first n places of z
 pub record Front {A : Type 0} (n : ℕ) (z t : List A) : Type 0 where
   pub is : take n z ≡ t
-  pub size : n ≡ length t
   pub room : n ≤ length z
 
 fronted : {A : Type 0} {n : ℕ} {z : List A} (y t : List A) → z ≡ put y 0 t → n ≡ length t → Front n z t
 fronted {A} {n} {z} y t p e = record {
   is = ap (take n) p ∙ front t y n (sym e);
-  size = e;
   room = omega (arith, ap length p, length-append t (drop (0 + length t) y));
 }
 

@@ -1,9 +1,9 @@
 use native.Mathlib.Omega.{arith}
 use borrow.Author.Needs.{needs}
-use mathlib.Core.Path.{sym, ap, _∙_}
+use mathlib.Core.Path.{sym, _∙_}
 use Prim.Native.Nat.{ℕ}
 use mathlib.Core.List.{List}
-use lib.ListN.{length}
+use lib.Seq.{length-take-le}
 use denote.Ref.{now}
 use Rattle.records.specs.Week.{readWeek}
 use Rattle.week.proofs.Showing.{Taken, taken-week, text-refused, text-taken, wrote-counts}
@@ -22,15 +22,13 @@ array-share-prefix-y : tie.Need-array-share-prefix-y
 array-share-prefix-y c = week c .hours .room
 
 slice-aggregate-fit-week : tie.Need-slice-aggregate-fit-week
-slice-aggregate-fit-week c = let w = week (c .before) .hours in
-    w .size ∙ ap length (sym (w .is))
+slice-aggregate-fit-week c = sym (length-take-le _ _ (week (c .before) .hours .room))
 
 array-share-prefix-positions : tie.Need-array-share-prefix-positions
 array-share-prefix-positions c = week (c .before) .positions .room
 
 slice-aggregate-fit-week-2 : tie.Need-slice-aggregate-fit-week-2
-slice-aggregate-fit-week-2 c = let w = week (c .before .before) .positions in
-    w .size ∙ ap length (sym (w .is))
+slice-aggregate-fit-week-2 c = sym (length-take-le _ _ (week (c .before .before) .positions .room))
 
 fit-week-requires : tie.Need-fit-week-requires
 fit-week-requires c κs = let q = c .before in
