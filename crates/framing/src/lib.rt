@@ -36,7 +36,7 @@ pub fn one(s: &[u8], at: usize) -> u32
     small(s[at])
 }
 
-fn two(s: &[u8], at: usize) -> u64
+pub fn two(s: &[u8], at: usize) -> u64
     requires { ⌜ at + 2 ≤ length (now s) ⌝ }
     ensures { λ r. ⌜ (r ≡ numberAt at 2 (now (s .entry))) × (r < 65536) ⌝ }
 {

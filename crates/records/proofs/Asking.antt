@@ -1,42 +1,42 @@
--- Which case of `readWeek` holds, from the tests of `read_week`. Assumes nothing.
+-- Which case of `readWeek` holds, from what is asked of the entries. Assumes nothing.
 use mathlib.Core.Path.{_≡_, refl, sym, ap, _∙_}
+use mathlib.Core.Bool.{true, false}
 use Prim.Native.Nat.{ℕ, suc, _≤_, _<_}
 use native.Mathlib.Omega.{arith}
 use mathlib.Core.List.{List, [], _∷_}
 use mathlib.Core.Option.{Option, none, some}
 use lib.ListN.{length}
-use lib.Ieee.{Float}
-use borrow.Author.Tests.{lt-ltb, le-ltb, le-leb, lt-leb, eq-eqb, ne-eqb}
+use borrow.Author.Tests.{lt-ltb, le-ltb, eq-eqb, ne-eqb}
 use Rattle.float64.proofs.Clash.{impossible}
-use Rattle.records.specs.Entries.{Entry, slot, settings, slotsOf, countSettings}
-use Rattle.records.specs.Week.{unread, read, entriesIn, askEntries, readWeek}
-use Rattle.records.specs.Inner.{answer, Reads, hoursIn, positionsIn, tallyOf, openingOf, WroteHours}
+use Rattle.records.specs.Entries.{Entry, slot, settings, correction, countSettings}
+use Rattle.records.specs.Corrections.{extended, weekOf, names, namedFrom, named}
+use Rattle.records.specs.Week.{unread, entriesIn, askHours, askEntries, readWeek}
+use Rattle.records.specs.Inner.{tallyOf, openingOf}
 use Rattle.records.specs.declared.Settings.{Settings}
 use Rattle.records.specs.declared.Tally.the-variants.{Broken, Whole}
 use Rattle.records.specs.declared.Opening.the-variants.{Other, Set}
-use Rattle.records.specs.declared.Week.the-variants.{Read}
 
 -- what a walk's answer says of the entries
-pub record Walked (o : Option (List Entry)) (m n : ℕ) : Type 0 where
+pub record Walked (o : Option (List Entry)) (m : ℕ) : Type 0 where
   pub entries : List Entry
   pub splits : o ≡ some entries
   pub settings : m ≡ countSettings entries
-  pub hours : n ≡ length (hoursIn entries)
 
-pub walked : (o : Option (List Entry)) {m n : ℕ} → Whole m n ≡ tallyOf o → Walked o m n
+pub walked : (o : Option (List Entry)) {m : ℕ} → Whole m ≡ tallyOf o → Walked o m
 walked none e = impossible cc
-walked (some es) e = record { entries = es; splits = refl; settings = cc; hours = cc }
+walked (some es) e = record { entries = es; splits = refl; settings = cc }
 
 pub broken : (o : Option (List Entry)) → Broken ≡ tallyOf o → o ≡ none
 broken none e = refl
 broken (some es) e = impossible cc
 
--- questions 12 and 13, by what comes first and the counts over all entries
+-- questions 12 and 17, by what comes first and the answers over all entries
 ask-other : (es : List Entry) → Other ≡ openingOf es → askEntries (some es) ≡ unread 12
 unfolding askEntries
 ask-other [] e = refl
 ask-other (slot w ∷ es) e = refl
 ask-other (settings st ∷ es) e = impossible cc
+ask-other (correction p x ∷ es) e = refl
 
 -- settings and then others
 module _ {st : Settings} where
@@ -44,6 +44,7 @@ module _ {st : Settings} where
   first [] e = impossible cc
   first (slot w ∷ es) e = impossible cc
   first (settings sd ∷ es) e = (es, ap (λ (x : Settings). settings x ∷ es) (let f : sd ≡ st = cc in f))
+  first (correction p x ∷ es) e = impossible cc
 
 module _ (st : Settings) (t : List Entry) where
   ask-settings : (countSettings (settings st ∷ t) ≡ 1 → ⊥) → askEntries (some (settings st ∷ t)) ≡ unread 12
@@ -51,13 +52,13 @@ module _ (st : Settings) (t : List Entry) where
   ask-settings n = simp (ne-eqb (countSettings t) 0 (λ (z : countSettings t ≡ 0). n (ap suc z)))
 
   module _ (c : countSettings (settings st ∷ t) ≡ 1) where
-    ask-hours : 168 < length (hoursIn (settings st ∷ t)) → askEntries (some (settings st ∷ t)) ≡ unread 13
-    unfolding askEntries countSettings slotsOf
-    ask-hours l = simp (eq-eqb (countSettings t) 0 (omega (arith, c)), lt-leb _ _ l)
+    ask-unnamed : named (settings st ∷ t) ≡ false → askEntries (some (settings st ∷ t)) ≡ unread 17
+    unfolding askEntries countSettings extended names namedFrom
+    ask-unnamed n = rw (eq-eqb (countSettings t) 0 (omega (arith, c)), n)
 
-    ask-taken : length (hoursIn (settings st ∷ t)) ≤ 168 → askEntries (some (settings st ∷ t)) ≡ read st (slotsOf (settings st ∷ t))
-    unfolding askEntries countSettings slotsOf
-    ask-taken l = simp (eq-eqb (countSettings t) 0 (omega (arith, c)), le-leb _ _ l)
+    ask-named : named (settings st ∷ t) ≡ true → askEntries (some (settings st ∷ t)) ≡ askHours st (weekOf (settings st ∷ t))
+    unfolding askEntries countSettings extended names namedFrom
+    ask-named n = rw (eq-eqb (countSettings t) 0 (omega (arith, c)), n)
 
 pub week-long : (s : List ℕ) → 4096 < length s → readWeek s ≡ unread 11
 unfolding readWeek
@@ -81,17 +82,8 @@ module _ (s : List ℕ) (h : length s ≤ 4096) where
       week-settings c = let g = first es f in asked ∙ ap askEntries (e ∙ ap some (g .1)) ∙ ask-settings st (g .0) (λ z. c (ap countSettings (g .1) ∙ z))
 
       module _ (c : countSettings es ≡ 1) where
-        pub week-hours : 168 < length (hoursIn es) → readWeek s ≡ unread 13
-        week-hours l = let g = first es f in asked ∙ ap askEntries (e ∙ ap some (g .1)) ∙ ask-hours st (g .0) (rw (g .1) at c) (rw (g .1) at l)
+        pub week-unnamed : named es ≡ false → readWeek s ≡ unread 17
+        week-unnamed n = let g = first es f in asked ∙ ap askEntries (e ∙ ap some (g .1)) ∙ ask-unnamed st (g .0) (rw (g .1) at c) (rw (g .1) at n)
 
-        pub week-taken : length (hoursIn es) ≤ 168 → readWeek s ≡ read st (slotsOf es)
-        week-taken l = let g = first es f in asked ∙ ap askEntries (e ∙ ap some (g .1)) ∙ ask-taken st (g .0) (rw (g .1) at c) (rw (g .1) at l) ∙ ap (λ (x : List Entry). read st (slotsOf x)) (sym (g .1))
-
--- a refusal, as the contract has it, and a week that is taken
-pub refuses : (s : List ℕ) {k : ℕ} {y : List Float} {q : List ℕ} → readWeek s ≡ unread k → Reads (readWeek s) (answer (unread k)) y y q q
-refuses s {k} {y} e = rw e (record { said = refl; wrote = refl; numbered = refl })
-
-pub takes : (s : List ℕ) (es : List Entry) {st : Settings} {y z : List Float} {q u : List ℕ} {n : ℕ} → readWeek s ≡ read st (slotsOf es) → WroteHours (hoursIn es) (positionsIn es) 0 y z q u n → Reads (readWeek s) (Read st n) y z q u
-takes s es {st} {y} {z} {q} {u} {n} e w =
-    let m : n ≡ length (hoursIn es) = omega (arith, w .hours .next) in
-    rw e (record { said = ap (Read st) m; wrote = w .hours .text; numbered = w .positions .text })
+        pub week-named : named es ≡ true → readWeek s ≡ askHours st (weekOf es)
+        week-named n = let g = first es f in asked ∙ ap askEntries (e ∙ ap some (g .1)) ∙ ask-named st (g .0) (rw (g .1) at c) (rw (g .1) at n) ∙ ap (λ (x : List Entry). askHours st (weekOf x)) (sym (g .1))

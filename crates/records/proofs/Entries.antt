@@ -5,68 +5,70 @@ use Prim.Native.Nat.{ℕ, _+_, _-_, _≤_}
 use native.Mathlib.Omega.{arith}
 use native.Mathlib.Nat.{add-zero}
 use mathlib.Core.List.{List, [], _∷_}
-use mathlib.Core.Option.{Option, none, some, Option·map}
+use mathlib.Core.Option.{Option, none, some, Option·map, bind}
 use lib.ListN.{length, take, drop, length-drop}
 use lib.Seq.{length-take-le}
 use lib.Dec.{eqb}
-use lib.Ieee.{Float, binary64, ofBits, ofInt}
+use lib.Ieee.{binary64, ofBits}
 use borrow.Author.Tests.{eqb-true}
+use mir.Val.{boolByte}
 use Rattle.float64.proofs.Clash.{clash, impossible}
-use Rattle.framing.specs.Bytes.{numberAt, signed32}
+use Rattle.framing.specs.Bytes.{numberAt}
 use Rattle.framing.specs.Frames.{Rec, rec, records}
 use Rattle.framing.specs.Places.{headAt}
 use Rattle.framing.specs.declared.Head.the-variants.{End, Bad, Record}
 use Rattle.framing.proofs.Numbers.{number-of-part}
 use Rattle.framing.proofs.Heads.{Opens, Heads, heads}
-use Rattle.records.specs.Entries.{Entry, slot, settings, silent, sounding, millisecondsIn, settingsIn, entryOf, both, entries, slotsOf, countSettings, hoursOf}
-use Rattle.records.specs.Week.{saidBy, entriesIn}
-use Rattle.records.specs.Positions.{positionsFrom}
+use Rattle.records.specs.Entries.{Entry, slot, settings, correction, settingsIn, sized, entryOf, both, entries, countSettings}
+use Rattle.records.specs.Week.{entriesIn}
 use Rattle.records.specs.declared.Settings.{Settings}
 use Rattle.records.specs.declared.Opening.the-variants.{Other, Set}
-use Rattle.records.specs.Inner.{known, hoursIn, openingOf, hourAt, positionAt, slotsAt, Says, hour, quiet, setup, Found}
+use Rattle.records.specs.Inner.{known, openingOf, Says, hour, quiet, setup, repair, Found}
 
--- an entry and the record that says it
-record Entered (k n : ℕ) (b : List ℕ) : Type 0 where
+-- an entry that a record of kind k says, whose body b has n bytes
+record Entered (k n : ℕ) (b : List ℕ) (o : Option Entry) : Type 0 where
   entry : Entry
-  read : entryOf (rec k b) ≡ some entry
+  is : o ≡ some entry
   says : Says k n b entry
 
-by-kind : (k n : ℕ) (b : List ℕ) (t₁ t₂ t₃ u₁ u₂ u₃ : Bool) → eqb k 1 ≡ t₁ → eqb k 2 ≡ t₂ → eqb k 3 ≡ t₃ → eqb n 4 ≡ u₁ → eqb n 0 ≡ u₂ → eqb n 26 ≡ u₃ → length b ≡ n
-    → cond t₁ u₁ (cond t₂ u₂ (cond t₃ u₃ false)) ≡ true → Entered k n b
-unfolding entryOf
-by-kind k n b true t₂ t₃ true u₂ u₃ e₁ e₂ e₃ f₁ f₂ f₃ l h = record { entry = slot (sounding (millisecondsIn b)); read = rw (e₁, l, f₁); says = hour (eqb-true _ _ e₁) (eqb-true _ _ f₁) refl }
-by-kind k n b false true t₃ u₁ true u₃ e₁ e₂ e₃ f₁ f₂ f₃ l h = record { entry = slot silent; read = rw (e₁, e₂, l, f₂); says = quiet (eqb-true _ _ e₂) (eqb-true _ _ f₂) refl }
-by-kind k n b false false true u₁ u₂ true e₁ e₂ e₃ f₁ f₂ f₃ l h = record { entry = settings (settingsIn b); read = rw (e₁, e₂, e₃, l, f₃); says = setup (eqb-true _ _ e₃) (eqb-true _ _ f₃) refl }
-by-kind k n b true t₂ t₃ false u₂ u₃ e₁ e₂ e₃ f₁ f₂ f₃ l h = absurd (clash h refl)
-by-kind k n b false true t₃ u₁ false u₃ e₁ e₂ e₃ f₁ f₂ f₃ l h = absurd (clash h refl)
-by-kind k n b false false true u₁ u₂ false e₁ e₂ e₃ f₁ f₂ f₃ l h = absurd (clash h refl)
-by-kind k n b false false false u₁ u₂ u₃ e₁ e₂ e₃ f₁ f₂ f₃ l h = absurd (clash h refl)
+-- whether there is one is v
+record Told (k n : ℕ) (b : List ℕ) (o : Option Entry) (v : Bool) : Type 0 where
+  yes : v ≡ true → Entered k n b o
+  no : v ≡ false → o ≡ none
 
-by-none : (k n : ℕ) (b : List ℕ) (t₁ t₂ t₃ u₁ u₂ u₃ : Bool) → eqb k 1 ≡ t₁ → eqb k 2 ≡ t₂ → eqb k 3 ≡ t₃ → eqb n 4 ≡ u₁ → eqb n 0 ≡ u₂ → eqb n 26 ≡ u₃ → length b ≡ n
-    → cond t₁ u₁ (cond t₂ u₂ (cond t₃ u₃ false)) ≡ false → entryOf (rec k b) ≡ none
-unfolding entryOf
-by-none k n b true t₂ t₃ false u₂ u₃ e₁ e₂ e₃ f₁ f₂ f₃ l h = rw (e₁, l, f₁)
-by-none k n b false true t₃ u₁ false u₃ e₁ e₂ e₃ f₁ f₂ f₃ l h = rw (e₁, e₂, l, f₂)
-by-none k n b false false true u₁ u₂ false e₁ e₂ e₃ f₁ f₂ f₃ l h = rw (e₁, e₂, e₃, l, f₃)
-by-none k n b false false false u₁ u₂ u₃ e₁ e₂ e₃ f₁ f₂ f₃ l h = rw (e₁, e₂, e₃)
-by-none k n b true t₂ t₃ true u₂ u₃ e₁ e₂ e₃ f₁ f₂ f₃ l h = absurd (clash refl h)
-by-none k n b false true t₃ u₁ true u₃ e₁ e₂ e₃ f₁ f₂ f₃ l h = absurd (clash refl h)
-by-none k n b false false true u₁ u₂ true e₁ e₂ e₃ f₁ f₂ f₃ l h = absurd (clash refl h)
+module _ (k : ℕ) (b : List ℕ) where
+  -- kind j, with bodies of m bytes, before other kinds
+  by-kind : (j m : ℕ) (e : Entry) {o : Option Entry} {v : Bool} → (k ≡ j → length b ≡ m → Says k (length b) b e) → Told k (length b) b o v → Told k (length b) b (cond (eqb k j) (sized m b e) o) (cond (eqb k j) (eqb (length b) m) v)
+  by-kind j m e {o} {v} says others = go (eqb k j) (eqb (length b) m) refl refl
+    where
+      go : (t u : Bool) → eqb k j ≡ t → eqb (length b) m ≡ u → Told k (length b) b (cond t (cond u (some e) none) o) (cond t u v)
+      go true true g f = record { yes = λ h. record { entry = e; is = refl; says = says (eqb-true _ _ g) (eqb-true _ _ f) }; no = λ h. absurd (clash refl h) }
+      go true false g f = record { yes = λ h. absurd (clash h refl); no = λ h. refl }
+      go false u g f = others
 
--- what a record says, by its kind
-pub entry-says : (k : ℕ) (b : List ℕ) (e : Entry) → entryOf (rec k b) ≡ some e → Says k (length b) b e
-entry-says k b e h = go (known k (length b)) refl
-  where
-    go : (t : Bool) → known k (length b) ≡ t → Says k (length b) b e
-    go true g =
-        let w = by-kind k (length b) b _ _ _ _ _ _ refl refl refl refl refl refl refl g in
-        let i : w .entry ≡ e = cc (w .read) in
-        rw i at (w .says)
-    go false g = impossible (cc (by-none k (length b) b _ _ _ _ _ _ refl refl refl refl refl refl refl g))
+  told : Told k (length b) b (entryOf (rec k b)) (known k (length b))
+  unfolding entryOf
+  told =
+      by-kind 1 4 _ (λ g f. hour g f refl)
+      (by-kind 2 0 _ (λ g f. quiet g f refl)
+      (by-kind 3 26 _ (λ g f. setup g f refl)
+      (by-kind 4 6 _ (λ g f. repair g f refl)
+      (record { yes = λ h. absurd (clash h refl); no = λ h. refl }))))
+
+  -- what a record says, by its kind
+  pub entry-says : (e : Entry) → entryOf (rec k b) ≡ some e → Says k (length b) b e
+  entry-says e h = go (known k (length b)) refl
+    where
+      go : (v : Bool) → known k (length b) ≡ v → Says k (length b) b e
+      go true g =
+          let w = told .yes g in
+          let i : w .entry ≡ e = cc (w .is) in
+          rw i at (w .says)
+      go false g = impossible (cc (told .no g))
 
 -- a record and then others, said
-said-first : (r : Rec) (o : Option (List Rec)) → saidBy (Option·map (λ (rs : List Rec). r ∷ rs) o) ≡ both (entryOf r) (saidBy o)
-unfolding entries
+said-first : (r : Rec) (o : Option (List Rec)) → bind (Option·map (λ (rs : List Rec). r ∷ rs) o) entries ≡ both (entryOf r) (bind o entries)
+unfolding entries bind
 said-first r none = nothing (entryOf r)
   where
     nothing : (e : Option Entry) → none ≡ both e none
@@ -77,11 +79,12 @@ said-first r (some rs) = refl
 -- what stands at a place
 module _ (s : List ℕ) (at : ℕ) where
   pub stands-end : End ≡ headAt s at → entriesIn (drop at s) ≡ some []
-  unfolding entries
-  stands-end e = ap saidBy (subst (Heads s at) (sym e) (heads s at))
+  unfolding entries bind
+  stands-end e = ap (λ (o : Option (List Rec)). bind o entries) (subst (Heads s at) (sym e) (heads s at))
 
   pub stands-bad : Bad ≡ headAt s at → entriesIn (drop at s) ≡ none
-  stands-bad e = ap saidBy (subst (Heads s at) (sym e) (heads s at))
+  unfolding bind
+  stands-bad e = ap (λ (o : Option (List Rec)). bind o entries) (subst (Heads s at) (sym e) (heads s at))
 
   pub opens : {k b n : ℕ} → Record k b n ≡ headAt s at → Opens s at k b n
   opens e = subst (Heads s at) (sym e) (heads s at)
@@ -91,73 +94,67 @@ module _ {s : List ℕ} {at k b n : ℕ} (o : Opens s at k b n) where
   size = length-take-le (n - b) (drop b s) (omega (arith, length-drop b s, o .more, o .inside))
 
   said : {x : Option Entry} → entryOf (rec k (take (n - b) (drop b s))) ≡ x → entriesIn (drop at s) ≡ both x (entriesIn (drop n s))
-  said e = ap saidBy (o .rest) ∙ said-first (rec k (take (n - b) (drop b s))) (records (drop n s)) ∙ ap (λ (y : Option Entry). both y (entriesIn (drop n s))) e
+  said e = ap (λ (y : Option (List Rec)). bind y entries) (o .rest) ∙ said-first (rec k (take (n - b) (drop b s))) (records (drop n s)) ∙ ap (λ (y : Option Entry). both y (entriesIn (drop n s))) e
+
+  tells : Told k (n - b) (take (n - b) (drop b s)) (entryOf (rec k (take (n - b) (drop b s)))) (known k (n - b))
+  tells = let r = take (n - b) (drop b s) in
+      subst (λ (m : ℕ). Told k m r (entryOf (rec k r)) (known k m)) size (told k r)
 
   -- a record of a known kind with its kind's length, and any other
   pub found-known : true ≡ known k (n - b) → Found s at k b n
   found-known h =
-      let e = by-kind k (n - b) (take (n - b) (drop b s)) _ _ _ _ _ _ refl refl refl refl refl refl size (sym h) in
+      let e = tells .yes (sym h) in
       record {
         entry = e .entry;
         body = o .body;
         more = o .more;
         inside = o .inside;
         says = e .says;
-        rest = said (e .read);
+        rest = said (e .is);
       }
 
   pub found-unknown : false ≡ known k (n - b) → entriesIn (drop at s) ≡ none
-  found-unknown h = said (by-none k (n - b) (take (n - b) (drop b s)) _ _ _ _ _ _ refl refl refl refl refl refl size (sym h))
+  found-unknown h = said (tells .no (sym h))
 
--- what depends on an entry's kind alone is a function of the kind
-by-says : {A : Type 0} (f : Entry → A) (g : ℕ → A) → ((x : Float) → f (slot (sounding x)) ≡ g 1) → f (slot silent) ≡ g 2 → ((st : Settings) → f (settings st) ≡ g 3)
-    → {k n : ℕ} {b : List ℕ} {e : Entry} → Says k n b e → f e ≡ g k
-by-says f g h q s (hour k n e) = rw (e, k) (h _)
-by-says f g h q s (quiet k n e) = rw (e, k) q
-by-says f g h q s (setup k n e) = rw (e, k) (s _)
-
--- what an entry adds to the count of settings, to the slots, to the positions where p slots stand before it, and to the series
-pub says-count : {k n : ℕ} {b : List ℕ} {e : Entry} → Says k n b e → countSettings (e ∷ []) ≡ cond (eqb k 3) 1 0
+-- by kind: how many settings an entry is
+pub says-count : {k n : ℕ} {b : List ℕ} {e : Entry} → Says k n b e → countSettings (e ∷ []) ≡ boolByte (eqb k 3)
 unfolding countSettings
-says-count = by-says (λ e. countSettings (e ∷ [])) (λ k. cond (eqb k 3) 1 0) (λ x. refl) refl (λ st. refl)
+says-count (hour k n e) = rw (e, k)
+says-count (quiet k n e) = rw (e, k)
+says-count (setup k n e) = rw (e, k)
+says-count (repair k n e) = rw (e, k)
 
-pub says-slots : {k n : ℕ} {b : List ℕ} {e : Entry} → Says k n b e → length (slotsOf (e ∷ [])) ≡ slotsAt k
-unfolding slotsOf
-says-slots = by-says (λ e. length (slotsOf (e ∷ []))) slotsAt (λ x. refl) refl (λ st. refl)
-
-pub says-positions : {k n : ℕ} {b : List ℕ} {e : Entry} (p : ℕ) → Says k n b e → positionsFrom p (slotsOf (e ∷ [])) ≡ positionAt k p
-unfolding positionsFrom slotsOf
-says-positions p = by-says (λ e. positionsFrom p (slotsOf (e ∷ []))) (λ k. positionAt k p) (λ x. refl) refl (λ st. refl)
-
-says-hours : (s : List ℕ) (k n b : ℕ) (e : Entry) → Says k n (take n (drop b s)) e → hoursIn (e ∷ []) ≡ hourAt s k b
-unfolding hoursOf slotsOf
-says-hours s k n b e (hour k₁ n₁ e₁) =
-    rw (e₁, k₁) (ap (λ (x : ℕ). ofInt binary64 (signed32 x) ∷ []) (number-of-part s b n 0 4 (omega arith) ∙ ap (λ (i : ℕ). numberAt i 4 s) (add-zero b)))
-says-hours s k n b e (quiet k₁ n₁ e₁) = rw (e₁, k₁)
-says-hours s k n b e (setup k₁ n₁ e₁) = rw (e₁, k₁)
-
--- by kind: the size of an hour's body, the settings, and no settings
+-- the size of an hour's body and of a correction's, the settings, and no settings
 hour-size : {k n : ℕ} {b : List ℕ} {e : Entry} → Says k n b e → k ≡ 1 → n ≡ 4
 hour-size (hour k n e) h = n
 hour-size (quiet k n e) h = absurd (omega arith)
 hour-size (setup k n e) h = absurd (omega arith)
+hour-size (repair k n e) h = absurd (omega arith)
+
+correction-size : {k n : ℕ} {b : List ℕ} {e : Entry} → Says k n b e → k ≡ 4 → n ≡ 6
+correction-size (hour k n e) h = absurd (omega arith)
+correction-size (quiet k n e) h = absurd (omega arith)
+correction-size (setup k n e) h = absurd (omega arith)
+correction-size (repair k n e) h = n
 
 settings-size : {k n : ℕ} {b : List ℕ} {e : Entry} → Says k n b e → k ≡ 3 → (n ≡ 26) × (e ≡ settings (settingsIn b))
 settings-size (hour k n e) h = absurd (omega arith)
 settings-size (quiet k n e) h = absurd (omega arith)
 settings-size (setup k n e) h = (n, e)
+settings-size (repair k n e) h = absurd (omega arith)
 
 no-settings : {k n : ℕ} {b : List ℕ} {e : Entry} → Says k n b e → (k ≡ 3 → ⊥) → Other ≡ openingOf (e ∷ [])
 no-settings (hour k n e) h = rw e
 no-settings (quiet k n e) h = rw e
 no-settings (setup k n e) h = absurd (h k)
+no-settings (repair k n e) h = rw e
 
 module _ {s : List ℕ} {at k b n : ℕ} (f : Found s at k b n) where
-  pub found-hours : hoursIn (f .entry ∷ []) ≡ hourAt s k b
-  found-hours = says-hours s k (n - b) b (f .entry) (f .says)
-
   pub hour-inside : k ≡ 1 → b + 4 ≤ length s
   hour-inside h = omega (arith, hour-size (f .says) h, f .inside)
+
+  pub correction-inside : k ≡ 4 → b + 6 ≤ length s
+  correction-inside h = omega (arith, correction-size (f .says) h, f .inside)
 
   pub settings-inside : k ≡ 3 → b + 26 ≤ length s
   settings-inside h = omega (arith, settings-size (f .says) h .0, f .inside)
@@ -166,6 +163,7 @@ module _ {s : List ℕ} {at k b n : ℕ} (f : Found s at k b n) where
 same-opening : (e : Entry) (t : List Entry) → openingOf (e ∷ []) ≡ openingOf (e ∷ t)
 same-opening (slot w) t = refl
 same-opening (settings st) t = refl
+same-opening (correction p x) t = refl
 
 opens-with : (e : Entry) (o : Option (List Entry)) (es : List Entry) → Option·map (λ (t : List Entry). e ∷ t) o ≡ some es → openingOf (e ∷ []) ≡ openingOf es
 opens-with e none es h = impossible cc

@@ -1,6 +1,7 @@
 -- Known files: for each an input, and what `readWeek` says of it as numbers. One proof covers the table. Assumes nothing.
 use mathlib.Core.Path.{_≡_, refl, _∙_}
 use mathlib.Core.List.{List, [], _∷_, _++_}
+use mathlib.Core.Option.{bind}
 use Prim.Native.Nat.{ℕ, zero, suc, _*_}
 use native.Mathlib.Omega.{arith}
 use lib.Ieee
@@ -9,7 +10,8 @@ use lib.ListN.{length, take, length-append}
 use Rattle.vectors.specs.Vec.{list}
 use Rattle.framing.specs.Bytes.{littleEndian, signed32}
 use Rattle.framing.specs.Frames.{recordsPast}
-use Rattle.records.specs.Entries.{Slot, silent, sounding, settingsIn, entryOf, entries, slotsOf, countSettings, hoursOf}
+use Rattle.records.specs.Entries.{Slot, silent, sounding, settingsIn, entryOf, entries, countSettings, hoursOf}
+use Rattle.records.specs.Corrections.{extended, names, namedFrom}
 use Rattle.records.specs.Week.{Reading, unread, read, readWeek, askEntries}
 use Rattle.records.specs.Positions.{positionsFrom, positionsOf}
 use Rattle.records.proofs.Asking.{week-long}
@@ -53,6 +55,13 @@ earliest = 6 ∷ 0 ∷ 1 ∷ 0 ∷ 0 ∷ 0 ∷ 0 ∷ 128 ∷ []
 abbrev quiet : List ℕ
 quiet = 2 ∷ 0 ∷ 2 ∷ 0 ∷ []
 
+-- a correction of position p, whose lower and upper byte are given, to 0 ms, and to −1
+abbrev amended : ℕ → ℕ → List ℕ
+amended p₀ p₁ = 8 ∷ 0 ∷ 4 ∷ 0 ∷ p₀ ∷ p₁ ∷ 0 ∷ 0 ∷ 0 ∷ 0 ∷ []
+
+abbrev amended-early : ℕ → ℕ → List ℕ
+amended-early p₀ p₁ = 8 ∷ 0 ∷ 4 ∷ 0 ∷ p₀ ∷ p₁ ∷ 255 ∷ 255 ∷ 255 ∷ 255 ∷ []
+
 -- settings whose lam and tol are patterns of a NaN, with the greatest max_iter, order 2 and penalty 255
 abbrev odd-settings : List ℕ
 odd-settings = 28 ∷ 0 ∷ 3 ∷ 0 ∷ 1 ∷ 0 ∷ 0 ∷ 0 ∷ 0 ∷ 0 ∷ 240 ∷ 127 ∷ 0 ∷ 0 ∷ 0 ∷ 0 ∷ 0 ∷ 0 ∷ 248 ∷ 255 ∷ 255 ∷ 255 ∷ 255 ∷ 255 ∷ 255 ∷ 255 ∷ 255 ∷ 255 ∷ 2 ∷ 255 ∷ []
@@ -78,7 +87,7 @@ table =
     ∷ (settings ++ take 3 quiet, 11 ∷ [])
     ∷ (settings ++ (0 ∷ 0 ∷ 2 ∷ 0 ∷ []), 11 ∷ [])
     ∷ (settings ++ (5 ∷ 0 ∷ 1 ∷ 0 ∷ 0 ∷ 0 ∷ 0 ∷ []), 11 ∷ [])
-    ∷ (settings ++ (2 ∷ 0 ∷ 4 ∷ 0 ∷ []), 11 ∷ [])
+    ∷ (settings ++ (2 ∷ 0 ∷ 5 ∷ 0 ∷ []), 11 ∷ [])
     -- the higher byte first
     ∷ (settings ++ (0 ∷ 2 ∷ 0 ∷ 2 ∷ []), 11 ∷ [])
     -- no settings, settings that are not the first record, settings twice
@@ -93,6 +102,23 @@ table =
     -- 11 comes before 12, and 12 before 13
     ∷ (hour ++ settings ++ take 3 quiet, 11 ∷ [])
     ∷ (settings ++ times 169 hour ++ settings, 12 ∷ [])
+    -- a correction of an hour, of a silent one, and of each; of two for one hour the last counts, and a later hour keeps its position
+    ∷ (settings ++ hour ++ amended 0 0, said ++ (0 ∷ 1 ∷ 0 ∷ []))
+    ∷ (settings ++ quiet ++ hour ++ amended-early 0 0, said ++ (0xbff0_0000_0000_0000 ∷ 0x40bf_4000_0000_0000 ∷ 2 ∷ 0 ∷ 1 ∷ []))
+    ∷ (settings ++ hour ++ amended 0 0 ++ quiet ++ amended-early 0 0 ++ hour, said ++ (0xbff0_0000_0000_0000 ∷ pause ∷ 0x40bf_4000_0000_0000 ∷ 2 ∷ 0 ∷ 2 ∷ []))
+    -- the higher byte of a position counts 256
+    ∷ (settings ++ times 257 quiet ++ amended 0 1, said ++ times 256 (pause ∷ []) ++ (0 ∷ 1 ∷ 256 ∷ []))
+    -- a correction of another length; one ahead of its hour, one whose position is the count so far, and one with no hour
+    ∷ (settings ++ hour ++ (7 ∷ 0 ∷ 4 ∷ 0 ∷ 0 ∷ 0 ∷ 0 ∷ 0 ∷ 0 ∷ []), 11 ∷ [])
+    ∷ (settings ++ hour ++ amended 1 0 ++ hour, 17 ∷ [])
+    ∷ (settings ++ hour ++ quiet ++ amended 2 0, 17 ∷ [])
+    ∷ (settings ++ amended 0 0, 17 ∷ [])
+    -- 12 comes before 17, and 17 before 13; 13 counts the hours once they are corrected
+    ∷ (amended 0 0 ++ settings, 12 ∷ [])
+    ∷ (settings ++ amended 0 0 ++ settings, 12 ∷ [])
+    ∷ (settings ++ times 169 hour ++ amended 169 0, 17 ∷ [])
+    ∷ (settings ++ times 168 hour ++ quiet ++ amended 168 0, 13 ∷ [])
+    ∷ (settings ++ times 168 hour ++ amended 0 0 ++ amended 0 0, said ++ (0 ∷ []) ++ times 167 (0x40bf_4000_0000_0000 ∷ []) ++ (168 ∷ list 168 (λ i. i)))
     ∷ []
 
 says : List (List ℕ × List ℕ) → List (List ℕ)
@@ -104,7 +130,7 @@ expected [] = []
 expected (p ∷ ps) = p .1 ∷ expected ps
 
 known : says table ≡ expected table
-unfolding list positionsFrom patterns numbers times says expected table readWeek askEntries entries entryOf settingsIn slotsOf countSettings hoursOf recordsPast littleEndian signed32 Ieee.ofBits Ieee.toBits Ieee.ofInt
+unfolding list positionsFrom patterns numbers times says expected table readWeek askEntries bind entries entryOf settingsIn extended names namedFrom countSettings hoursOf recordsPast littleEndian signed32 Ieee.ofBits Ieee.toBits Ieee.ofInt
 known = refl
 
 -- 4,098 bytes, all of them whole records, are too many; so are 4,097 of any kind

@@ -1,6 +1,7 @@
--- Laws of entries, of their positions, of a walk over them, and of the questions.
-mod Entries
+-- Laws of entries, of their positions, of corrections, of a walk over the entries, and of the questions.
+pub mod Entries
 pub mod Positions
-mod Passing
-mod Asking
+pub mod Corrections
+pub mod Passing
+pub mod Asking
 mod Known

@@ -1,6 +1,5 @@
 -- Laws of positions, which specs/Positions.antt states. Assumes nothing.
-use mathlib.Core.Path.{_≡_, refl, sym, ap, _∙_}
-use mathlib.Core.Bool.{Bool, true, false, cond}
+use mathlib.Core.Path.{_≡_, refl, ap, _∙_}
 use Prim.Native.Nat.{ℕ, zero, suc, _+_, _≤_, _<_}
 use native.Mathlib.Omega.{arith}
 use mathlib.Core.List.{List, [], _∷_, _++_}
@@ -11,9 +10,9 @@ use Rattle.float64.proofs.Clash.{impossible}
 use Rattle.vectors.specs.Vec.{at, list}
 use Rattle.vectors.proofs.Laws.{list-is, list-ext}
 use Rattle.framing.specs.Frames.{Rec, rec}
-use Rattle.records.specs.Entries.{Slot, silent, sounding, Entry, millisecondsIn, both, entryOf, entries, slotsOf, hoursOf}
-use Rattle.records.specs.Positions.{positionsFrom, positionsOf, HasPosition, Positions, countKind, InFile, PositionsInFile}
-use Rattle.records.specs.Inner.{Says, hour, quiet, setup}
+use Rattle.records.specs.Entries.{Slot, silent, sounding, Entry, millisecondsIn, both, entryOf, entries, hoursOf}
+use Rattle.records.specs.Positions.{positionsFrom, positionsOf, HasPosition, Positions, slotsOf, countKind, PositionsInFile}
+use Rattle.records.specs.Inner.{Says, hour, quiet, setup, repair}
 use Rattle.records.proofs.Entries.{entry-says}
 
 -- one position for each sounding hour
@@ -105,12 +104,24 @@ record Parted (r : Option Entry) (rs : Option (List Entry)) (es : List Entry) : 
   rest : List Entry
   one : r ≡ some first
   more : rs ≡ some rest
-  all : first ∷ rest ≡ es
+  all : es ≡ first ∷ rest
 
 parted : (r : Option Entry) (rs : Option (List Entry)) (es : List Entry) → both r rs ≡ some es → Parted r rs es
 parted none rs es e = impossible cc
 parted (some a) none es e = impossible cc
-parted (some a) (some t) es e = record { first = a; rest = t; one = refl; more = refl; all = (let f : a ∷ t ≡ es = cc in f) }
+parted (some a) (some t) es e = record { first = a; rest = t; one = refl; more = refl; all = (let f : es ≡ a ∷ t = cc in f) }
+
+-- records that say entries, each its own
+pub data AllSay : List Rec → List Entry → Type 0 where
+  end : AllSay [] []
+  next : {k n : ℕ} {b : List ℕ} {e : Entry} {rs : List Rec} {es : List Entry} → Says k n b e → AllSay rs es → AllSay (rec k b ∷ rs) (e ∷ es)
+
+pub all-say : (rs : List Rec) (es : List Entry) → entries rs ≡ some es → AllSay rs es
+unfolding entries
+all-say [] es h = rw (let f : es ≡ [] = cc in f) end
+all-say (rec k b ∷ rs) es h =
+    let w = parted (entryOf (rec k b)) (entries rs) es h in
+    rw (w .all) (next (entry-says k b (w .first) (w .one)) (all-say rs (w .rest) (w .more)))
 
 -- the same of a file whose first slot has position p
 record From (p : ℕ) (P : List Rec) (x : Float) (ws : List Slot) : Type 0 where
@@ -118,27 +129,23 @@ record From (p : ℕ) (P : List Rec) (x : Float) (ws : List Slot) : Type 0 where
   milliseconds : at (hoursOf ws) (countKind 1 P) ≡ x
   position : getD (positionsFrom p ws) (countKind 1 P) 0 ≡ p + countKind 1 P + countKind 2 P
 
-from-first : (p n : ℕ) (b : List ℕ) (e : Entry) (t : List Entry) → Says 1 n b e → From p [] (millisecondsIn b) (slotsOf (e ∷ t))
+from-first : {n : ℕ} {b : List ℕ} {e : Entry} (p : ℕ) (t : List Entry) → Says 1 n b e → From p [] (millisecondsIn b) (slotsOf (e ∷ t))
 unfolding positionsFrom hoursOf slotsOf countKind
-from-first p n b e t (hour k l h) = rw h (record { inside = omega arith; milliseconds = refl; position = omega arith })
-from-first p n b e t (quiet k l h) = absurd (omega arith)
-from-first p n b e t (setup k l h) = absurd (omega arith)
+from-first p t (hour k l h) = rw h (record { inside = omega arith; milliseconds = refl; position = omega arith })
+from-first p t (quiet k l h) = absurd (omega arith)
+from-first p t (setup k l h) = absurd (omega arith)
+from-first p t (repair k l h) = absurd (omega arith)
 
-module _ (p n : ℕ) (c : List ℕ) (e : Entry) (P : List Rec) (x : Float) (t : List Entry) where
-  from-more : (k : ℕ) → Says k n c e → ((q : ℕ) → From q P x (slotsOf t)) → From p (rec k c ∷ P) x (slotsOf (e ∷ t))
-  unfolding positionsFrom hoursOf slotsOf countKind
-  from-more k (hour kind l h) f = let w = f (suc p) in rw (h, kind) (record { inside = omega (arith, w .inside); milliseconds = w .milliseconds; position = w .position ∙ omega arith })
-  from-more k (quiet kind l h) f = let w = f (suc p) in rw (h, kind) (record { inside = w .inside; milliseconds = w .milliseconds; position = w .position ∙ omega arith })
-  from-more k (setup kind l h) f = let w = f p in rw (h, kind) (record { inside = w .inside; milliseconds = w .milliseconds; position = w .position })
+from-more : {k n : ℕ} {c : List ℕ} {e : Entry} (p : ℕ) (P : List Rec) (x : Float) (t : List Entry) → Says k n c e → ((q : ℕ) → From q P x (slotsOf t)) → From p (rec k c ∷ P) x (slotsOf (e ∷ t))
+unfolding positionsFrom hoursOf slotsOf countKind
+from-more p P x t (hour k l h) f = let w = f (suc p) in rw (h, k) (record { inside = omega (arith, w .inside); milliseconds = w .milliseconds; position = w .position ∙ omega arith })
+from-more p P x t (quiet k l h) f = let w = f (suc p) in rw (h, k) (record { inside = w .inside; milliseconds = w .milliseconds; position = w .position ∙ omega arith })
+from-more p P x t (setup k l h) f = let w = f p in rw (h, k) (record { inside = w .inside; milliseconds = w .milliseconds; position = w .position })
+from-more p P x t (repair k l h) f = let w = f p in rw (h, k) (record { inside = w .inside; milliseconds = w .milliseconds; position = w .position })
 
-from : (P Q : List Rec) (b : List ℕ) (es : List Entry) → entries (P ++ rec 1 b ∷ Q) ≡ some es → (p : ℕ) → From p P (millisecondsIn b) (slotsOf es)
-unfolding entries
-from [] Q b es e p =
-    let w = parted (entryOf (rec 1 b)) (entries Q) es e in
-    rw (sym (w .all)) (from-first p (length b) b (w .first) (w .rest) (entry-says 1 b (w .first) (w .one)))
-from (rec k c ∷ P) Q b es e p =
-    let w = parted (entryOf (rec k c)) (entries (P ++ rec 1 b ∷ Q)) es e in
-    rw (sym (w .all)) (from-more p (length c) c (w .first) P (millisecondsIn b) (w .rest) k (entry-says k c (w .first) (w .one)) (from P Q b (w .rest) (w .more)))
+from : (P Q : List Rec) (b : List ℕ) {es : List Entry} → AllSay (P ++ rec 1 b ∷ Q) es → (p : ℕ) → From p P (millisecondsIn b) (slotsOf es)
+from [] Q b (next {es} s t) p = from-first p es s
+from (rec k c ∷ P) Q b (next {es} s t) p = from-more p P (millisecondsIn b) es s (from P Q b t)
 
 pub positions-in-file : PositionsInFile
-positions-in-file P Q b es e = let w = from P Q b es e 0 in record { inside = w .inside; milliseconds = w .milliseconds; position = omega (arith, w .position) }
+positions-in-file P Q b es e = let w = from P Q b (all-say _ es e) 0 in record { inside = w .inside; milliseconds = w .milliseconds; position = omega (arith, w .position) }

@@ -1,9 +1,9 @@
--- Document 01, "The weekly program": kind 1, an hour of signed 4-byte milliseconds; kind 2, a silent hour, empty; kind 3, settings: lam, tol (8 bytes each, bits of a double), max_iter (8), order, penalty (1 each).
+-- Document 01, "The weekly program": kind 1, an hour of signed 4-byte milliseconds; kind 2, a silent hour, empty; kind 3, settings: lam, tol (8 bytes each, bits of a double), max_iter (8), order, penalty (1 each). Document 02, A8: kind 4, a correction: a two-byte position and milliseconds.
 use Prim.Native.Nat.{ℕ, suc, zero}
 use mathlib.Core.Bool.{cond}
 use mathlib.Core.List.{List, [], _∷_}
 use mathlib.Core.Option.{Option, none, some, Option·map}
-use lib.ListN.{length}
+use lib.ListN.{length, drop}
 use lib.Dec.{eqb}
 use lib.Ieee.{Float, binary64, ofBits, ofInt}
 use Rattle.framing.specs.Bytes.{numberAt, signed32}
@@ -19,6 +19,7 @@ pub data Slot : Type 0 where
 pub data Entry : Type 0 where
   slot : Slot → Entry
   settings : Settings → Entry
+  correction : ℕ → Float → Entry
 
 -- the milliseconds of an hour: a signed number of 4 bytes, as a double
 abbrev pub millisecondsIn : List ℕ → Float
@@ -38,7 +39,8 @@ entryOf (rec k b) =
     cond (eqb k 1) (sized 4 b (slot (sounding (millisecondsIn b))))
     (cond (eqb k 2) (sized 0 b (slot silent))
     (cond (eqb k 3) (sized 26 b (settings (settingsIn b)))
-    none))
+    (cond (eqb k 4) (sized 6 b (correction (numberAt 0 2 b) (millisecondsIn (drop 2 b))))
+    none)))
 
 -- one entry and then others, where there are both
 abbrev pub both : Option Entry → Option (List Entry) → Option (List Entry)
@@ -50,16 +52,11 @@ unfoldable pub entries : List Rec → Option (List Entry)
 entries [] = some []
 entries (r ∷ rs) = both (entryOf r) (entries rs)
 
--- the slots among entries, in file order
-unfoldable pub slotsOf : List Entry → List Slot
-slotsOf [] = []
-slotsOf (slot w ∷ es) = w ∷ slotsOf es
-slotsOf (settings st ∷ es) = slotsOf es
-
 -- how many entries are settings
 unfoldable pub countSettings : List Entry → ℕ
 countSettings [] = zero
 countSettings (slot w ∷ es) = countSettings es
+countSettings (correction p x ∷ es) = countSettings es
 countSettings (settings st ∷ es) = suc (countSettings es)
 
 -- the series: the sounding hours, closed up

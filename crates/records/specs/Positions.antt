@@ -10,7 +10,7 @@ use lib.Ieee.{Float}
 use Rattle.vectors.specs.Vec.{at, list}
 use Rattle.vectors.specs.Rising.{Rising}
 use Rattle.framing.specs.Frames.{Rec, rec}
-use Rattle.records.specs.Entries.{Slot, silent, sounding, Entry, millisecondsIn, entries, slotsOf, hoursOf}
+use Rattle.records.specs.Entries.{Slot, silent, sounding, Entry, slot, settings, correction, millisecondsIn, entries, hoursOf}
 
 -- the positions of the sounding hours among slots of which the first has position p
 unfoldable pub positionsFrom : ℕ → List Slot → List ℕ
@@ -39,12 +39,19 @@ pub record Positions (ws : List Slot) : Type 0 where
   -- with no silent hour each place is its own position
   pub none-silent : length (hoursOf ws) ≡ length ws → positionsOf ws ≡ list (length ws) (λ i. i)
 
+-- the slots that the hours among entries say, in file order; corrections left aside
+unfoldable pub slotsOf : List Entry → List Slot
+slotsOf [] = []
+slotsOf (slot w ∷ es) = w ∷ slotsOf es
+slotsOf (settings st ∷ es) = slotsOf es
+slotsOf (correction p x ∷ es) = slotsOf es
+
 -- how many of the records have kind k
 unfoldable pub countKind : ℕ → List Rec → ℕ
 countKind k [] = zero
 countKind k (rec j b ∷ rs) = cond (eqb j k) (suc (countKind k rs)) (countKind k rs)
 
--- in the file: the place of an hour counts the records of kind 1 before it, P being all records before it, and its position those of kinds 1 and 2
+-- in the file, corrections left aside: the place of an hour counts the records of kind 1 before it, P being all records before it, and its position those of kinds 1 and 2
 pub record InFile (P : List Rec) (b : List ℕ) (ws : List Slot) : Type 0 where
   pub inside : countKind 1 P < length (hoursOf ws)
   pub milliseconds : at (hoursOf ws) (countKind 1 P) ≡ millisecondsIn b

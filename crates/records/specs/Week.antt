@@ -1,12 +1,13 @@
--- Document 01, "The weekly program": questions 11, 12 and 13, and what an input that passes them says.
+-- Document 01, "The weekly program": questions 11, 12 and 13, with 17 of document 02 (A8) before 13, and what an input that passes them says.
 use Prim.Native.Nat.{ℕ}
 use mathlib.Core.Bool.{cond}
 use mathlib.Core.List.{List, [], _∷_}
-use mathlib.Core.Option.{Option, none, some}
+use mathlib.Core.Option.{Option, none, some, bind}
 use lib.ListN.{length}
 use lib.Dec.{ltb, leb, eqb}
-use Rattle.framing.specs.Frames.{Rec, records}
-use Rattle.records.specs.Entries.{Slot, Entry, slot, settings, entries, slotsOf, countSettings, hoursOf}
+use Rattle.framing.specs.Frames.{records}
+use Rattle.records.specs.Entries.{Slot, Entry, slot, settings, correction, entries, countSettings, hoursOf}
+use Rattle.records.specs.Corrections.{weekOf, named}
 use Rattle.records.specs.declared.Settings.{Settings}
 
 -- what is read: a refusal's number, or the settings and the week
@@ -14,23 +15,23 @@ pub data Reading : Type 0 where
   unread : ℕ → Reading
   read : Settings → List Slot → Reading
 
--- what records say
-abbrev pub saidBy : Option (List Rec) → Option (List Entry)
-saidBy none = none
-saidBy (some rs) = entries rs
-
--- what the input says
+-- what the input says: what its records say, where it splits into records
 abbrev pub entriesIn : List ℕ → Option (List Entry)
-entriesIn s = saidBy (records s)
+entriesIn s = bind (records s) entries
 
--- 12: the first record is the settings and no other is. 13: at most 168 hours
+-- 13: at most 168 hours
+abbrev pub askHours : Settings → List Slot → Reading
+askHours st ws = cond (leb (length (hoursOf ws)) 168) (read st ws) (unread 13)
+
+-- 12: the first record is the settings and no other is. 17: every correction names an earlier hour (document 02, A8). Then 13
 unfoldable pub askEntries : Option (List Entry) → Reading
 askEntries none = unread 11
 askEntries (some []) = unread 12
 askEntries (some (slot w ∷ es)) = unread 12
+askEntries (some (correction p x ∷ es)) = unread 12
 askEntries (some (settings st ∷ es)) =
     cond (eqb (countSettings es) 0)
-    (cond (leb (length (hoursOf (slotsOf es))) 168) (read st (slotsOf es)) (unread 13))
+    (cond (named es) (askHours st (weekOf es)) (unread 17))
     (unread 12)
 
 -- 11: at most 4,096 bytes, and whole records only. The first question answered no gives its number

@@ -15,14 +15,15 @@ use Rattle.io.specs.Counts.{Counts}
 use Rattle.vectors.specs.Vec.{put}
 use Rattle.vectors.specs.Parts.{Wrote}
 use Rattle.vectors.proofs.Texts.{wrote-length}
-use Rattle.records.specs.Entries.{Slot, Entry, slot, settings, slotsOf, countSettings, hoursOf}
+use Rattle.records.specs.Entries.{Slot, Entry, slot, settings, correction, countSettings, hoursOf}
+use Rattle.records.specs.Corrections.{weekOf, named}
 use Rattle.records.specs.Week.{readWeek, askEntries, entriesIn}
 use Rattle.records.specs.Positions.{positionsOf}
-use Rattle.records.specs.Inner.{answer, Reads}
+use Rattle.series.specs.Inner.{answer, Reads}
 use Rattle.records.proofs.Positions.{week-positions}
 use Rattle.records.specs.Week as read
 use Rattle.records.specs.declared.Settings.{Settings}
-use Rattle.records.specs.declared.Week.the-variants as week
+use Rattle.series.specs.declared.Week.the-variants as week
 use Rattle.lines.specs.Lines.{refusedLine}
 use Rattle.listing.specs.Shown.{Below, shownLine, shownListing}
 use Rattle.questions.specs.Questions.{Asked, Lent}
@@ -56,9 +57,11 @@ unfolding askEntries
 ask-short none = tt
 ask-short (some []) = tt
 ask-short (some (slot w ∷ es)) = tt
+ask-short (some (correction p x ∷ es)) = tt
 ask-short (some (settings st ∷ es)) =
     cond-case Short (eqb (countSettings es) 0) _ _
-    (λ _. cond-case Short (leb (length (hoursOf (slotsOf es))) 168) (read.read st (slotsOf es)) (read.unread 13) (λ e. leb-true _ _ e) tt) tt
+    (λ _. cond-case Short (named es) _ _
+    (λ _. cond-case Short (leb (length (hoursOf (weekOf es))) 168) (read.read st (weekOf es)) (read.unread 13) (λ e. leb-true _ _ e) tt) tt) tt
 
 short : (s : List ℕ) → Short (readWeek s)
 unfolding readWeek

@@ -1,4 +1,4 @@
--- Document 01, "The weekly program": from the bytes of the input to the bytes that are printed. Questions 11 to 13 come first, then 1 to 10.
+-- Document 01, "The weekly program": from the bytes of the input to the bytes that are printed. Questions 11, 12, 17 and 13 come first, then 1 to 10.
 use Prim.Native.Nat.{ℕ}
 use mathlib.Core.Bool.{cond}
 use mathlib.Core.List.{List, _++_}

@@ -1,7 +1,7 @@
 // One week: from the bytes of its file to the bytes of its listing.
 use listing::Shown;
 use records::Settings;
-use records::Week;
+use series::Week;
 use trend_filter::Answer;
 use trend_filter::Summary;
 use trend_filter::TrendFilterOptions;
@@ -74,7 +74,7 @@ pub fn weekly(input: &[u8], out: &mut [u8; 16384]) -> usize
 {
     let mut y = [0.0f64; 168];
     let mut positions = [0u32; 168];
-    match records::read_week(input, &mut y, &mut positions) {
+    match series::read_week(input, &mut y, &mut positions) {
         Week::Refused(number) => listing::put_refused(out, number),
         Week::Read { settings, n } => fit_week(&y[..n], &positions[..n], settings, out),
     }

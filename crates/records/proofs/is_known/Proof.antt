@@ -1,20 +1,22 @@
-use borrow.Author.Tests.{eq-eqb, ne-eqb}
+use borrow.Author.Tests.{ne-eqb}
 use Rattle.records.proofs.is_known.Statement.{statement}
 use Rattle.records.proofs.is_known.Tie as tie
 
 returns : tie.Need-returns
-returns c = simp (eq-eqb _ _ (c .if1 .taken))
+returns c = rw (c .match .keys1)
 
 returns-2 : tie.Need-returns-2
-returns-2 c = simp (ne-eqb _ _ (c .before .if1 .left), eq-eqb _ _ (c .if2 .taken))
+returns-2 c = rw (c .match .keys2)
 
 returns-3 : tie.Need-returns-3
-returns-3 c = let e = c .before in
-    simp (ne-eqb _ _ (e .before .if1 .left), ne-eqb _ _ (e .if2 .left), eq-eqb _ _ (c .if3 .taken))
+returns-3 c = rw (c .match .keys3)
 
 returns-4 : tie.Need-returns-4
-returns-4 c = let e = c .before in
-    simp (ne-eqb _ _ (e .before .if1 .left), ne-eqb _ _ (e .if2 .left), ne-eqb _ _ (c .if3 .left))
+returns-4 c = rw (c .match .keys4)
+
+returns-5 : tie.Need-returns-5
+returns-5 c = let n = c .match .rest in
+    simp (ne-eqb _ _ (n .0 .0 .0 .1), ne-eqb _ _ (n .0 .0 .1), ne-eqb _ _ (n .0 .1), ne-eqb _ _ (n .1))
 
 pub is-known-spec : {M : Type 1} → statement M
-is-known-spec = tie.close (tie.spec returns returns-2 returns-3 returns-4)
+is-known-spec = tie.close (tie.spec returns returns-2 returns-3 returns-4 returns-5)

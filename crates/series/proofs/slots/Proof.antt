@@ -1,8 +1,8 @@
 use mathlib.Core.Path.{refl}
 use borrow.Author.Tests.{ne-eqb}
 use lib.Dec.{lit≤}
-use Rattle.records.proofs.slots.Statement.{statement}
-use Rattle.records.proofs.slots.Tie as tie
+use Rattle.series.proofs.slots.Statement.{statement}
+use Rattle.series.proofs.slots.Tie as tie
 
 returns : tie.Need-returns
 returns c = rw (c .match .keys1) (refl, lit≤ tt)

@@ -1,0 +1,125 @@
+-- Laws of corrections, which specs/Corrections.antt states. Assumes nothing.
+use mathlib.Core.Path.{_≡_, refl, sym, ap, _∙_}
+use mathlib.Core.Bool.{Bool, true, false, cond, _&&_, and-eq-true-iff}
+use Prim.Native.Nat.{ℕ, _+_, _≤_, _<_}
+use native.Mathlib.Omega.{arith}
+use mathlib.Core.List.{List, [], _∷_, _++_, foldl, append-nil}
+use mathlib.Core.Option.{Option, none, some, Option·getD, orElse}
+use lib.ListN.{length, getD, set, length-append, length-set}
+use lib.Seq.{append-snoc, set-append-left, getD-append-add, getD-set-same, getD-set-other}
+use lib.Dec.{eqb, ltb, lit≤}
+use borrow.Author.Tests.{ltb-true, ltb-false, eqb-true, eqb-false}
+use Rattle.float64.proofs.Clash.{clash}
+use Rattle.framing.specs.Bytes.{numberAt}
+use Rattle.framing.specs.Frames.{Rec, rec}
+use Rattle.records.specs.Entries.{Slot, silent, sounding, Entry, slot, settings, correction, millisecondsIn}
+use Rattle.records.specs.Positions.{slotsOf, countKind}
+use Rattle.records.specs.Corrections.{extended, names, namedFrom, lastCorrection, CorrectedInFile}
+use Rattle.records.specs.Inner.{Says, hour, quiet, setup, repair}
+use Rattle.records.proofs.Positions.{AllSay, end, next, all-say}
+
+-- how many of the records are hours
+abbrev hoursIn : List Rec → ℕ
+hoursIn rs = countKind 1 rs + countKind 2 rs
+
+-- what an entry adds to the week so far, by its record: only an hour adds a slot, and only a correction can be wrong or change one
+record Adds (ws : List Slot) (k : ℕ) (b : List ℕ) (e : Entry) : Type 0 where
+  long : (P : List Rec) → length (extended ws e) + hoursIn P ≡ length ws + hoursIn (rec k b ∷ P)
+  right : names ws e ≡ true → k ≡ 4 → numberAt 0 2 b < length ws
+  wrong : names ws e ≡ false → (k ≡ 4) × (length ws ≤ numberAt 0 2 b)
+  without : (P : List Rec) (es : List Entry) → countKind 4 (rec k b ∷ P) ≡ 0 → (countKind 4 P ≡ 0) × ((extended ws e ++ slotsOf es ≡ ws ++ slotsOf (e ∷ es)) × (names ws e ≡ true))
+
+adds : {k n : ℕ} {b : List ℕ} {e : Entry} (ws : List Slot) → Says k n b e → Adds ws k b e
+unfolding extended names slotsOf countKind
+adds ws (hour k n e) = rw (e, k) (record { long = λ P. simp length-append (omega arith); right = λ h g. absurd (omega arith); wrong = λ h. absurd (clash refl h); without = λ P es h. (h, (append-snoc ws _ _, refl)) })
+adds ws (quiet k n e) = rw (e, k) (record { long = λ P. simp length-append (omega arith); right = λ h g. absurd (omega arith); wrong = λ h. absurd (clash refl h); without = λ P es h. (h, (append-snoc ws _ _, refl)) })
+adds ws (setup k n e) = rw (e, k) (record { long = λ P. refl; right = λ h g. absurd (omega arith); wrong = λ h. absurd (clash refl h); without = λ P es h. (h, (refl, refl)) })
+adds ws (repair k n e) = rw (e, k) (record { long = λ P. simp length-set; right = λ h g. ltb-true _ _ h; wrong = λ h. (refl, ltb-false _ _ h); without = λ P es h. absurd (omega arith) })
+
+-- the laws of `Corrected`, each after a week so far
+count : {rs : List Rec} {es : List Entry} (ws : List Slot) → AllSay rs es → length (foldl extended ws es) ≡ length ws + hoursIn rs
+unfolding countKind
+count ws end = omega arith
+count ws (next {e} {rs} s t) = count (extended ws e) t ∙ adds ws s .long rs
+
+-- what stands at the position of an hour
+slots-more : (e : Entry) (es : List Entry) → slotsOf (e ∷ es) ≡ extended [] e ++ slotsOf es
+unfolding slotsOf extended
+slots-more (slot w) es = refl
+slots-more (settings st) es = refl
+slots-more (correction p x) es = refl
+
+slot-says : {k n : ℕ} {b : List ℕ} {e : Entry} → k ≤ 2 → Says k n b e → e ≡ slot (cond (eqb k 1) (sounding (millisecondsIn b)) silent)
+slot-says h (hour k n e) = rw (e, k)
+slot-says h (quiet k n e) = rw (e, k)
+slot-says h (setup k n e) = absurd (omega arith)
+slot-says h (repair k n e) = absurd (omega arith)
+
+said-at : (P Q : List Rec) (k : ℕ) (b : List ℕ) {es : List Entry} → k ≤ 2 → AllSay (P ++ rec k b ∷ Q) es → getD (slotsOf es) (hoursIn P) silent ≡ cond (eqb k 1) (sounding (millisecondsIn b)) silent
+unfolding slotsOf countKind
+said-at [] Q k b h (next s t) = rw (slot-says h s)
+said-at (rec j c ∷ P) Q k b h (next {e} {es} s t) =
+    let a : hoursIn (rec j c ∷ P) ≡ length (extended [] e) + hoursIn P = omega (arith, adds [] s .long P) in
+    rw (a, slots-more e es) (getD-append-add (extended [] e) (slotsOf es) (hoursIn P) silent ∙ said-at P Q k b h t)
+
+right : (P Q : List Rec) (b : List ℕ) {es : List Entry} (ws : List Slot) → AllSay (P ++ rec 4 b ∷ Q) es → namedFrom ws es ≡ true → numberAt 0 2 b < length ws + hoursIn P
+unfolding namedFrom countKind
+right [] Q b ws (next {e} s t) h = omega (arith, adds ws s .right (and-eq-true-iff (names ws e) _ .0 h .0) refl)
+right (rec k c ∷ P) Q b ws (next {e} s t) h = omega (arith, right P Q b (extended ws e) t (and-eq-true-iff (names ws e) _ .0 h .1), adds ws s .long P)
+
+-- `Misnamed`, with n hours before the records
+record MisnamedAfter (n : ℕ) (rs : List Rec) : Type 0 where
+  P : List Rec
+  b : List ℕ
+  Q : List Rec
+  is : rs ≡ P ++ rec 4 b ∷ Q
+  none-has : n + hoursIn P ≤ numberAt 0 2 b
+
+-- one record and then others: its own correction is wrong, or a later one
+wrong-more : {ws : List Slot} {k : ℕ} {b : List ℕ} {e : Entry} (rs : List Rec) (u v : Bool) → Adds ws k b e → names ws e ≡ u → (v ≡ false → MisnamedAfter (length (extended ws e)) rs) → u && v ≡ false → MisnamedAfter (length ws) (rec k b ∷ rs)
+unfolding countKind
+wrong-more {b} rs false v a g f h = let w = a .wrong g in record { P = []; b = b; Q = rs; is = rw (w .0); none-has = omega (arith, w .1) }
+wrong-more {k} {b} rs true v a g f h = let w = f h in record { P = rec k b ∷ w .P; b = w .b; Q = w .Q; is = ap (λ (t : List Rec). rec k b ∷ t) (w .is); none-has = omega (arith, w .none-has, a .long (w .P)) }
+
+wrong : {rs : List Rec} {es : List Entry} (ws : List Slot) → AllSay rs es → namedFrom ws es ≡ false → MisnamedAfter (length ws) rs
+unfolding namedFrom
+wrong ws end h = absurd (clash refl h)
+wrong ws (next {e} {rs} {es} s t) h = wrong-more rs (names ws e) (namedFrom (extended ws e) es) (adds ws s) refl (wrong (extended ws e) t) h
+
+without : {rs : List Rec} {es : List Entry} (ws : List Slot) → AllSay rs es → countKind 4 rs ≡ 0 → (foldl extended ws es ≡ ws ++ slotsOf es) × (namedFrom ws es ≡ true)
+unfolding namedFrom slotsOf
+without ws end h = (sym (append-nil ws), refl)
+without ws (next {e} {rs} {es} s t) h =
+    let a = adds ws s .without rs es h in
+    let w = without (extended ws e) t (a .0) in
+    (w .0 ∙ a .1 .0, rw (a .1 .1) (w .1))
+
+-- slot p once slot q is corrected, if a later correction o does not say it
+corrected : (o : Option Slot) (ws vs : List Slot) (q p : ℕ) (a : Slot) → q < length ws → Option·getD o (getD (set ws q a ++ vs) p silent) ≡ Option·getD (orElse o (cond (eqb q p) (some a) none)) (getD (ws ++ vs) p silent)
+unfolding orElse
+corrected (some w) ws vs q p a h = refl
+corrected none ws vs q p a h = rw (← set-append-left ws vs q a h) (go (eqb q p) refl)
+  where
+    go : (t : Bool) → eqb q p ≡ t → getD (set (ws ++ vs) q a) p silent ≡ Option·getD (cond t (some a) none) (getD (ws ++ vs) p silent)
+    go true e = rw (eqb-true q p e) (getD-set-same (ws ++ vs) p a silent (simp length-append (omega (arith, eqb-true q p e))))
+    go false e = getD-set-other (ws ++ vs) q p a silent (λ g. eqb-false q p e (sym g))
+
+last : (es : List Entry) (ws : List Slot) → namedFrom ws es ≡ true → (p : ℕ) → getD (foldl extended ws es) p silent ≡ Option·getD (lastCorrection p es) (getD (ws ++ slotsOf es) p silent)
+unfolding namedFrom names extended slotsOf lastCorrection
+last [] ws h p = rw append-nil
+last (slot w ∷ es) ws h p = last es (ws ++ (w ∷ [])) h p ∙ rw append-snoc
+last (settings st ∷ es) ws h p = last es ws h p
+last (correction q x ∷ es) ws h p =
+    let n = and-eq-true-iff (ltb q (length ws)) _ .0 h in
+    last es (set ws q (sounding x)) (n .1) p ∙ corrected (lastCorrection p es) ws (slotsOf es) q p (sounding x) (ltb-true _ _ (n .0))
+
+pub corrected-in-file : CorrectedInFile
+corrected-in-file rs es h = let t = all-say rs es h in record {
+  count = omega (arith, count [] t);
+  hour = λ P Q b e. said-at P Q 1 b (lit≤ tt) (rw e at t);
+  quiet = λ P Q b e. said-at P Q 2 b (lit≤ tt) (rw e at t);
+  last = last es [];
+  right = λ n P Q b e. omega (arith, right P Q b [] (rw e at t) n);
+  wrong = λ n. let w = wrong [] t n in record { P = w .P; b = w .b; Q = w .Q; is = w .is; none-has = omega (arith, w .none-has) };
+  without = without [] t;
+}

@@ -1,0 +1,2 @@
+-- What the code's contracts cite.
+pub mod Inner
