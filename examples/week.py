@@ -1,7 +1,7 @@
 #!/usr/bin/env python3
 """A sample week, and a reader for its listing.
 
-week.py make FILE    writes the sample week: 168 hours, four of them silent
+week.py make FILE    writes the sample week: 168 hours, four of them silent, and the correction of a mistyped one
 week.py show         reads a listing from standard input and prints it with plain numbers; hours are numbered from 0, silent
                      ones too: of the sample week hour 0 is Monday, 00:00, and hour 77 Thursday, 05:00
 
@@ -16,6 +16,7 @@ import sys
 LAM, TOL, LIMIT, ORDER, PENALTY = 8000.0, 1e-8, 100, 1, 1
 NIGHT = range(73, 77)  # Thursday, 01:00 to 05:00: the transmitter is off
 STEP = 62  # Wednesday, 14:00: a longer jingle package goes on air
+MISTYPED = 33  # Tuesday, 09:00: typed with a 0 too many
 
 
 def drift(hour):
@@ -24,13 +25,19 @@ def drift(hour):
     return round(900 + 4 * hour + swing + (2600 if hour >= STEP else 0) + random.gauss(0, 220))
 
 
+def correction(position, milliseconds):
+    """The record that corrects an hour, silent or not, which stands before it; of several for one hour the last counts."""
+    return struct.pack("<HHHi", 8, 4, position, milliseconds)
+
+
 def make():
     random.seed(168)
+    late = [drift(hour) for hour in range(168)]
     out = struct.pack("<HHddQBB", 28, 3, LAM, TOL, LIMIT, ORDER, PENALTY)
     for hour in range(168):
-        late = drift(hour)
-        out += struct.pack("<HH", 2, 2) if hour in NIGHT else struct.pack("<HHi", 6, 1, late)
-    return out
+        typed = 10 * late[hour] if hour == MISTYPED else late[hour]
+        out += struct.pack("<HH", 2, 2) if hour in NIGHT else struct.pack("<HHi", 6, 1, typed)
+    return out + correction(MISTYPED, late[MISTYPED])
 
 
 # why the search stopped, by the number that ends the first line

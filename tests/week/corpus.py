@@ -1,10 +1,12 @@
 #!/usr/bin/env python3
-"""corpus.py [--no-reason] [--places] DIR [PROGRAM]: runs the weekly program on every DIR/NAME.in and compares what it prints with DIR/NAME.out.
+"""corpus.py [--no-reason] [--places] [--no-corrections] DIR [PROGRAM]: runs the weekly program on every DIR/NAME.in and compares what it prints with DIR/NAME.out.
 
 With --no-reason the listings of DIR are from before A11 of document 02, when the first line ended with converged: the reason, a
 number from 0 to 4 that must stand there, is left out of what the program prints. With --places they are from before A1, when an
 hour had its place in the series, silent hours left out: each such number becomes that hour's position among the records of
-kinds 1 and 2, counted from NAME.in. Refusals are compared as they are.
+kinds 1 and 2, counted from NAME.in. With --no-corrections they are from before A8, when kind 4 was no kind: a week that was
+refused with 11 and has corrections among whole records is held to what fuzz.py reads in it, and the last line names it. All other
+refusals are compared as they are.
 PROGRAM is target/bin/weektrend unless it is given. The last line counts; the exit status is 0 only if all agree.
 """
 import os
@@ -15,6 +17,8 @@ import sys
 
 import fuzz
 
+OPTIONS = ("--no-reason", "--places", "--no-corrections")
+
 
 def without_reason(listing):
     """A listing without the last field of its first line; nothing if a fit has no such field."""
@@ -24,31 +28,48 @@ def without_reason(listing):
 
 def renumbered(listing, data):
     """A listing of places with the position of each; a place that the input hasn't gets none, which no program prints."""
-    position = {b"%d" % place: b"%d" % p for place, (p, _) in enumerate(fuzz.series_of(fuzz.split(data) or []))}
+    series = fuzz.series_of(fuzz.split(data) or []) or []
+    position = {b"%d" % place: b"%d" % p for place, (p, _) in enumerate(series)}
     return re.sub(rb"(?m)^(h|knot) (\w+)", lambda line: line[1] + b" " + position.get(line[2], b"none"), listing)
+
+
+def not_known_then(want, data):
+    """Whether a week was refused for a correction alone."""
+    return want == b"refused 11\n" and fuzz.has_correction(data)
+
+
+def difference(got, want):
+    """The first line that differs."""
+    line = want.rfind(b"\n", 0, len(os.path.commonprefix([got, want]))) + 1
+    return f"printed {got[line:][:80]!r}, and {want[line:][:80]!r} is right"
 
 
 def main():
     words = sys.argv[1:]
     earlier = set()
-    while words and words[0] in ("--no-reason", "--places"):
+    while words and words[0] in OPTIONS:
         earlier.add(words.pop(0))
     if not words or words[0].startswith("--"):
         sys.exit(__doc__)
     folder = pathlib.Path(words[0])
     program = words[1] if len(words) > 1 else "target/bin/weektrend"
     cases = sorted(folder.glob("*.in"))
-    wrong = 0
+    wrong, anew = 0, []
     for case in cases:
         data, want = case.read_bytes(), case.with_suffix(".out").read_bytes()
         run = subprocess.run([program], input=data, capture_output=True, timeout=60)
         got = without_reason(run.stdout) if "--no-reason" in earlier else run.stdout
         want = renumbered(want, data) if "--places" in earlier else want
-        if got != want or run.stderr or run.returncode != 0:
+        fault = None
+        if "--no-corrections" in earlier and not_known_then(want, data):
+            anew.append(case.stem)
+            fault = fuzz.fault(fuzz.expected(data), run)
+        elif got != want or run.stderr or run.returncode != 0:
+            fault = difference(got, want)
+        if fault:
             wrong += 1
-            line = want.rfind(b"\n", 0, len(os.path.commonprefix([got, want]))) + 1
-            print(f"{case.name}: printed {got[line:][:80]!r}, and {want[line:][:80]!r} is right")
-    print(f"{len(cases) - wrong} of {len(cases)} weeks agree")
+            print(f"{case.name}: {fault}")
+    print(f"{len(cases) - wrong} of {len(cases)} weeks agree" + "".join(f", {name} by fuzz.py's reading" for name in anew))
     sys.exit(1 if wrong or not cases else 0)
 
 

@@ -2,13 +2,15 @@
 """fuzz.py [COUNT [SEED [PROGRAM]]]: random and mutated inputs of the weekly program, 100,000 unless COUNT is given.
 
 Each run must end within ten seconds, with status 0, and print a listing or one line `refused N`, nothing else.
-Beside that form, a plain reading of document 01's questions 11 to 13, 1, 2, 5, 6, 7 and 10 says for each input
+Beside that form, a plain reading of the questions 11, 12, 17 (document 02, A8), 13, 1, 2, 5, 6, 7 and 10 says for each input
 which refusal is right, and of a fit n, order, penalty, the bounds of n_iter and what the other fields say of the reason are
 checked. The hours must be printed by their positions (document 02, A1), each with the cycle that the trend leaves of the
-milliseconds at that position, and the knots by the positions of exactly the places at which document 01 has the printed
-trend bend.
+milliseconds at that position, corrections made, and the knots by the positions of exactly the places at which document 01 has
+the printed trend bend.
 Refusal 10 is right exactly where the Rust's elimination, done here in doubles, meets a pivot that isn't finite and above 0.
+The line before the last says how many inputs met each refusal, and how many are fitted.
 """
+import collections
 import functools
 import math
 import multiprocessing
@@ -18,7 +20,7 @@ import struct
 import subprocess
 import sys
 
-LENGTHS = {1: 6, 2: 2, 3: 28}
+LENGTHS = {1: 6, 2: 2, 3: 28, 4: 8}
 WHOLE, HEX = "(?:0|[1-9][0-9]*)", "[0-9a-f]{16}"
 FIT = re.compile(rf"fit{f' ({WHOLE})' * 5} ([01]) ([0-4])\n({HEX}) {HEX} {HEX}\n((?:h {WHOLE} {HEX} {HEX}\n)*)((?:knot {WHOLE}\n)*)")
 CLOSED, SMALL, SPENT, STALLED, LOST = range(5)
@@ -27,7 +29,9 @@ CLOSED, SMALL, SPENT, STALLED, LOST = range(5)
 # ---- what is right
 
 def split(data):
-    """The records of an input as (kind, body), or None."""
+    """The records of an input as (kind, body), or None where question 11 is answered no."""
+    if len(data) > 4096:
+        return None
     records, at = [], 0
     while at < len(data):
         if len(data) - at < 4:
@@ -40,20 +44,37 @@ def split(data):
     return records
 
 
+def has_correction(data):
+    """Whether an input splits into whole records with a correction among them."""
+    return any(kind == 4 for kind, _ in split(data) or [])
+
+
 def series_of(records):
-    """The (position, milliseconds) of each place of the series: how many records of kinds 1 and 2 stand before its own, and its body."""
-    slots = [(k, body) for k, body in records if k in (1, 2)]
-    return [(p, float(struct.unpack("<i", body)[0])) for p, (k, body) in enumerate(slots) if k == 1]
+    """The (position, milliseconds) of each hour that sounds, corrections made; None where one names no earlier hour."""
+    week = []  # by position: milliseconds, or None for a silent hour
+    for kind, body in records:
+        if kind == 1:
+            week.append(struct.unpack("<i", body)[0])
+        elif kind == 2:
+            week.append(None)
+        elif kind == 4:
+            position, milliseconds = struct.unpack("<Hi", body)
+            if position >= len(week):
+                return None
+            week[position] = milliseconds
+    return [(p, float(x)) for p, x in enumerate(week) if x is not None]
 
 
 def expected(data):
     """A refusal's number, or what reaches the fit: the series and (lam, tol, max_iter, order, penalty)."""
-    records = split(data) if len(data) <= 4096 else None
+    records = split(data)
     if records is None:
         return 11
     if not records or records[0][0] != 3 or any(k == 3 for k, _ in records[1:]):
         return 12
     series = series_of(records)
+    if series is None:
+        return 17
     n = len(series)
     if n > 168:
         return 13
@@ -144,18 +165,17 @@ def bends(y, trend, order):
     return [i for i, d in enumerate(d_trend) if abs(d) > threshold]
 
 
-def fault(data, run):
-    """What is wrong with a run, or None."""
+def fault(want, run):
+    """What is wrong with a run where `want` is expected, or None."""
     if run.returncode != 0 or run.stderr:
         return f"status {run.returncode}, {run.stderr[:80]!r}"
-    want = expected(data)
     if isinstance(want, int):
         return None if run.stdout == b"refused %d\n" % want else f"refused {want} is right"
     series, (lam, _, limit, order, penalty) = want
     positions, y = zip(*series)
     m = FIT.fullmatch(run.stdout.decode("ascii", "replace"))
     if not m:
-        return "neither a listing nor a refusal"
+        return "a listing is right"
     head = [int(m.group(i)) for i in range(1, 8)]
     n_iter, improvements, converged, reason = head[3:]
     lam_max = number(m.group(8))
@@ -179,6 +199,16 @@ def fault(data, run):
 # ---- inputs
 
 SILENT = struct.pack("<HH", 2, 2)
+# kinds and sizes of a body that there are not
+ODD = [(4, 0), (4, 2), (4, 4), (4, 5), (4, 7), (4, 8), (4, 12), (5, 4), (5, 6), (5, 12), (0, 6), (260, 6), (1024, 6)]
+
+
+def correction(position, milliseconds):
+    return struct.pack("<HHHi", 8, 4, position, milliseconds)
+
+
+def overrun(r):
+    return r.choice([r.randrange(-8000, 8000), r.randrange(-2 ** 31, 2 ** 31), 2 ** 31 - 1, -2 ** 31])
 
 
 def bits(r, right):
@@ -202,14 +232,16 @@ def settings(r):
 
 
 def hours(r):
+    """The records of a week's hours, sounding and silent."""
     n = r.choice([0, 1, 2, 3, r.randrange(4, 40), r.randrange(100, 169), 168, 169])
     level, out, changes = r.randrange(-8000, 8000), [], []
     for i in range(n):
         if r.random() < 0.03:
-            level = r.choice([r.randrange(-8000, 8000), r.randrange(-2 ** 31, 2 ** 31), 2 ** 31 - 1, -2 ** 31])
+            level = overrun(r)
             changes.append(i)
         out.append(struct.pack("<HHi", 6, 1, max(-2 ** 31, min(2 ** 31 - 1, level + r.randrange(-300, 300)))))
-    return [SILENT * s + hour for s, hour in zip(silences(r, n, changes), [*out, b""])]
+    silent = silences(r, n, changes)
+    return [slot for s, hour in zip(silent, out) for slot in [SILENT] * s + [hour]] + [SILENT] * silent[n]
 
 
 def silences(r, n, changes):
@@ -219,7 +251,8 @@ def silences(r, n, changes):
         often = r.choice([0.05, 0.5])
         silent = [int(r.random() < often) for _ in silent]
     elif 0.5 <= kind:
-        room = max(0, 1016 - 2 * n)  # 4,096 bytes have room for so many beside the settings and n hours
+        # 4,096 bytes have room for 1,016 - 2n beside the settings and n hours, 2 less with a correction, 5 less with two
+        room = max(0, 1016 - 2 * n - r.choice([0, 2, 5, 200]))
         near = [c + side for c in changes for side in (0, 1)]  # before the hour at which the level changes, and after it
         for _ in range(r.choice([1, 2, 4])):
             run = min(room, r.choice([1, 2, r.randrange(1, 13), r.randrange(1, 400), room]))
@@ -229,10 +262,35 @@ def silences(r, n, changes):
     return silent
 
 
+def named(r, slots):
+    """The positions that are corrected: none; a few, maybe more than once; or silent ones, so many that 168 hours sound, one less or one more."""
+    silent = [p for p, slot in enumerate(slots) if slot == SILENT]
+    kind = r.random()
+    if kind < 0.4 or not slots:
+        return []
+    if kind < 0.55:
+        lack = r.choice([167, 168, 169]) - (len(slots) - len(silent))
+        return r.sample(silent, max(0, min(lack, len(silent))))
+    few = [0, len(slots) - 1, r.randrange(len(slots)), *r.sample(silent, min(3, len(silent)))]
+    return r.choices(few, k=r.choice([1, 2, 5, 20]))
+
+
+def corrected(r, slots):
+    """The records of a week's hours with corrections among them, each after its hour; in some weeks also one whose hour comes later or never."""
+    end = len(slots)
+    before = [[] for _ in range(end + 1)]  # the corrections before each hour and after the last
+    for p in named(r, slots):
+        before[r.choice([p + 1, end, r.randrange(p + 1, end + 1)])].append(correction(p, overrun(r)))
+    if r.random() < 0.1:
+        at = r.randrange(end + 1)
+        before[at].append(correction(r.choice([at, r.randrange(at, end + 1), end, 1015, 65535]), overrun(r)))
+    return [record for some, slot in zip(before, [*slots, b""]) for record in [*some, slot]]
+
+
 def mutated(r, data):
     data = bytearray(data)
     for _ in range(r.choice([1, 1, 2, 5])):
-        way, at = r.randrange(7), r.randrange(len(data) + 1)
+        way, at = r.randrange(9), r.randrange(len(data) + 1)
         if way == 0 and at < len(data):
             data[at] ^= 1 << r.randrange(8)
         elif way == 1:
@@ -245,6 +303,11 @@ def mutated(r, data):
             data += settings(r)
         elif way == 5:
             data += SILENT * r.choice([1, 10, 1100])
+        elif way == 6:
+            data += correction(r.choice([0, 1, r.randrange(200), 1015, 65535]), overrun(r))
+        elif way == 7:
+            kind, size = r.choice(ODD)
+            data += struct.pack("<HH", 2 + size, kind) + r.randbytes(size)
         elif at < len(data):
             data[at] = r.getrandbits(8)
     return bytes(data)
@@ -255,17 +318,26 @@ def made(seed):
     kind = r.random()
     if kind < 0.1:
         return r.randbytes(r.choice([0, 1, 3, 4, r.randrange(200), 4096, 4097, 5000]))
-    data = settings(r) + b"".join(hours(r))
+    data = settings(r) + b"".join(corrected(r, hours(r)))
     return data if kind < 0.6 else mutated(r, data)
+
+
+def group(data, want):
+    """What an input counts as."""
+    if isinstance(want, int):
+        return f"refused {want}"
+    return "fits with corrections" if has_correction(data) else "fits without corrections"
 
 
 def one(job):
     seed, program = job
     data = made(seed)
+    want = expected(data)
     try:
-        return seed, fault(data, subprocess.run([program], input=data, capture_output=True, timeout=10))
+        what = fault(want, subprocess.run([program], input=data, capture_output=True, timeout=10))
     except subprocess.TimeoutExpired:
-        return seed, "no end within ten seconds"
+        what = "no end within ten seconds"
+    return seed, group(data, want), what
 
 
 def main():
@@ -274,12 +346,14 @@ def main():
     program = sys.argv[3] if len(sys.argv) > 3 else "target/bin/weektrend"
     if count < 1:
         sys.exit("fuzz.py: no input was tried: COUNT is at least 1")
-    wrong = 0
+    wrong, groups = 0, collections.Counter()
     with multiprocessing.Pool() as pool:
-        for seed, what in pool.imap_unordered(one, ((s, program) for s in range(first, first + count)), 200):
+        for seed, met, what in pool.imap_unordered(one, ((s, program) for s in range(first, first + count)), 200):
+            groups[met] += 1
             if what:
                 wrong += 1
                 print(f"input {seed}: {what}")
+    print(", ".join(f"{name}: {groups[name]}" for name in sorted(groups, key=lambda g: (len(g), g))))
     print(f"{count - wrong} of {count} inputs: a listing or a refusal, as documents 01 and 02 have it")
     sys.exit(1 if wrong else 0)
 
