@@ -27,7 +27,7 @@ onto-more P e (some t) = ap some (sym (append-assoc P (e ∷ []) t))
 
 -- the entries P have been passed, and the next record starts at `at`
 pub record Passed (s : List ℕ) (at : ℕ) (P : List Entry) : Type 0 where
-  pub rest : entriesIn s ≡ onto P (entriesIn (drop at s))
+  rest : entriesIn s ≡ onto P (entriesIn (drop at s))
 
 pub passed-none : (s : List ℕ) → Passed s 0 []
 passed-none s = record { rest = onto-nil (entriesIn s) }

@@ -7,8 +7,6 @@ use mathlib.Core.List.{List, [], _∷_}
 use lib.ListN.{length, getD, take, set}
 use lib.Seq.{set-getD}
 use lib.Ieee.{Float, nan}
-use Rattle.vectors.specs.Parts.{Wrote}
-use Rattle.vectors.proofs.Texts.{wrote-length}
 use Rattle.records.specs.Entries.{Slot, silent}
 use Rattle.series.specs.Inner.{slotWith, slotsIn}
 
@@ -45,12 +43,9 @@ length-slots [] t e = refl
 length-slots (y ∷ m) [] e = absurd (omega arith)
 length-slots (y ∷ m) (u ∷ t) e = ap suc (length-slots m t (omega arith))
 
--- what was written of slots has its places in both arrays
-few-slots : (m : List Float) (t : List Bool) → (length (slotsIn m t) ≤ length m) × (length (slotsIn m t) ≤ length t)
+-- no more slots than places
+pub few-slots : (m : List Float) (t : List Bool) → (length (slotsIn m t) ≤ length m) × (length (slotsIn m t) ≤ length t)
 unfolding slotsIn
 few-slots [] t = (omega arith, omega arith)
 few-slots (y ∷ m) [] = (omega arith, omega arith)
 few-slots (y ∷ m) (u ∷ t) = let f = few-slots m t in (omega (arith, f .0), omega (arith, f .1))
-
-pub wrote-within : {W₀ ws : List Slot} (m : List Float) (t : List Bool) {n : ℕ} → Wrote W₀ 0 ws (slotsIn m t) n → (n ≤ length m) × (n ≤ length t)
-wrote-within m t w = let f = few-slots m t in (omega (arith, w .room, wrote-length w, f .0), omega (arith, w .room, wrote-length w, f .1))

@@ -1,21 +1,18 @@
 -- A walk over the entries that gathers the week: what the next one makes of its slots. Assumes nothing.
 use mathlib.Core.Path.{_≡_, refl, sym, ap, ap₂, _∙_}
-use mathlib.Core.Bool.{Bool, true, false, cond, _&&_, and-true, and-assoc}
+use mathlib.Core.Bool.{Bool, true, _&&_, and-true, and-assoc}
 use Prim.Native.Nat.{ℕ, _+_, _*_, _≤_, _<_}
 use native.Mathlib.Omega.{arith}
 use native.Mathlib.Nat.{add-zero, zero-add}
 use mathlib.Core.List.{List, [], _∷_, _++_, foldl, foldl-append}
 use mathlib.Core.Option.{none, some}
-use lib.ListN.{length, take, drop, set, length-set}
-use lib.Seq.{set-append-left, set-out}
-use lib.Dec.{ltb}
+use lib.ListN.{length, take, drop}
 use lib.Ieee.{binary64, ofInt}
-use borrow.Author.Tests.{ltb-true, ltb-false}
 use Rattle.float64.proofs.Clash.{impossible}
 use Rattle.framing.specs.Bytes.{numberAt, signed32}
 use Rattle.framing.proofs.Numbers.{number-of-part}
 use Rattle.vectors.specs.Parts.{Wrote}
-use Rattle.vectors.proofs.Texts.{wrote-none, wrote-one, wrote-then}
+use Rattle.vectors.proofs.Texts.{wrote-none, wrote-one, wrote-then, wrote-set}
 use Rattle.records.specs.Entries.{Slot, silent, Entry}
 use Rattle.records.specs.Corrections.{extended, weekOf, names, namedFrom, named}
 use Rattle.records.specs.Week.{entriesIn}
@@ -28,21 +25,6 @@ named-append : (ws : List Slot) (P : List Entry) (e : Entry) → namedFrom ws (P
 unfolding namedFrom
 named-append ws [] e = and-true (names ws e)
 named-append ws (d ∷ P) e = ap (λ (a : Bool). names ws d && a) (named-append (extended ws d) P e) ∙ sym (and-assoc (names ws d) (namedFrom (extended ws d) P) (names (foldl extended (extended ws d) P) e))
-
--- one place replaced of what stands at the start, if it has that place
-wrote-set : {A : Type 0} {d t e : List A} {n : ℕ} (p : ℕ) (x : A) → Wrote d 0 t e n → Wrote d 0 (set t p x) (cond (ltb p n) (set e p x) e) n
-wrote-set {A} {d} {t} {e} {n} p x w = go (ltb p n) refl
-  where
-    l : length (set t p x) ≡ length t
-    l = length-set t p x
-
-    go : (b : Bool) → ltb p n ≡ b → Wrote d 0 (set t p x) (cond b (set e p x) e) n
-    go true h = record {
-      next = omega (arith, w .next, l);
-      room = w .room;
-      text = ap (λ (v : List A). set v p x) (w .text) ∙ set-append-left t (drop (0 + length t) d) p x (omega (arith, ltb-true p n h, w .next)) ∙ ap (λ (k : ℕ). set t p x ++ drop (0 + k) d) (sym l);
-    }
-    go false h = rw (set-out t p x (omega (arith, ltb-false p n h, w .next))) w
 
 -- an entry and the record that says it make the same of the slots
 module _ (s : List ℕ) (b : ℕ) where
@@ -98,3 +80,7 @@ module _ {s : List ℕ} {at : ℕ} {W₀ W : List Slot} {n : ℕ} {all : Bool} (
 
   pub slotted-bad : entriesIn (drop at s) ≡ none → (es : List Entry) → entriesIn s ≡ some es → ReadSlots es W₀ W (record { n = n; named = all })
   slotted-bad e es h = impossible (cc (passed-bad (w .passed) e))
+
+  -- a slot more has its place
+  pub slotted-room : {k b next : ℕ} → Found s at k b next → length s ≤ 4096 → n < 1024
+  slotted-room f h = omega (arith, w .few, f .body, f .more, f .inside)

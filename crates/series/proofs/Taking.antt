@@ -7,16 +7,16 @@ use mathlib.Core.List.{List}
 use lib.ListN.{length, take}
 use lib.Ieee.{Float}
 use borrow.Author.Tests.{le-leb, lt-leb}
-use Rattle.vectors.proofs.Texts.{wrote-take}
+use Rattle.vectors.proofs.Texts.{wrote-length, wrote-take}
 use Rattle.records.specs.Entries.{Slot, Entry, hoursOf}
-use Rattle.records.specs.Corrections.{weekOf}
+use Rattle.records.specs.Corrections.{weekOf, named}
 use Rattle.records.specs.Positions.{positionsOf}
 use Rattle.records.specs.Week.{Reading, unread, read, askHours}
 use Rattle.records.specs.declared.Settings.{Settings}
 use Rattle.series.specs.declared.Gathered.{Gathered}
 use Rattle.series.specs.declared.Week.the-variants.{Read}
 use Rattle.series.specs.Inner.{answer, Reads, slotsIn, ReadSlots, WroteHours}
-use Rattle.series.proofs.Arrays.{take-slots}
+use Rattle.series.proofs.Arrays.{take-slots, few-slots}
 
 -- question 13
 pub hours-many : (st : Settings) (ws : List Slot) → 168 < length (hoursOf ws) → askHours st ws ≡ unread 13
@@ -34,6 +34,21 @@ takes a {st} {ws} {y} {z} {q} {u} {n} e w =
     let m : n ≡ length (hoursOf ws) = omega (arith, w .hours .next) in
     rw e (record { said = ap (Read st) m; wrote = w .hours .text; numbered = w .positions .text })
 
--- the slots that were read, as question 13 gets them
-pub read-front : {es : List Entry} {W₀ : List Slot} (m : List Float) (t : List Bool) {r : Gathered} → ReadSlots es W₀ (slotsIn m t) r → slotsIn (take (r .n) m) (take (r .n) t) ≡ weekOf es
-read-front m t {r} w = take-slots (r .n) m t ∙ wrote-take (w .week) .0
+-- the week of entries, held by the first places of two arrays
+pub record Held (es : List Entry) (m : List Float) (t : List Bool) (r : Gathered) : Type 0 where
+  pub week : slotsIn (take (r .n) m) (take (r .n) t) ≡ weekOf es
+  pub ms : r .n ≤ length m
+  pub sounds : r .n ≤ length t
+  pub few : r .n ≤ 1024
+  pub names : r .named ≡ named es
+
+pub held : {es : List Entry} {W₀ : List Slot} (m : List Float) (t : List Bool) {r : Gathered} → ReadSlots es W₀ (slotsIn m t) r → Held es m t r
+held m t {r} w =
+    let l = few-slots m t in
+    record {
+      week = take-slots (r .n) m t ∙ wrote-take (w .week) .0;
+      ms = omega (arith, w .week .room, wrote-length (w .week), l .0);
+      sounds = omega (arith, w .week .room, wrote-length (w .week), l .1);
+      few = w .few;
+      names = w .names;
+    }

@@ -1,11 +1,14 @@
--- Laws of `Wrote`: one run after another is the two joined. Assumes nothing.
+-- Laws of `Wrote`: one run after another is the two joined, and one place of a run replaced. Assumes nothing.
 use mathlib.Core.Path.{_≡_, refl, sym, ap, ap₂, _∙_}
+use mathlib.Core.Bool.{Bool, true, false, cond}
 use Prim.Native.Nat.{ℕ, suc, _+_, _≤_, _<_}
 use native.Mathlib.Numerals.{add-one}
 use native.Mathlib.Omega.{arith}
 use mathlib.Core.List.{List, [], _∷_, _++_, append-assoc}
-use lib.ListN.{length, getD, take, drop, set, length-append, length-drop, take-append-drop}
-use lib.Seq.{take-suc, take-all, set-split, append-snoc, length-take-le, take-at, drop-at, drop-drop}
+use lib.ListN.{length, getD, take, drop, set, length-append, length-drop, length-set, take-append-drop}
+use lib.Seq.{take-suc, take-all, set-split, set-append-left, set-out, append-snoc, length-take-le, take-at, drop-at, drop-drop}
+use lib.Dec.{ltb}
+use borrow.Author.Tests.{ltb-true, ltb-false}
 use native.Mathlib.Nat.{add-zero, add-assoc}
 use mathlib.Core.List.{append-nil}
 use Rattle.vectors.specs.Parts.{Wrote}
@@ -70,3 +73,18 @@ pub wrote-take : {A : Type 0} {d t e : List A} {r : ℕ} → Wrote d 0 t e r →
 wrote-take {A} {d} {t} {e} {r} w =
     let n : length t ≡ r = omega (arith, w .next) in
     (ap (take r) (w .text) ∙ take-at t (drop (0 + length t) d) r n, ap (drop r) (w .text) ∙ drop-at t (drop (0 + length t) d) r n ∙ ap (λ (k : ℕ). drop k d) (sym (w .next)))
+
+-- one place replaced of what stands at the start, if it has that place
+pub wrote-set : {A : Type 0} {d t e : List A} {n : ℕ} (p : ℕ) (x : A) → Wrote d 0 t e n → Wrote d 0 (set t p x) (cond (ltb p n) (set e p x) e) n
+wrote-set {A} {d} {t} {e} {n} p x w = go (ltb p n) refl
+  where
+    l : length (set t p x) ≡ length t
+    l = length-set t p x
+
+    go : (b : Bool) → ltb p n ≡ b → Wrote d 0 (set t p x) (cond b (set e p x) e) n
+    go true h = record {
+      next = omega (arith, w .next, l);
+      room = w .room;
+      text = ap (λ (v : List A). set v p x) (w .text) ∙ set-append-left t (drop (0 + length t) d) p x (omega (arith, ltb-true p n h, w .next)) ∙ ap (λ (k : ℕ). set t p x ++ drop (0 + k) d) (sym l);
+    }
+    go false h = rw (set-out t p x (omega (arith, ltb-false p n h, w .next))) w

@@ -1,21 +1,13 @@
 use borrow.Author.Needs.{needs}
 use native.Mathlib.Omega.{arith}
-use Prim.Native.Nat.{ℕ, _-_, _≤_, _<_}
-use mathlib.Core.Bool.{Bool}
-use mathlib.Core.List.{List}
+use Prim.Native.Nat.{_-_}
 use lib.ListN.{length}
-use Rattle.records.specs.Entries.{Slot}
-use Rattle.records.specs.Inner.{Found}
 use Rattle.series.specs.Inner.{slotsIn}
 use Rattle.series.proofs.Arrays.{length-slots}
 use Rattle.records.proofs.Entries.{hour-inside, correction-inside}
-use Rattle.series.proofs.Gathering.{Slotted, slotted-none, slotted-more, slotted-all, slotted-bad}
+use Rattle.series.proofs.Gathering.{Slotted, slotted-none, slotted-more, slotted-all, slotted-bad, slotted-room}
 use Rattle.series.proofs.read_slots.Statement.{statement}
 use Rattle.series.proofs.read_slots.Tie as tie
-
--- a slot more has its place
-room : {s : List ℕ} {at k b next n : ℕ} {W₀ W : List Slot} {all : Bool} → Slotted s at W₀ W n all → Found s at k b next → length s ≤ 4096 → n < 1024
-room w f h = omega (arith, w .few, f .body, f .more, f .inside)
 
 abbrev Inv-loop : tie.InvT-loop
 Inv-loop s ms₀ sounds₀ at₀ n₀ named₀ ms sounds at n named = Slotted s at (slotsIn ms₀ sounds₀) (slotsIn ms sounds) n named
@@ -40,7 +32,7 @@ put-record-requires c κs = let k = c .before .before .before in
     let f = rw (k .kind .given .1) at (r .record-at .ensures) in
     let w = r .before .loop .inv in
     let st = r .before .before .before in
-    let h = room w f (st .pre) in
+    let h = slotted-room w f (st .pre) in
     ((hour-inside f, correction-inside f), (search needs, search needs))
 
 add-n : tie.Need-add-n Inv-loop μ-loop
@@ -59,7 +51,7 @@ loop-again c = let p = c .before in
     let r = k .before .before in
     let f = rw (k .kind .given .1) at (r .record-at .ensures) in
     let w = r .before .loop .inv in
-    slotted-more w f (omega (arith, room w f (r .before .before .before .pre), length-slots (r .before .loop .ms) (r .before .loop .sounds) (omega arith))) (p .put-record .ensures .1) (p .put-record .ensures .0) (c .slots .ensures)
+    slotted-more w f (omega (arith, slotted-room w f (r .before .before .before .pre), length-slots (r .before .loop .ms) (r .before .loop .sounds) (omega arith))) (p .put-record .ensures .1) (p .put-record .ensures .0) (c .slots .ensures)
 
 pub read-slots-spec : {M : Type 1} → statement M
 read-slots-spec =

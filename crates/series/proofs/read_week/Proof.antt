@@ -7,9 +7,8 @@ use denote.Ref.{now}
 use Rattle.records.specs.Week.{entriesIn}
 use Rattle.records.specs.Inner.{openingOf}
 use Rattle.records.specs.declared.Opening.the-variants.{Set}
-use Rattle.series.proofs.Arrays.{wrote-within}
 use Rattle.records.proofs.Asking.{Walked, walked, broken, week-long, week-broken, week-other, week-settings, week-unnamed, week-named}
-use Rattle.series.proofs.Taking.{refuses, read-front}
+use Rattle.series.proofs.Taking.{Held, held, refuses}
 use borrow.Author.Tests.{not-true, not-false}
 use borrow.Author.Needs.{needs}
 use Rattle.series.proofs.read_week.Statement.{statement}
@@ -60,32 +59,32 @@ read-slots-requires c κs = short (at-split (c .before .before .before .before))
 abbrev at-found : tie.After-read-slots → tie.After-found
 at-found r = r .before .before .before .before .before
 
+gathered : (r : tie.After-read-slots) → Held (split (at-split (at-found r)) .entries) (r .read-slots .last .1 .0) (r .read-slots .last .1 .1 .0) (r .read-slots .result)
+gathered r = held _ _ (r .read-slots .ensures _ (split (at-split (at-found r)) .splits))
+
 returns-5 : tie.Need-returns-5
 returns-5 c = let r = c .before .before in
     let o = at-found r in
     let e = at-split o in
     let f = split e in
-    refuses _ (week-unnamed _ (short e) (f .splits) (set o) (sym (f .settings) ∙ r .before .before .before .if2 .left) (sym (r .read-slots .ensures _ (f .splits) .names) ∙ not-true _ (c .if3 .taken)))
+    refuses _ (week-unnamed _ (short e) (f .splits) (set o) (sym (f .settings) ∙ r .before .before .before .if2 .left) (sym (gathered r .names) ∙ not-true _ (c .if3 .taken)))
 
 array-share-prefix-ms : tie.Need-array-share-prefix-ms
-array-share-prefix-ms c = let r = c .before .before in
-    wrote-within _ _ (r .read-slots .ensures _ (split (at-split (at-found r)) .splits) .week) .0
+array-share-prefix-ms c = gathered (c .before .before) .ms
 
 slice-aggregate-take-hours : tie.Need-slice-aggregate-take-hours
 slice-aggregate-take-hours c = sym (length-take-le _ _ (array-share-prefix-ms (c .before)))
 
 array-share-prefix-sounds : tie.Need-array-share-prefix-sounds
-array-share-prefix-sounds c = let r = c .before .before .before in
-    wrote-within _ _ (r .read-slots .ensures _ (split (at-split (at-found r)) .splits) .week) .1
+array-share-prefix-sounds c = gathered (c .before .before .before) .sounds
 
 slice-aggregate-take-hours-2 : tie.Need-slice-aggregate-take-hours-2
 slice-aggregate-take-hours-2 c = sym (length-take-le _ _ (array-share-prefix-sounds (c .before)))
 
 take-hours-requires : tie.Need-take-hours-requires
 take-hours-requires c κs = let q = c .before .before in
-    let r = q .before .before .before .before in
     let hs = slice-aggregate-take-hours (q .before) in
-    (sym hs ∙ slice-aggregate-take-hours-2 q, rw hs at (r .read-slots .ensures _ (split (at-split (at-found r)) .splits) .few))
+    (sym hs ∙ slice-aggregate-take-hours-2 q, rw hs at (gathered (q .before .before .before .before) .few))
 
 returns-6 : tie.Need-returns-6
 returns-6 c = let d = c .before .before .before .before .before in
@@ -93,9 +92,9 @@ returns-6 c = let d = c .before .before .before .before .before in
     let o = at-found r in
     let e = at-split o in
     let f = split e in
-    let w = r .read-slots .ensures _ (f .splits) in
+    let w = gathered r in
     let k = week-named _ (short e) (f .splits) (set o) (sym (f .settings) ∙ r .before .before .before .if2 .left) (sym (w .names) ∙ not-false _ (d .if3 .left)) in
-    rw (k, sym (read-front _ _ w)) (c .take-hours .ensures)
+    rw (k, sym (w .week)) (c .take-hours .ensures)
 
 pub read-week-spec : {M : Type 1} → statement M
 read-week-spec =
