@@ -1,10 +1,10 @@
--- Numbers of several bytes: two halves make one, and a body's numbers stand in the input. Assumes nothing.
+-- Numbers of several bytes: two halves make one, a body's numbers stand in the input, and how large they get. Assumes nothing.
 use mathlib.Core.Path.{_≡_, refl, sym, ap, ap₂, _∙_}
 use Prim.Native.Nat.{ℕ, zero, suc, _+_, _*_, _^_, _≤_, _<_}
 use native.Mathlib.Omega.{arith, pow-step}
 use mathlib.Core.List.{List, [], _∷_, _++_}
 use lib.ListN.{length, getD, take, drop, length-drop}
-use lib.Seq.{drop-cons, drop-drop, take-take, take-add, length-take-le}
+use lib.Seq.{drop-cons, drop-drop, take-take, take-add, length-take-le, getD-drop}
 use Rattle.framing.specs.Bytes.{littleEndian, numberAt}
 
 -- bytes, and then more
@@ -40,3 +40,13 @@ four-is s at h = halves s at 2 2 (omega arith)
 
 pub eight-is : (s : List ℕ) (at : ℕ) → at + 8 ≤ length s → numberAt at 4 s + 4294967296 * numberAt (at + 4) 4 s ≡ numberAt at 8 s
 eight-is s at h = halves s at 4 4 (omega arith)
+
+-- n bytes spell a number below 256^n
+below : (n : ℕ) (l : List ℕ) → ((i : ℕ) → getD l i 0 < 256) → littleEndian (take n l) < 256 ^ n
+unfolding littleEndian
+below zero l h = omega arith
+below (suc n) [] h = rw (pow-step 256 n) (omega (arith, below n [] h))
+below (suc n) (b ∷ l) h = rw (pow-step 256 n) (omega (arith, h 0, below n l (λ i. h (suc i))))
+
+pub number-below : (s : List ℕ) (at n : ℕ) → ((i : ℕ) → getD s i 0 < 256) → numberAt at n s < 256 ^ n
+number-below s at n h = below n (drop at s) (λ i. rw (getD-drop at s i 0) (h (at + i)))

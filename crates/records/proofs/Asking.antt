@@ -8,8 +8,9 @@ use mathlib.Core.Option.{Option, none, some}
 use lib.ListN.{length}
 use borrow.Author.Tests.{lt-ltb, le-ltb, eq-eqb, ne-eqb}
 use Rattle.float64.proofs.Clash.{impossible}
-use Rattle.records.specs.Entries.{Entry, slot, settings, correction, countSettings}
+use Rattle.records.specs.Entries.{Entry, slot, frames, settings, correction, countSettings}
 use Rattle.records.specs.Corrections.{extended, weekOf, names, namedFrom, named}
+use Rattle.records.specs.Rates.{rates, rated}
 use Rattle.records.specs.Week.{unread, entriesIn, askHours, askEntries, readWeek}
 use Rattle.records.specs.Inner.{tallyOf, openingOf}
 use Rattle.records.specs.declared.Settings.{Settings}
@@ -35,6 +36,7 @@ ask-other : (es : List Entry) → Other ≡ openingOf es → askEntries (some es
 unfolding askEntries
 ask-other [] e = refl
 ask-other (slot w ∷ es) e = refl
+ask-other (frames f ∷ es) e = refl
 ask-other (settings st ∷ es) e = impossible cc
 ask-other (correction p x ∷ es) e = refl
 
@@ -43,6 +45,7 @@ module _ {st : Settings} where
   first : (es : List Entry) → Set st ≡ openingOf es → (t : List Entry) × (es ≡ settings st ∷ t)
   first [] e = impossible cc
   first (slot w ∷ es) e = impossible cc
+  first (frames f ∷ es) e = impossible cc
   first (settings sd ∷ es) e = (es, ap (λ (x : Settings). settings x ∷ es) (let f : sd ≡ st = cc in f))
   first (correction p x ∷ es) e = impossible cc
 
@@ -56,8 +59,8 @@ module _ (st : Settings) (t : List Entry) where
     unfolding askEntries countSettings extended names namedFrom
     ask-unnamed n = rw (eq-eqb (countSettings t) 0 (omega (arith, c)), n)
 
-    ask-named : named (settings st ∷ t) ≡ true → askEntries (some (settings st ∷ t)) ≡ askHours st (weekOf (settings st ∷ t))
-    unfolding askEntries countSettings extended names namedFrom
+    ask-named : named (settings st ∷ t) ≡ true → askEntries (some (settings st ∷ t)) ≡ askHours st (weekOf (settings st ∷ t)) (rated (settings st ∷ t))
+    unfolding askEntries countSettings extended names namedFrom rates rated
     ask-named n = rw (eq-eqb (countSettings t) 0 (omega (arith, c)), n)
 
 pub week-long : (s : List ℕ) → 4096 < length s → readWeek s ≡ unread 11
@@ -85,5 +88,5 @@ module _ (s : List ℕ) (h : length s ≤ 4096) where
         pub week-unnamed : named es ≡ false → readWeek s ≡ unread 17
         week-unnamed n = let g = first es f in asked ∙ ap askEntries (e ∙ ap some (g .1)) ∙ ask-unnamed st (g .0) (rw (g .1) at c) (rw (g .1) at n)
 
-        pub week-named : named es ≡ true → readWeek s ≡ askHours st (weekOf es)
-        week-named n = let g = first es f in asked ∙ ap askEntries (e ∙ ap some (g .1)) ∙ ask-named st (g .0) (rw (g .1) at c) (rw (g .1) at n) ∙ ap (λ (x : List Entry). askHours st (weekOf x)) (sym (g .1))
+        pub week-named : named es ≡ true → readWeek s ≡ askHours st (weekOf es) (rated es)
+        week-named n = let g = first es f in asked ∙ ap askEntries (e ∙ ap some (g .1)) ∙ ask-named st (g .0) (rw (g .1) at c) (rw (g .1) at n) ∙ ap (λ (x : List Entry). askHours st (weekOf x) (rated x)) (sym (g .1))

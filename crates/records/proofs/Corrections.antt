@@ -7,24 +7,21 @@ use mathlib.Core.List.{List, [], _∷_, _++_, foldl, append-nil}
 use mathlib.Core.Option.{Option, none, some, Option·getD, orElse}
 use lib.ListN.{length, getD, set, length-append, length-set}
 use lib.Seq.{append-snoc, set-append-left, getD-append-add, getD-set-same, getD-set-other}
-use lib.Dec.{eqb, ltb, lit≤}
+use lib.Dec.{eqb, ltb}
 use borrow.Author.Tests.{ltb-true, ltb-false, eqb-true, eqb-false}
 use Rattle.float64.proofs.Clash.{clash}
 use Rattle.framing.specs.Bytes.{numberAt}
 use Rattle.framing.specs.Frames.{Rec, rec}
-use Rattle.records.specs.Entries.{Slot, silent, sounding, Entry, slot, settings, correction, millisecondsIn}
-use Rattle.records.specs.Positions.{slotsOf, countKind}
+use Rattle.overrun.specs.Overrun.{overrun}
+use Rattle.records.specs.Entries.{Slot, silent, sounding, Entry, slot, frames, settings, correction}
+use Rattle.records.specs.Positions.{Hour, slotsOf, countKind, hoursAmong}
 use Rattle.records.specs.Corrections.{extended, names, namedFrom, lastCorrection, CorrectedInFile}
-use Rattle.records.specs.Inner.{Says, hour, quiet, setup, repair}
-use Rattle.records.proofs.Positions.{AllSay, end, next, all-say}
-
--- how many of the records are hours
-abbrev hoursIn : List Rec → ℕ
-hoursIn rs = countKind 1 rs + countKind 2 rs
+use Rattle.records.specs.Inner.{Says, hour, quiet, setup, repair, framed}
+use Rattle.records.proofs.Positions.{AllSay, end, next, all-say, hour-says}
 
 -- what an entry adds to the week so far, by its record: only an hour adds a slot, and only a correction can be wrong or change one
 record Adds (ws : List Slot) (k : ℕ) (b : List ℕ) (e : Entry) : Type 0 where
-  long : (P : List Rec) → length (extended ws e) + hoursIn P ≡ length ws + hoursIn (rec k b ∷ P)
+  long : (P : List Rec) → length (extended ws e) + hoursAmong P ≡ length ws + hoursAmong (rec k b ∷ P)
   right : names ws e ≡ true → k ≡ 4 → numberAt 0 2 b < length ws
   wrong : names ws e ≡ false → (k ≡ 4) × (length ws ≤ numberAt 0 2 b)
   without : (P : List Rec) (es : List Entry) → countKind 4 (rec k b ∷ P) ≡ 0 → (countKind 4 P ≡ 0) × ((extended ws e ++ slotsOf es ≡ ws ++ slotsOf (e ∷ es)) × (names ws e ≡ true))
@@ -35,9 +32,10 @@ adds ws (hour k n e) = rw (e, k) (record { long = λ P. simp length-append (omeg
 adds ws (quiet k n e) = rw (e, k) (record { long = λ P. simp length-append (omega arith); right = λ h g. absurd (omega arith); wrong = λ h. absurd (clash refl h); without = λ P es h. (h, (append-snoc ws _ _, refl)) })
 adds ws (setup k n e) = rw (e, k) (record { long = λ P. refl; right = λ h g. absurd (omega arith); wrong = λ h. absurd (clash refl h); without = λ P es h. (h, (refl, refl)) })
 adds ws (repair k n e) = rw (e, k) (record { long = λ P. simp length-set; right = λ h g. ltb-true _ _ h; wrong = λ h. (refl, ltb-false _ _ h); without = λ P es h. absurd (omega arith) })
+adds ws (framed k n e) = rw (e, k) (record { long = λ P. simp length-append (omega arith); right = λ h g. absurd (omega arith); wrong = λ h. absurd (clash refl h); without = λ P es h. (h, (append-snoc ws _ _, refl)) })
 
 -- the laws of `Corrected`, each after a week so far
-count : {rs : List Rec} {es : List Entry} (ws : List Slot) → AllSay rs es → length (foldl extended ws es) ≡ length ws + hoursIn rs
+count : {rs : List Rec} {es : List Entry} (ws : List Slot) → AllSay rs es → length (foldl extended ws es) ≡ length ws + hoursAmong rs
 unfolding countKind
 count ws end = omega arith
 count ws (next {e} {rs} s t) = count (extended ws e) t ∙ adds ws s .long rs
@@ -46,23 +44,18 @@ count ws (next {e} {rs} s t) = count (extended ws e) t ∙ adds ws s .long rs
 slots-more : (e : Entry) (es : List Entry) → slotsOf (e ∷ es) ≡ extended [] e ++ slotsOf es
 unfolding slotsOf extended
 slots-more (slot w) es = refl
+slots-more (frames f) es = refl
 slots-more (settings st) es = refl
 slots-more (correction p x) es = refl
 
-slot-says : {k n : ℕ} {b : List ℕ} {e : Entry} → k ≤ 2 → Says k n b e → e ≡ slot (cond (eqb k 1) (sounding (millisecondsIn b)) silent)
-slot-says h (hour k n e) = rw (e, k)
-slot-says h (quiet k n e) = rw (e, k)
-slot-says h (setup k n e) = absurd (omega arith)
-slot-says h (repair k n e) = absurd (omega arith)
-
-said-at : (P Q : List Rec) (k : ℕ) (b : List ℕ) {es : List Entry} → k ≤ 2 → AllSay (P ++ rec k b ∷ Q) es → getD (slotsOf es) (hoursIn P) silent ≡ cond (eqb k 1) (sounding (millisecondsIn b)) silent
-unfolding slotsOf countKind
-said-at [] Q k b h (next s t) = rw (slot-says h s)
+said-at : (P Q : List Rec) (k : ℕ) (b : List ℕ) {w : Slot} {es : List Entry} → Hour (rec k b) w → AllSay (P ++ rec k b ∷ Q) es → getD (slotsOf es) (hoursAmong P) silent ≡ w
+unfolding countKind
+said-at [] Q k b h (next {es} s t) = rw (hour-says es h s)
 said-at (rec j c ∷ P) Q k b h (next {e} {es} s t) =
-    let a : hoursIn (rec j c ∷ P) ≡ length (extended [] e) + hoursIn P = omega (arith, adds [] s .long P) in
-    rw (a, slots-more e es) (getD-append-add (extended [] e) (slotsOf es) (hoursIn P) silent ∙ said-at P Q k b h t)
+    let a : hoursAmong (rec j c ∷ P) ≡ length (extended [] e) + hoursAmong P = omega (arith, adds [] s .long P) in
+    rw (a, slots-more e es) (getD-append-add (extended [] e) (slotsOf es) (hoursAmong P) silent ∙ said-at P Q k b h t)
 
-right : (P Q : List Rec) (b : List ℕ) {es : List Entry} (ws : List Slot) → AllSay (P ++ rec 4 b ∷ Q) es → namedFrom ws es ≡ true → numberAt 0 2 b < length ws + hoursIn P
+right : (P Q : List Rec) (b : List ℕ) {es : List Entry} (ws : List Slot) → AllSay (P ++ rec 4 b ∷ Q) es → namedFrom ws es ≡ true → numberAt 0 2 b < length ws + hoursAmong P
 unfolding namedFrom countKind
 right [] Q b ws (next {e} s t) h = omega (arith, adds ws s .right (and-eq-true-iff (names ws e) _ .0 h .0) refl)
 right (rec k c ∷ P) Q b ws (next {e} s t) h = omega (arith, right P Q b (extended ws e) t (and-eq-true-iff (names ws e) _ .0 h .1), adds ws s .long P)
@@ -73,7 +66,7 @@ record MisnamedAfter (n : ℕ) (rs : List Rec) : Type 0 where
   b : List ℕ
   Q : List Rec
   is : rs ≡ P ++ rec 4 b ∷ Q
-  none-has : n + hoursIn P ≤ numberAt 0 2 b
+  none-has : n + hoursAmong P ≤ numberAt 0 2 b
 
 -- one record and then others: its own correction is wrong, or a later one
 wrong-more : {ws : List Slot} {k : ℕ} {b : List ℕ} {e : Entry} (rs : List Rec) (u v : Bool) → Adds ws k b e → names ws e ≡ u → (v ≡ false → MisnamedAfter (length (extended ws e)) rs) → u && v ≡ false → MisnamedAfter (length ws) (rec k b ∷ rs)
@@ -108,16 +101,19 @@ last : (es : List Entry) (ws : List Slot) → namedFrom ws es ≡ true → (p : 
 unfolding namedFrom names extended slotsOf lastCorrection
 last [] ws h p = rw append-nil
 last (slot w ∷ es) ws h p = last es (ws ++ (w ∷ [])) h p ∙ rw append-snoc
+last (frames f ∷ es) ws h p = last es (ws ++ (sounding (overrun f) ∷ [])) h p ∙ rw append-snoc
 last (settings st ∷ es) ws h p = last es ws h p
 last (correction q x ∷ es) ws h p =
     let n = and-eq-true-iff (ltb q (length ws)) _ .0 h in
     last es (set ws q (sounding x)) (n .1) p ∙ corrected (lastCorrection p es) ws (slotsOf es) q p (sounding x) (ltb-true _ _ (n .0))
 
+hour-at : (P Q : List Rec) (r : Rec) {w : Slot} {es : List Entry} → Hour r w → AllSay (P ++ r ∷ Q) es → getD (slotsOf es) (hoursAmong P) silent ≡ w
+hour-at P Q (rec k b) = said-at P Q k b
+
 pub corrected-in-file : CorrectedInFile
 corrected-in-file rs es h = let t = all-say rs es h in record {
   count = omega (arith, count [] t);
-  hour = λ P Q b e. said-at P Q 1 b (lit≤ tt) (rw e at t);
-  quiet = λ P Q b e. said-at P Q 2 b (lit≤ tt) (rw e at t);
+  hour = λ P Q r w h e. hour-at P Q r h (rw e at t);
   last = last es [];
   right = λ n P Q b e. omega (arith, right P Q b [] (rw e at t) n);
   wrong = λ n. let w = wrong [] t n in record { P = w .P; b = w .b; Q = w .Q; is = w .is; none-has = omega (arith, w .none-has) };

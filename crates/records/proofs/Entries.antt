@@ -19,11 +19,11 @@ use Rattle.framing.specs.Places.{headAt}
 use Rattle.framing.specs.declared.Head.the-variants.{End, Bad, Record}
 use Rattle.framing.proofs.Numbers.{number-of-part}
 use Rattle.framing.proofs.Heads.{Opens, Heads, heads}
-use Rattle.records.specs.Entries.{Entry, slot, settings, correction, settingsIn, sized, entryOf, both, entries, countSettings}
+use Rattle.records.specs.Entries.{Entry, slot, frames, settings, correction, settingsIn, sized, entryOf, both, entries, countSettings}
 use Rattle.records.specs.Week.{entriesIn}
 use Rattle.records.specs.declared.Settings.{Settings}
 use Rattle.records.specs.declared.Opening.the-variants.{Other, Set}
-use Rattle.records.specs.Inner.{known, openingOf, Says, hour, quiet, setup, repair, Found}
+use Rattle.records.specs.Inner.{known, openingOf, Says, hour, quiet, setup, repair, framed, Found}
 
 -- an entry that a record of kind k says, whose body b has n bytes
 record Entered (k n : ℕ) (b : List ℕ) (o : Option Entry) : Type 0 where
@@ -53,7 +53,8 @@ module _ (k : ℕ) (b : List ℕ) where
       (by-kind 2 0 _ (λ g f. quiet g f refl)
       (by-kind 3 26 _ (λ g f. setup g f refl)
       (by-kind 4 6 _ (λ g f. repair g f refl)
-      (record { yes = λ h. absurd (clash h refl); no = λ h. refl }))))
+      (by-kind 5 12 _ (λ g f. framed g f refl)
+      (record { yes = λ h. absurd (clash h refl); no = λ h. refl })))))
 
   -- what a record says, by its kind
   pub entry-says : (e : Entry) → entryOf (rec k b) ≡ some e → Says k (length b) b e
@@ -123,45 +124,40 @@ says-count (hour k n e) = rw (e, k)
 says-count (quiet k n e) = rw (e, k)
 says-count (setup k n e) = rw (e, k)
 says-count (repair k n e) = rw (e, k)
+says-count (framed k n e) = rw (e, k)
 
--- the size of an hour's body and of a correction's, the settings, and no settings
-hour-size : {k n : ℕ} {b : List ℕ} {e : Entry} → Says k n b e → k ≡ 1 → n ≡ 4
-hour-size (hour k n e) h = n
-hour-size (quiet k n e) h = absurd (omega arith)
-hour-size (setup k n e) h = absurd (omega arith)
-hour-size (repair k n e) h = absurd (omega arith)
-
-correction-size : {k n : ℕ} {b : List ℕ} {e : Entry} → Says k n b e → k ≡ 4 → n ≡ 6
-correction-size (hour k n e) h = absurd (omega arith)
-correction-size (quiet k n e) h = absurd (omega arith)
-correction-size (setup k n e) h = absurd (omega arith)
-correction-size (repair k n e) h = n
+-- the size of its body, the settings, and no settings
+says-known : {k n : ℕ} {b : List ℕ} {e : Entry} → Says k n b e → known k n ≡ true
+says-known (hour k n e) = rw (k, n)
+says-known (quiet k n e) = rw (k, n)
+says-known (setup k n e) = rw (k, n)
+says-known (repair k n e) = rw (k, n)
+says-known (framed k n e) = rw (k, n)
 
 settings-size : {k n : ℕ} {b : List ℕ} {e : Entry} → Says k n b e → k ≡ 3 → (n ≡ 26) × (e ≡ settings (settingsIn b))
 settings-size (hour k n e) h = absurd (omega arith)
 settings-size (quiet k n e) h = absurd (omega arith)
 settings-size (setup k n e) h = (n, e)
 settings-size (repair k n e) h = absurd (omega arith)
+settings-size (framed k n e) h = absurd (omega arith)
 
 no-settings : {k n : ℕ} {b : List ℕ} {e : Entry} → Says k n b e → (k ≡ 3 → ⊥) → Other ≡ openingOf (e ∷ [])
 no-settings (hour k n e) h = rw e
 no-settings (quiet k n e) h = rw e
 no-settings (setup k n e) h = absurd (h k)
 no-settings (repair k n e) h = rw e
+no-settings (framed k n e) h = rw e
 
-module _ {s : List ℕ} {at k b n : ℕ} (f : Found s at k b n) where
-  pub hour-inside : k ≡ 1 → b + 4 ≤ length s
-  hour-inside h = omega (arith, hour-size (f .says) h, f .inside)
-
-  pub correction-inside : k ≡ 4 → b + 6 ≤ length s
-  correction-inside h = omega (arith, correction-size (f .says) h, f .inside)
-
-  pub settings-inside : k ≡ 3 → b + 26 ≤ length s
-  settings-inside h = omega (arith, settings-size (f .says) h .0, f .inside)
+-- a body of kind j, with m bytes, is inside
+pub body-inside : {s : List ℕ} {at k b n : ℕ} (j m : ℕ) → ((i : ℕ) → known j i ≡ eqb i m) → Found s at k b n → k ≡ j → b + m ≤ length s
+body-inside {b} {n} j m g f h =
+    let e = eqb-true (n - b) m (sym (g (n - b)) ∙ ap (λ (i : ℕ). known i (n - b)) (sym h) ∙ says-known (f .says)) in
+    omega (arith, e, f .more, f .inside)
 
 -- what comes first
 same-opening : (e : Entry) (t : List Entry) → openingOf (e ∷ []) ≡ openingOf (e ∷ t)
 same-opening (slot w) t = refl
+same-opening (frames f) t = refl
 same-opening (settings st) t = refl
 same-opening (correction p x) t = refl
 

@@ -10,8 +10,11 @@ use lib.ListN.{length, take, length-append}
 use Rattle.vectors.specs.Vec.{list}
 use Rattle.framing.specs.Bytes.{littleEndian, signed32}
 use Rattle.framing.specs.Frames.{recordsPast}
+use Rattle.overrun.specs.Fractions.{euclid}
+use Rattle.overrun.specs.Overrun.{overrun}
 use Rattle.records.specs.Entries.{Slot, silent, sounding, settingsIn, entryOf, entries, countSettings, hoursOf}
 use Rattle.records.specs.Corrections.{extended, names, namedFrom}
+use Rattle.records.specs.Rates.{rates, rated}
 use Rattle.records.specs.Week.{Reading, unread, read, readWeek, askEntries}
 use Rattle.records.specs.Positions.{positionsFrom, positionsOf}
 use Rattle.records.proofs.Asking.{week-long}
@@ -62,6 +65,22 @@ amended p₀ p₁ = 8 ∷ 0 ∷ 4 ∷ 0 ∷ p₀ ∷ p₁ ∷ 0 ∷ 0 ∷ 0 ∷ 
 abbrev amended-early : ℕ → ℕ → List ℕ
 amended-early p₀ p₁ = 8 ∷ 0 ∷ 4 ∷ 0 ∷ p₀ ∷ p₁ ∷ 255 ∷ 255 ∷ 255 ∷ 255 ∷ []
 
+-- an hour of n frames, and the rates 25/1, 30000/1001, 0/1 and 1/0
+abbrev frames : ℕ → List ℕ
+frames n = 14 ∷ 0 ∷ 5 ∷ 0 ∷ n ∷ 0 ∷ 0 ∷ 0 ∷ []
+
+abbrev whole-rate : List ℕ
+whole-rate = 25 ∷ 0 ∷ 0 ∷ 0 ∷ 1 ∷ 0 ∷ 0 ∷ 0 ∷ []
+
+abbrev odd-rate : List ℕ
+odd-rate = 48 ∷ 117 ∷ 0 ∷ 0 ∷ 233 ∷ 3 ∷ 0 ∷ 0 ∷ []
+
+abbrev zero-rate : List ℕ
+zero-rate = 0 ∷ 0 ∷ 0 ∷ 0 ∷ 1 ∷ 0 ∷ 0 ∷ 0 ∷ []
+
+abbrev no-rate : List ℕ
+no-rate = 1 ∷ 0 ∷ 0 ∷ 0 ∷ 0 ∷ 0 ∷ 0 ∷ 0 ∷ []
+
 -- settings whose lam and tol are patterns of a NaN, with the greatest max_iter, order 2 and penalty 255
 abbrev odd-settings : List ℕ
 odd-settings = 28 ∷ 0 ∷ 3 ∷ 0 ∷ 1 ∷ 0 ∷ 0 ∷ 0 ∷ 0 ∷ 0 ∷ 240 ∷ 127 ∷ 0 ∷ 0 ∷ 0 ∷ 0 ∷ 0 ∷ 0 ∷ 248 ∷ 255 ∷ 255 ∷ 255 ∷ 255 ∷ 255 ∷ 255 ∷ 255 ∷ 255 ∷ 255 ∷ 2 ∷ 255 ∷ []
@@ -87,7 +106,7 @@ table =
     ∷ (settings ++ take 3 quiet, 11 ∷ [])
     ∷ (settings ++ (0 ∷ 0 ∷ 2 ∷ 0 ∷ []), 11 ∷ [])
     ∷ (settings ++ (5 ∷ 0 ∷ 1 ∷ 0 ∷ 0 ∷ 0 ∷ 0 ∷ []), 11 ∷ [])
-    ∷ (settings ++ (2 ∷ 0 ∷ 5 ∷ 0 ∷ []), 11 ∷ [])
+    ∷ (settings ++ (2 ∷ 0 ∷ 6 ∷ 0 ∷ []), 11 ∷ [])
     -- the higher byte first
     ∷ (settings ++ (0 ∷ 2 ∷ 0 ∷ 2 ∷ []), 11 ∷ [])
     -- no settings, settings that are not the first record, settings twice
@@ -119,6 +138,16 @@ table =
     ∷ (settings ++ times 169 hour ++ amended 169 0, 17 ∷ [])
     ∷ (settings ++ times 168 hour ++ quiet ++ amended 168 0, 13 ∷ [])
     ∷ (settings ++ times 168 hour ++ amended 0 0 ++ amended 0 0, said ++ (0 ∷ []) ++ times 167 (0x40bf_4000_0000_0000 ∷ []) ++ (168 ∷ list 168 (λ i. i)))
+    -- hours in frames among others: 3 at 30000/1001, none, and 200 at 25/1, which is 8000 ms
+    ∷ (settings ++ quiet ++ frames 3 ++ odd-rate ++ frames 0 ++ odd-rate ++ hour ++ frames 200 ++ whole-rate, said ++ (pause ∷ 0x4059_0666_6666_6666 ∷ 0 ∷ 0x40bf_4000_0000_0000 ∷ 0x40bf_4000_0000_0000 ∷ 4 ∷ 1 ∷ 2 ∷ 3 ∷ 4 ∷ []))
+    -- one that is corrected, and a zero in a rate, also of no frames and of an hour that is corrected; a shorter body
+    ∷ (settings ++ frames 3 ++ odd-rate ++ amended-early 0 0, said ++ (0xbff0_0000_0000_0000 ∷ 1 ∷ 0 ∷ []))
+    ∷ (settings ++ frames 0 ++ zero-rate, 22 ∷ [])
+    ∷ (settings ++ frames 3 ++ no-rate ++ amended 0 0, 22 ∷ [])
+    ∷ (settings ++ (10 ∷ 0 ∷ 5 ∷ 0 ∷ 0 ∷ 0 ∷ 0 ∷ 0 ∷ []) ++ take 4 whole-rate, 11 ∷ [])
+    -- they count among the 168, and 13 comes before 22
+    ∷ (settings ++ times 168 hour ++ frames 3 ++ zero-rate, 13 ∷ [])
+    ∷ (settings ++ frames 3 ++ zero-rate ++ amended 1 0, 17 ∷ [])
     ∷ []
 
 says : List (List ℕ × List ℕ) → List (List ℕ)
@@ -130,7 +159,7 @@ expected [] = []
 expected (p ∷ ps) = p .1 ∷ expected ps
 
 known : says table ≡ expected table
-unfolding list positionsFrom patterns numbers times says expected table readWeek askEntries bind entries entryOf settingsIn extended names namedFrom countSettings hoursOf recordsPast littleEndian signed32 Ieee.ofBits Ieee.toBits Ieee.ofInt
+unfolding euclid overrun rates rated list positionsFrom patterns numbers times says expected table readWeek askEntries bind entries entryOf settingsIn extended names namedFrom countSettings hoursOf recordsPast littleEndian signed32 Ieee.ofBits Ieee.toBits Ieee.ofInt Ieee.round
 known = refl
 
 -- 4,098 bytes, all of them whole records, are too many; so are 4,097 of any kind

@@ -8,7 +8,7 @@ use mathlib.Core.List.{List, [], _∷_, _++_, append-assoc, append-nil}
 use mathlib.Core.Option.{Option, none, some, Option·map}
 use lib.ListN.{length, drop}
 use lib.Dec.{eqb}
-use Rattle.records.specs.Entries.{Entry, slot, settings, correction, countSettings}
+use Rattle.records.specs.Entries.{Entry, slot, frames, settings, correction, countSettings}
 use Rattle.records.specs.Week.{entriesIn}
 use Rattle.records.specs.Inner.{Found}
 use Rattle.records.proofs.Entries.{says-count}
@@ -47,6 +47,7 @@ count-append : (P Q : List Entry) → countSettings (P ++ Q) ≡ countSettings P
 unfolding countSettings
 count-append [] Q = omega arith
 count-append (slot w ∷ P) Q = count-append P Q
+count-append (frames f ∷ P) Q = count-append P Q
 count-append (settings st ∷ P) Q = omega (arith, count-append P Q)
 count-append (correction p x ∷ P) Q = count-append P Q
 

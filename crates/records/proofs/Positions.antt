@@ -1,18 +1,21 @@
 -- Laws of positions, which specs/Positions.antt states. Assumes nothing.
 use mathlib.Core.Path.{_≡_, refl, ap, _∙_}
+use mathlib.Core.Bool.{cond}
 use Prim.Native.Nat.{ℕ, zero, suc, _+_, _≤_, _<_}
 use native.Mathlib.Omega.{arith}
 use mathlib.Core.List.{List, [], _∷_, _++_}
 use mathlib.Core.Option.{Option, none, some}
 use lib.ListN.{length, getD, take}
+use lib.Dec.{eqb}
 use lib.Ieee.{Float}
 use Rattle.float64.proofs.Clash.{impossible}
 use Rattle.vectors.specs.Vec.{at, list}
 use Rattle.vectors.proofs.Laws.{list-is, list-ext}
 use Rattle.framing.specs.Frames.{Rec, rec}
+use Rattle.overrun.specs.Overrun.{framesIn, overrun}
 use Rattle.records.specs.Entries.{Slot, silent, sounding, Entry, millisecondsIn, both, entryOf, entries, hoursOf}
-use Rattle.records.specs.Positions.{positionsFrom, positionsOf, HasPosition, Positions, slotsOf, countKind, PositionsInFile}
-use Rattle.records.specs.Inner.{Says, hour, quiet, setup, repair}
+use Rattle.records.specs.Positions.{positionsFrom, positionsOf, HasPosition, Positions, Hour, in-milliseconds, in-silence, in-frames, slotsOf, countKind, soundingAmong, hoursAmong, PositionsInFile}
+use Rattle.records.specs.Inner.{Says, hour, quiet, setup, repair, framed}
 use Rattle.records.proofs.Entries.{entry-says}
 
 -- one position for each sounding hour
@@ -123,29 +126,62 @@ all-say (rec k b ∷ rs) es h =
     let w = parted (entryOf (rec k b)) (entries rs) es h in
     rw (w .all) (next (entry-says k b (w .first) (w .one)) (all-say rs (w .rest) (w .more)))
 
--- the same of a file whose first slot has position p
-record From (p : ℕ) (P : List Rec) (x : Float) (ws : List Slot) : Type 0 where
-  inside : countKind 1 P < length (hoursOf ws)
-  milliseconds : at (hoursOf ws) (countKind 1 P) ≡ x
-  position : getD (positionsFrom p ws) (countKind 1 P) 0 ≡ p + countKind 1 P + countKind 2 P
+-- the slots that a record says
+slotsSaid : Rec → List Slot
+slotsSaid (rec k b) = cond (eqb k 1) (sounding (millisecondsIn b) ∷ []) (cond (eqb k 2) (silent ∷ []) (cond (eqb k 5) (sounding (overrun (framesIn b)) ∷ []) []))
 
-from-first : {n : ℕ} {b : List ℕ} {e : Entry} (p : ℕ) (t : List Entry) → Says 1 n b e → From p [] (millisecondsIn b) (slotsOf (e ∷ t))
-unfolding positionsFrom hoursOf slotsOf countKind
-from-first p t (hour k l h) = rw h (record { inside = omega arith; milliseconds = refl; position = omega arith })
-from-first p t (quiet k l h) = absurd (omega arith)
-from-first p t (setup k l h) = absurd (omega arith)
-from-first p t (repair k l h) = absurd (omega arith)
+says-slots : {k n : ℕ} {b : List ℕ} {e : Entry} (t : List Entry) → Says k n b e → slotsOf (e ∷ t) ≡ slotsSaid (rec k b) ++ slotsOf t
+unfolding slotsOf slotsSaid
+says-slots t (hour k n e) = rw (e, k)
+says-slots t (quiet k n e) = rw (e, k)
+says-slots t (setup k n e) = rw (e, k)
+says-slots t (repair k n e) = rw (e, k)
+says-slots t (framed k n e) = rw (e, k)
 
-from-more : {k n : ℕ} {c : List ℕ} {e : Entry} (p : ℕ) (P : List Rec) (x : Float) (t : List Entry) → Says k n c e → ((q : ℕ) → From q P x (slotsOf t)) → From p (rec k c ∷ P) x (slotsOf (e ∷ t))
-unfolding positionsFrom hoursOf slotsOf countKind
-from-more p P x t (hour k l h) f = let w = f (suc p) in rw (h, k) (record { inside = omega (arith, w .inside); milliseconds = w .milliseconds; position = w .position ∙ omega arith })
-from-more p P x t (quiet k l h) f = let w = f (suc p) in rw (h, k) (record { inside = w .inside; milliseconds = w .milliseconds; position = w .position ∙ omega arith })
-from-more p P x t (setup k l h) f = let w = f p in rw (h, k) (record { inside = w .inside; milliseconds = w .milliseconds; position = w .position })
-from-more p P x t (repair k l h) f = let w = f p in rw (h, k) (record { inside = w .inside; milliseconds = w .milliseconds; position = w .position })
+hour-slot : {r : Rec} {w : Slot} → Hour r w → slotsSaid r ≡ w ∷ []
+unfolding slotsSaid
+hour-slot (in-milliseconds b) = refl
+hour-slot (in-silence b) = refl
+hour-slot (in-frames b) = refl
 
-from : (P Q : List Rec) (b : List ℕ) {es : List Entry} → AllSay (P ++ rec 1 b ∷ Q) es → (p : ℕ) → From p P (millisecondsIn b) (slotsOf es)
-from [] Q b (next {es} s t) p = from-first p es s
-from (rec k c ∷ P) Q b (next {es} s t) p = from-more p P (millisecondsIn b) es s (from P Q b t)
+pub hour-says : {k n : ℕ} {b : List ℕ} {w : Slot} {e : Entry} (t : List Entry) → Hour (rec k b) w → Says k n b e → slotsOf (e ∷ t) ≡ w ∷ slotsOf t
+hour-says t h s = says-slots t s ∙ ap (λ (v : List Slot). v ++ slotsOf t) (hour-slot h)
+
+-- what `InFile` says, of a week whose first slot has position p: place i is x, and its slot comes after q others
+record From (p i q : ℕ) (x : Float) (ws : List Slot) : Type 0 where
+  inside : i < length (hoursOf ws)
+  milliseconds : at (hoursOf ws) i ≡ x
+  position : getD (positionsFrom p ws) i 0 ≡ p + q
+
+from-first : (p : ℕ) (x : Float) (ws : List Slot) → From p 0 0 x (sounding x ∷ ws)
+unfolding positionsFrom hoursOf
+from-first p x ws = record { inside = omega arith; milliseconds = refl; position = omega arith }
+
+-- after one slot more
+from-sounding : {p i j q r : ℕ} {x y : Float} {ws : List Slot} → From (suc p) i q x ws → j ≡ suc i → r ≡ suc q → From p j r x (sounding y ∷ ws)
+unfolding positionsFrom hoursOf
+from-sounding w e g = rw (e, g) (record { inside = omega (arith, w .inside); milliseconds = w .milliseconds; position = w .position ∙ omega arith })
+
+from-silent : {p i j q r : ℕ} {x : Float} {ws : List Slot} → From (suc p) i q x ws → j ≡ i → r ≡ suc q → From p j r x (silent ∷ ws)
+unfolding positionsFrom hoursOf
+from-silent w e g = rw (e, g) (record { inside = w .inside; milliseconds = w .milliseconds; position = w .position ∙ omega arith })
+
+-- the place and the slots before it, of an hour after the records P
+abbrev FromRecords : ℕ → List Rec → Float → List Slot → Type 0
+FromRecords p P x ws = From p (soundingAmong P) (hoursAmong P) x ws
+
+from-more : {k n : ℕ} {c : List ℕ} {e : Entry} (p : ℕ) (P : List Rec) (x : Float) (t : List Entry) → Says k n c e → ((q : ℕ) → FromRecords q P x (slotsOf t)) → FromRecords p (rec k c ∷ P) x (slotsOf (e ∷ t))
+unfolding slotsOf countKind
+from-more p P x t (hour k l h) f = rw (h, k) (from-sounding (f (suc p)) (omega arith) (omega arith))
+from-more p P x t (quiet k l h) f = rw (h, k) (from-silent (f (suc p)) (omega arith) (omega arith))
+from-more p P x t (setup k l h) f = rw (h, k) (f p)
+from-more p P x t (repair k l h) f = rw (h, k) (f p)
+from-more p P x t (framed k l h) f = rw (h, k) (from-sounding (f (suc p)) (omega arith) (omega arith))
+
+from : (P Q : List Rec) (k : ℕ) (b : List ℕ) (x : Float) {es : List Entry} → Hour (rec k b) (sounding x) → AllSay (P ++ rec k b ∷ Q) es → (p : ℕ) → FromRecords p P x (slotsOf es)
+unfolding countKind
+from [] Q k b x h (next {es} s t) p = rw (hour-says es h s) (from-first p x (slotsOf es))
+from (rec j c ∷ P) Q k b x h (next {es} s t) p = from-more p P x es s (from P Q k b x h t)
 
 pub positions-in-file : PositionsInFile
-positions-in-file P Q b es e = let w = from P Q b (all-say _ es e) 0 in record { inside = w .inside; milliseconds = w .milliseconds; position = omega (arith, w .position) }
+positions-in-file P Q (rec k b) x es h e = let w = from P Q k b x h (all-say _ es e) 0 in record { inside = w .inside; milliseconds = w .milliseconds; position = omega (arith, w .position) }

@@ -8,12 +8,14 @@ use lib.ListN.{length, getD, set}
 use lib.Dec.{eqb, ltb}
 use Rattle.framing.specs.Bytes.{numberAt}
 use Rattle.framing.specs.Frames.{Rec, rec}
-use Rattle.records.specs.Entries.{Slot, silent, sounding, Entry, slot, settings, correction, millisecondsIn, entries}
-use Rattle.records.specs.Positions.{slotsOf, countKind}
+use Rattle.overrun.specs.Overrun.{overrun}
+use Rattle.records.specs.Entries.{Slot, silent, sounding, Entry, slot, frames, settings, correction, entries}
+use Rattle.records.specs.Positions.{Hour, hoursAmong, slotsOf, countKind}
 
 -- the week so far and one entry more: an hour is its next slot; a correction replaces the slot that it names, which then sounds
 unfoldable pub extended : List Slot → Entry → List Slot
 extended ws (slot w) = ws ++ (w ∷ [])
+extended ws (frames f) = ws ++ (sounding (overrun f) ∷ [])
 extended ws (settings st) = ws
 extended ws (correction p x) = set ws p (sounding x)
 
@@ -24,6 +26,7 @@ weekOf es = foldl extended [] es
 -- whether an entry names a slot of the week so far, if it is a correction
 unfoldable pub names : List Slot → Entry → Bool
 names ws (slot w) = true
+names ws (frames f) = true
 names ws (settings st) = true
 names ws (correction p x) = ltb p (length ws)
 
@@ -40,28 +43,28 @@ named es = namedFrom [] es
 unfoldable pub lastCorrection : ℕ → List Entry → Option Slot
 lastCorrection p [] = none
 lastCorrection p (slot w ∷ es) = lastCorrection p es
+lastCorrection p (frames f ∷ es) = lastCorrection p es
 lastCorrection p (settings st ∷ es) = lastCorrection p es
 lastCorrection p (correction q x ∷ es) = orElse (lastCorrection p es) (cond (eqb q p) (some (sounding x)) none)
 
--- some correction of the file, with the body b after the records P, has a position that no record of kind 1 or 2 before it has
+-- some correction of the file, with the body b after the records P, has a position that no hour before it has
 pub record Misnamed (rs : List Rec) : Type 0 where
   pub P : List Rec
   pub b : List ℕ
   pub Q : List Rec
   pub is : rs ≡ P ++ rec 4 b ∷ Q
-  pub none-has : countKind 1 P + countKind 2 P ≤ numberAt 0 2 b
+  pub none-has : hoursAmong P ≤ numberAt 0 2 b
 
 -- what is proved of the week of any file, with the records rs that say es
 pub record Corrected (rs : List Rec) (es : List Entry) : Type 0 where
-  -- the slots are as many as the records of kinds 1 and 2
-  pub count : length (weekOf es) ≡ countKind 1 rs + countKind 2 rs
-  -- the position of an hour counts the records of kinds 1 and 2 before it, P being all records before it, and there stands what it says
-  pub hour : (P Q : List Rec) (b : List ℕ) → rs ≡ P ++ rec 1 b ∷ Q → getD (slotsOf es) (countKind 1 P + countKind 2 P) silent ≡ sounding (millisecondsIn b)
-  pub quiet : (P Q : List Rec) (b : List ℕ) → rs ≡ P ++ rec 2 b ∷ Q → getD (slotsOf es) (countKind 1 P + countKind 2 P) silent ≡ silent
+  -- the slots are as many as the hours
+  pub count : length (weekOf es) ≡ hoursAmong rs
+  -- the position of an hour counts the hours before it, P being all records before it, and there stands what it says
+  pub hour : (P Q : List Rec) (r : Rec) (w : Slot) → Hour r w → rs ≡ P ++ r ∷ Q → getD (slotsOf es) (hoursAmong P) silent ≡ w
   -- a slot holds its last correction, or what its hour said
   pub last : named es ≡ true → (p : ℕ) → getD (weekOf es) p silent ≡ Option·getD (lastCorrection p es) (getD (slotsOf es) p silent)
   -- 17 is asked of the file: where it is answered yes each correction has the position of an earlier hour, and else one has not
-  pub right : named es ≡ true → (P Q : List Rec) (b : List ℕ) → rs ≡ P ++ rec 4 b ∷ Q → numberAt 0 2 b < countKind 1 P + countKind 2 P
+  pub right : named es ≡ true → (P Q : List Rec) (b : List ℕ) → rs ≡ P ++ rec 4 b ∷ Q → numberAt 0 2 b < hoursAmong P
   pub wrong : named es ≡ false → Misnamed rs
   -- without corrections the week is what its hours say, as in A1
   pub without : countKind 4 rs ≡ 0 → (weekOf es ≡ slotsOf es) × (named es ≡ true)

@@ -1,4 +1,4 @@
--- Document 01, "The weekly program": kind 1, an hour of signed 4-byte milliseconds; kind 2, a silent hour, empty; kind 3, settings: lam, tol (8 bytes each, bits of a double), max_iter (8), order, penalty (1 each). Document 02, A8: kind 4, a correction: a two-byte position and milliseconds.
+-- Document 01, "The weekly program": kind 1, an hour of signed 4-byte milliseconds; kind 2, a silent hour, empty; kind 3, settings: lam, tol (8 bytes each, bits of a double), max_iter (8), order, penalty (1 each). Document 02: kind 4, a correction, a two-byte position and milliseconds (A8); kind 5, an hour in frames (A14).
 use Prim.Native.Nat.{ℕ, suc, zero}
 use mathlib.Core.Bool.{cond}
 use mathlib.Core.List.{List, [], _∷_}
@@ -8,6 +8,7 @@ use lib.Dec.{eqb}
 use lib.Ieee.{Float, binary64, ofBits, ofInt}
 use Rattle.framing.specs.Bytes.{numberAt, signed32}
 use Rattle.framing.specs.Frames.{Rec, rec}
+use Rattle.overrun.specs.Overrun.{Frames, framesIn}
 use Rattle.records.specs.declared.Settings.{Settings}
 
 -- an hour of the week: silent, or sounding with its milliseconds
@@ -18,6 +19,7 @@ pub data Slot : Type 0 where
 -- what a record says
 pub data Entry : Type 0 where
   slot : Slot → Entry
+  frames : Frames → Entry
   settings : Settings → Entry
   correction : ℕ → Float → Entry
 
@@ -40,7 +42,8 @@ entryOf (rec k b) =
     (cond (eqb k 2) (sized 0 b (slot silent))
     (cond (eqb k 3) (sized 26 b (settings (settingsIn b)))
     (cond (eqb k 4) (sized 6 b (correction (numberAt 0 2 b) (millisecondsIn (drop 2 b))))
-    none)))
+    (cond (eqb k 5) (sized 12 b (frames (framesIn b)))
+    none))))
 
 -- one entry and then others, where there are both
 abbrev pub both : Option Entry → Option (List Entry) → Option (List Entry)
@@ -56,6 +59,7 @@ entries (r ∷ rs) = both (entryOf r) (entries rs)
 unfoldable pub countSettings : List Entry → ℕ
 countSettings [] = zero
 countSettings (slot w ∷ es) = countSettings es
+countSettings (frames f ∷ es) = countSettings es
 countSettings (correction p x ∷ es) = countSettings es
 countSettings (settings st ∷ es) = suc (countSettings es)
 

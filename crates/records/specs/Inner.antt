@@ -9,7 +9,8 @@ use lib.Dec.{eqb}
 use Rattle.framing.specs.Bytes.{numberAt}
 use Rattle.framing.specs.declared.Head.{Head}
 use Rattle.framing.specs.declared.Head.the-variants.{End, Bad, Record}
-use Rattle.records.specs.Entries.{Entry, slot, settings, correction, silent, sounding, millisecondsIn, settingsIn, countSettings}
+use Rattle.overrun.specs.Overrun.{framesIn}
+use Rattle.records.specs.Entries.{Entry, slot, frames, settings, correction, silent, sounding, millisecondsIn, settingsIn, countSettings}
 use Rattle.records.specs.Week.{entriesIn}
 use Rattle.records.specs.declared.Tally.{Tally}
 use Rattle.records.specs.declared.Tally.the-variants.{Broken, Whole}
@@ -25,12 +26,13 @@ tallyOf (some es) = Whole (countSettings es)
 abbrev pub openingOf : List Entry → Opening
 openingOf [] = Other
 openingOf (slot w ∷ es) = Other
+openingOf (frames f ∷ es) = Other
 openingOf (correction p x ∷ es) = Other
 openingOf (settings st ∷ es) = Set st
 
 -- whether a kind has bodies of n bytes
 abbrev pub known : ℕ → ℕ → Bool
-known k n = cond (eqb k 1) (eqb n 4) (cond (eqb k 2) (eqb n 0) (cond (eqb k 3) (eqb n 26) (cond (eqb k 4) (eqb n 6) false)))
+known k n = cond (eqb k 1) (eqb n 4) (cond (eqb k 2) (eqb n 0) (cond (eqb k 3) (eqb n 26) (cond (eqb k 4) (eqb n 6) (cond (eqb k 5) (eqb n 12) false))))
 
 -- an entry, by the kind and the size of its record's body
 pub data Says (k n : ℕ) (b : List ℕ) (e : Entry) : Type 0 where
@@ -38,6 +40,7 @@ pub data Says (k n : ℕ) (b : List ℕ) (e : Entry) : Type 0 where
   quiet : k ≡ 2 → n ≡ 0 → e ≡ slot silent → Says k n b e
   setup : k ≡ 3 → n ≡ 26 → e ≡ settings (settingsIn b) → Says k n b e
   repair : k ≡ 4 → n ≡ 6 → e ≡ correction (numberAt 0 2 b) (millisecondsIn (drop 2 b)) → Says k n b e
+  framed : k ≡ 5 → n ≡ 12 → e ≡ frames (framesIn b) → Says k n b e
 
 -- a record that says an entry stands at a place, its body from b up to n, where the next records start
 pub record Found (s : List ℕ) (at k b n : ℕ) : Type 0 where

@@ -10,7 +10,8 @@ use lib.Ieee.{Float}
 use Rattle.vectors.specs.Vec.{at, list}
 use Rattle.vectors.specs.Rising.{Rising}
 use Rattle.framing.specs.Frames.{Rec, rec}
-use Rattle.records.specs.Entries.{Slot, silent, sounding, Entry, slot, settings, correction, millisecondsIn, entries, hoursOf}
+use Rattle.overrun.specs.Overrun.{framesIn, overrun}
+use Rattle.records.specs.Entries.{Slot, silent, sounding, Entry, slot, frames, settings, correction, millisecondsIn, entries, hoursOf}
 
 -- the positions of the sounding hours among slots of which the first has position p
 unfoldable pub positionsFrom : ℕ → List Slot → List ℕ
@@ -43,6 +44,7 @@ pub record Positions (ws : List Slot) : Type 0 where
 unfoldable pub slotsOf : List Entry → List Slot
 slotsOf [] = []
 slotsOf (slot w ∷ es) = w ∷ slotsOf es
+slotsOf (frames f ∷ es) = sounding (overrun f) ∷ slotsOf es
 slotsOf (settings st ∷ es) = slotsOf es
 slotsOf (correction p x ∷ es) = slotsOf es
 
@@ -51,12 +53,26 @@ unfoldable pub countKind : ℕ → List Rec → ℕ
 countKind k [] = zero
 countKind k (rec j b ∷ rs) = cond (eqb j k) (suc (countKind k rs)) (countKind k rs)
 
--- in the file, corrections left aside: the place of an hour counts the records of kind 1 before it, P being all records before it, and its position those of kinds 1 and 2
-pub record InFile (P : List Rec) (b : List ℕ) (ws : List Slot) : Type 0 where
-  pub inside : countKind 1 P < length (hoursOf ws)
-  pub milliseconds : at (hoursOf ws) (countKind 1 P) ≡ millisecondsIn b
-  pub position : getD (positionsOf ws) (countKind 1 P) 0 ≡ countKind 1 P + countKind 2 P
+-- which records are hours, and the slots that they say: kinds 1, 2 and 5 (A14)
+pub data Hour : Rec → Slot → Type 0 where
+  in-milliseconds : (b : List ℕ) → Hour (rec 1 b) (sounding (millisecondsIn b))
+  in-silence : (b : List ℕ) → Hour (rec 2 b) silent
+  in-frames : (b : List ℕ) → Hour (rec 5 b) (sounding (overrun (framesIn b)))
 
--- so for every hour, with the body b, of every file
+-- how many of the records are hours that sound
+abbrev pub soundingAmong : List Rec → ℕ
+soundingAmong rs = countKind 1 rs + countKind 5 rs
+
+-- how many are hours, silent ones too
+abbrev pub hoursAmong : List Rec → ℕ
+hoursAmong rs = soundingAmong rs + countKind 2 rs
+
+-- in the file, corrections left aside: the place of an hour counts the sounding ones before it, P being all records before it, and its position all hours before it
+pub record InFile (P : List Rec) (x : Float) (ws : List Slot) : Type 0 where
+  pub inside : soundingAmong P < length (hoursOf ws)
+  pub milliseconds : at (hoursOf ws) (soundingAmong P) ≡ x
+  pub position : getD (positionsOf ws) (soundingAmong P) 0 ≡ hoursAmong P
+
+-- so for every hour that sounds, with x milliseconds, of every file
 abbrev pub PositionsInFile : Type 0
-PositionsInFile = (P Q : List Rec) (b : List ℕ) (es : List Entry) → entries (P ++ rec 1 b ∷ Q) ≡ some es → InFile P b (slotsOf es)
+PositionsInFile = (P Q : List Rec) (r : Rec) (x : Float) (es : List Entry) → Hour r (sounding x) → entries (P ++ r ∷ Q) ≡ some es → InFile P x (slotsOf es)

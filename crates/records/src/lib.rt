@@ -38,6 +38,7 @@ fn is_known(kind: u64, size: usize) -> bool
         2 => size == 0,
         3 => size == 26,
         4 => size == 6,
+        5 => size == 12,
         _ => false,
     }
 }

@@ -1,6 +1,6 @@
 -- From the tests of `take_hours` and the slots that were read to a reading. Assumes nothing.
 use mathlib.Core.Path.{_≡_, refl, ap, _∙_}
-use mathlib.Core.Bool.{Bool}
+use mathlib.Core.Bool.{Bool, true, false}
 use Prim.Native.Nat.{ℕ, _≤_, _<_}
 use native.Mathlib.Omega.{arith}
 use mathlib.Core.List.{List}
@@ -10,6 +10,7 @@ use borrow.Author.Tests.{le-leb, lt-leb}
 use Rattle.vectors.proofs.Texts.{wrote-length, wrote-take}
 use Rattle.records.specs.Entries.{Slot, Entry, hoursOf}
 use Rattle.records.specs.Corrections.{weekOf, named}
+use Rattle.records.specs.Rates.{rated}
 use Rattle.records.specs.Positions.{positionsOf}
 use Rattle.records.specs.Week.{Reading, unread, read, askHours}
 use Rattle.records.specs.declared.Settings.{Settings}
@@ -18,12 +19,15 @@ use Rattle.series.specs.declared.Week.the-variants.{Read}
 use Rattle.series.specs.Inner.{answer, Reads, slotsIn, ReadSlots, WroteHours}
 use Rattle.series.proofs.Arrays.{take-slots, few-slots}
 
--- question 13
-pub hours-many : (st : Settings) (ws : List Slot) → 168 < length (hoursOf ws) → askHours st ws ≡ unread 13
-hours-many st ws h = simp (lt-leb _ _ h)
+-- questions 13 and 22
+pub hours-many : (st : Settings) (ws : List Slot) (r : Bool) → 168 < length (hoursOf ws) → askHours st ws r ≡ unread 13
+hours-many st ws r h = simp (lt-leb _ _ h)
 
-pub hours-few : (st : Settings) (ws : List Slot) → length (hoursOf ws) ≤ 168 → askHours st ws ≡ read st ws
-hours-few st ws h = simp (le-leb _ _ h)
+pub hours-unrated : (st : Settings) (ws : List Slot) (r : Bool) → length (hoursOf ws) ≤ 168 → r ≡ false → askHours st ws r ≡ unread 22
+hours-unrated st ws r h e = simp (le-leb _ _ h, e)
+
+pub hours-rated : (st : Settings) (ws : List Slot) (r : Bool) → length (hoursOf ws) ≤ 168 → r ≡ true → askHours st ws r ≡ read st ws
+hours-rated st ws r h e = simp (le-leb _ _ h, e)
 
 -- a refusal, as the contract has it, and a week that is taken
 pub refuses : (a : Reading) {k : ℕ} {y : List Float} {q : List ℕ} → a ≡ unread k → Reads a (answer (unread k)) y y q q
@@ -41,6 +45,7 @@ pub record Held (es : List Entry) (m : List Float) (t : List Bool) (r : Gathered
   pub sounds : r .n ≤ length t
   pub few : r .n ≤ 1024
   pub names : r .named ≡ named es
+  pub rates : r .rated ≡ rated es
 
 pub held : {es : List Entry} {W₀ : List Slot} (m : List Float) (t : List Bool) {r : Gathered} → ReadSlots es W₀ (slotsIn m t) r → Held es m t r
 held m t {r} w =
@@ -51,4 +56,5 @@ held m t {r} w =
       sounds = omega (arith, w .week .room, wrote-length (w .week), l .1);
       few = w .few;
       names = w .names;
+      rates = w .rates;
     }

@@ -8,18 +8,19 @@ ghost use mathlib.Core.List.{List, _∷_, []};
 ghost use mathlib.Core.Option.{some};
 ghost use Prim.Native.Nat.{_+_, _≤_, _<_};
 ghost use lib.Dec.{ltb};
-ghost use lib.ListN.{length};
+ghost use lib.ListN.{length, set};
 ghost use lib.Ieee.{Float};
 ghost use Rattle.framing.specs.Bytes.{numberAt};
-ghost use Rattle.records.specs.Entries.{Entry, hoursOf};
+ghost use Rattle.records.specs.Entries.{Entry, sounding, hoursOf};
 ghost use Rattle.records.specs.Positions.{positionsFrom, positionsOf};
 ghost use Rattle.records.specs.Week.{readWeek, entriesIn, askHours};
-ghost use Rattle.series.specs.Inner.{Reads, slotsAt, slotWith, slotsIn, soundedAt, correctedAt, slotsOnce, namesAt, ReadSlots, WroteHours};
+ghost use Rattle.series.specs.Inner.{Reads, slotsAt, slotWith, slotsIn, saidAt, correctedAt, slotsOnce, namesAt, ReadSlots, WroteHours};
 
-// How many slots the week has, and whether every correction names an earlier one.
+// How many slots the week has, whether every correction names an earlier one, and whether every rate counts.
 struct Gathered {
     n: usize,
     named: bool,
+    rated: bool,
 }
 
 // A refusal's number, or the settings and how many hours there are.
@@ -35,58 +36,72 @@ fn slots(kind: u64) -> usize
     match kind {
         1 => 1,
         2 => 1,
+        5 => 1,
         _ => 0,
     }
 }
 
-// Slot p sounds with the milliseconds at a place of the input.
-fn sound(s: &[u8], at: usize, ms: &mut [f64], sounds: &mut [bool], p: usize)
-    requires { ⌜ (at + 4 ≤ length (now s)) × (p < length (now ms)) × (p < length (now sounds)) ⌝ }
-    ensures { λ r. ⌜ slotsIn (now (ms .exit)) (now (sounds .exit)) ≡ soundedAt (now (s .entry)) at p (slotsIn (now (ms .entry)) (now (sounds .entry))) ⌝ }
+// The milliseconds that a record says: NaN where question 22 refuses its rate, and 0 where it says none.
+fn said(s: &[u8], kind: u64, body: usize) -> f64
+    requires { ⌜ (kind ≡ 1 → body + 4 ≤ length (now s)) × (kind ≡ 4 → body + 6 ≤ length (now s)) × (kind ≡ 5 → body + 12 ≤ length (now s)) ⌝ }
+    ensures { λ r. ⌜ r ≡ saidAt (now (s .entry)) kind body ⌝ }
 {
-    ms[p] = framing::signed(framing::four(s, at));
+    match kind {
+        1 => framing::signed(framing::four(s, body)),
+        4 => framing::signed(framing::four(s, body + 2)),
+        5 => overrun::milliseconds(s, body),
+        _ => 0.0,
+    }
+}
+
+// Slot p sounds with x milliseconds.
+fn sound(x: f64, ms: &mut [f64], sounds: &mut [bool], p: usize)
+    requires { ⌜ (p < length (now ms)) × (p < length (now sounds)) ⌝ }
+    ensures { λ r. ⌜ slotsIn (now (ms .exit)) (now (sounds .exit)) ≡ set (slotsIn (now (ms .entry)) (now (sounds .entry))) p (sounding x) ⌝ }
+{
+    ms[p] = x;
     sounds[p] = true;
 }
 
-// Makes the slot that a correction names sound, if it is one of the first n, and answers whether it is.
-fn correct(s: &[u8], body: usize, ms: &mut [f64], sounds: &mut [bool], n: usize) -> bool
+// Makes the slot that a correction names sound with x milliseconds, if it is one of the first n, and answers whether it is.
+fn correct(s: &[u8], body: usize, x: f64, ms: &mut [f64], sounds: &mut [bool], n: usize) -> bool
     requires { ⌜ (body + 6 ≤ length (now s)) × (n < length (now ms)) × (n < length (now sounds)) ⌝ }
     ensures { λ r. ⌜ r ≡ ltb (numberAt body 2 (now (s .entry))) n ⌝ }
-    ensures { λ r. ⌜ slotsIn (now (ms .exit)) (now (sounds .exit)) ≡ correctedAt (now (s .entry)) body n (slotsIn (now (ms .entry)) (now (sounds .entry))) ⌝ }
+    ensures { λ r. ⌜ slotsIn (now (ms .exit)) (now (sounds .exit)) ≡ correctedAt (now (s .entry)) body x n (slotsIn (now (ms .entry)) (now (sounds .entry))) ⌝ }
 {
     let p = framing::two(s, body) as usize;
     if p < n {
-        sound(s, body + 2, ms, sounds, p);
+        sound(x, ms, sounds, p);
         true
     } else {
         false
     }
 }
 
-// Puts what a record says into the week, of which n slots stand already. Answers whether it names one of them, if it is a correction.
+// Puts a record that says x milliseconds into the week, of which n slots stand already. Answers whether it names one of them, if it is a correction.
 fn put_record(
     s: &[u8],
     kind: u64,
     body: usize,
+    x: f64,
     ms: &mut [f64],
     sounds: &mut [bool],
     n: usize,
 ) -> bool
-    requires { ⌜ (kind ≡ 1 → body + 4 ≤ length (now s)) × (kind ≡ 4 → body + 6 ≤ length (now s)) ⌝ }
-    requires { ⌜ (n < length (now ms)) × (n < length (now sounds)) ⌝ }
+    requires { ⌜ (kind ≡ 4 → body + 6 ≤ length (now s)) × (n < length (now ms)) × (n < length (now sounds)) ⌝ }
     ensures { λ r. ⌜ r ≡ namesAt (now (s .entry)) kind body n ⌝ }
-    ensures { λ r. ⌜ slotsIn (now (ms .exit)) (now (sounds .exit)) ≡ slotsOnce (now (s .entry)) kind body n (slotsIn (now (ms .entry)) (now (sounds .entry))) ⌝ }
+    ensures { λ r. ⌜ slotsIn (now (ms .exit)) (now (sounds .exit)) ≡ slotsOnce (now (s .entry)) kind body x n (slotsIn (now (ms .entry)) (now (sounds .entry))) ⌝ }
 {
     match kind {
-        1 => {
-            sound(s, body, ms, sounds, n);
+        1 | 5 => {
+            sound(x, ms, sounds, n);
             true
         }
         2 => {
             sounds[n] = false;
             true
         }
-        4 => correct(s, body, ms, sounds, n),
+        4 => correct(s, body, x, ms, sounds, n),
         _ => true,
     }
 }
@@ -99,16 +114,19 @@ fn read_slots(s: &[u8], ms: &mut [f64; 1024], sounds: &mut [bool; 1024]) -> Gath
     let mut at: usize = 0;
     let mut n: usize = 0;
     let mut named = true;
+    let mut rated = true;
     loop {
         match records::record_at(s, at) {
             Head::End => {
-                return Gathered { n, named };
+                return Gathered { n, named, rated };
             }
             Head::Bad => {
-                return Gathered { n, named };
+                return Gathered { n, named, rated };
             }
             Head::Record { kind, body, next } => {
-                named = named & put_record(s, kind, body, ms, sounds, n);
+                let x = said(s, kind, body);
+                named = named & put_record(s, kind, body, x, ms, sounds, n);
+                rated = rated & (x == x);
                 n = n + slots(kind);
                 at = next;
             }
@@ -158,25 +176,29 @@ fn close_up(ms: &[f64], sounds: &[bool], y: &mut [f64], positions: &mut [u32]) -
     n
 }
 
-// Question 13 over a week, and then its hours and their positions.
+// Questions 13 and 22 over a week, and then its hours and their positions.
 fn take_hours(
     st: Settings,
+    rated: bool,
     ms: &[f64],
     sounds: &[bool],
     y: &mut [f64; 168],
     positions: &mut [u32; 168],
 ) -> Week
     requires { ⌜ (length (now ms) ≡ length (now sounds)) × (length (now ms) ≤ 1024) ⌝ }
-    ensures { λ r. ⌜ Reads (askHours st (slotsIn (now (ms .entry)) (now (sounds .entry)))) r (now (y .entry)) (now (y .exit)) (now (positions .entry)) (now (positions .exit)) ⌝ }
+    ensures { λ r. ⌜ Reads (askHours st (slotsIn (now (ms .entry)) (now (sounds .entry))) rated) r (now (y .entry)) (now (y .exit)) (now (positions .entry)) (now (positions .exit)) ⌝ }
 {
     if sounding(sounds) > 168 {
         return Week::Refused(13);
+    }
+    if !rated {
+        return Week::Refused(22);
     }
     let n = close_up(ms, sounds, y, positions);
     Week::Read { settings: st, n }
 }
 
-// Questions 11, 12, 17 and 13 over the bytes of a week, and then its settings and its hours, which go to the start of y, and their positions to the start of positions.
+// Questions 11, 12, 17, 13 and 22 over the bytes of a week, and then its settings and its hours, which go to the start of y, and their positions to the start of positions.
 pub fn read_week(s: &[u8], y: &mut [f64; 168], positions: &mut [u32; 168]) -> Week
     ensures { λ r. ⌜ Reads (readWeek (now (s .entry))) r (now (y .entry)) (now (y .exit)) (now (positions .entry)) (now (positions .exit)) ⌝ }
 {
@@ -198,5 +220,12 @@ pub fn read_week(s: &[u8], y: &mut [f64; 168], positions: &mut [u32; 168]) -> We
     if !week.named {
         return Week::Refused(17);
     }
-    take_hours(found, &ms[..week.n], &sounds[..week.n], y, positions)
+    take_hours(
+        found,
+        week.rated,
+        &ms[..week.n],
+        &sounds[..week.n],
+        y,
+        positions,
+    )
 }

@@ -15,22 +15,9 @@ use Rattle.square_root.specs.Sqrt.{nearestRoot, sqrtOf}
 use Rattle.float64.specs.Ops.{c0}
 use Rattle.square_root.specs.Nearest.{Further, NearestRoot, SquareRoot}
 use Rattle.float64.specs.Units.{inUnits, hasMinus}
-use Rattle.square_root.proofs.Root.{Cmp, cmp}
 use Rattle.float64.proofs.Doubles.{Fit, fit-of, double-grid, squares-grid, same-double}
+use Rattle.float64.proofs.Spacing.{Cmp, cmp, value-finite, value-sign}
 use Rattle.square_root.proofs.Nearest.{Nearer, digits, kept, root-value, root-fits, root-nearer, squares-ge, squares-lt}
-
--- ---- a value with no minus is finite and has no minus
-
-value-finite : (x : Float) (a c : ℕ) → HasValue x false a c → isFinite x ≡ true
-unfolding isFinite
-value-finite nan a c v = absurd v
-value-finite (inf s) a c v = absurd v
-value-finite (fin s m e) a c v = refl
-
-value-no-minus : (x : Float) (a c : ℕ) → HasValue x false a c → hasMinus x ≡ false
-value-no-minus nan a c v = absurd v
-value-no-minus (inf s) a c v = absurd v
-value-no-minus (fin s m e) a c v = v .0
 
 -- ---- a number other than r is further
 
@@ -64,10 +51,10 @@ module _ (m : ℕ) (e : ℤ) (f : T (fits binary64 (fin false (suc m) e))) where
   fit = root-fits n (squares-ge m e h) (squares-lt m e h)
 
   finite : isFinite (nearestRoot n) ≡ true
-  finite = value-finite (nearestRoot n) (digits n * 2 ^ kept n) (2 ^ 1074) value
+  finite = value-finite (nearestRoot n) false (digits n * 2 ^ kept n) (2 ^ 1074) value
 
   plus : hasMinus (nearestRoot n) ≡ false
-  plus = value-no-minus (nearestRoot n) (digits n * 2 ^ kept n) (2 ^ 1074) value
+  plus = value-sign (nearestRoot n) false (digits n * 2 ^ kept n) (2 ^ 1074) value
 
   near : (z : Float) → T (fits binary64 z) → Nearer n (inUnits (nearestRoot n)) (inUnits z)
   near z g = root-nearer n (squares-ge m e h) (squares-lt m e h) (inUnits z) (squares-grid false (suc m) e h) (double-grid z g)

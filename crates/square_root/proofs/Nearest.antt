@@ -1,43 +1,29 @@
 -- The double that `nearestRoot` names, and how far the others are from the root of n. Assumes nothing.
 use mathlib.Core.Path.{_≡_, refl, sym, ap, _∙_, subst}
-use mathlib.Core.Logic.{_⊎_, inl, inr}
+use mathlib.Core.Logic.{inl, inr}
 use Prim.Native.Nat.{ℕ, suc, _+_, _-_, _*_, _/_, _^_, _≤_, _<_, zero-le, compare, Ordering, Ordering·lt, Ordering·eq, Ordering·gt}
-use native.Mathlib.Nat.{le-trans, le-of-lt, le-of-eq, le-of-suc-le-suc, lt-of-lt-of-le, lt-of-le-of-lt, lt-of-not-le, not-le-of-lt, zero-lt-suc, mul-le-mul, mul-le-mul-right, mul-le-mul-left, mul-pos, mul-assoc, mul-right-comm, mul-mul-mul-comm, mul-lt-mul-of-pos-right, lt-of-mul-lt-mul-right, eq-of-mul-eq-mul-right, mul-div-cancel, pow-succ', le-div-iff-mul-le, div-lt-iff-lt-mul}
-use native.Mathlib.Decide.{decLe}
+use native.Mathlib.Nat.{le-trans, le-of-lt, le-of-eq, le-of-suc-le-suc, lt-of-lt-of-le, lt-of-le-of-lt, lt-of-not-le, not-le-of-lt, zero-lt-suc, mul-le-mul, mul-le-mul-right, mul-le-mul-left, mul-pos, mul-assoc, mul-right-comm, mul-mul-mul-comm, mul-lt-mul-of-pos-right, eq-of-mul-eq-mul-right, le-div-iff-mul-le, div-lt-iff-lt-mul}
 use native.Mathlib.Omega.{arith}
 use mathlib.Core.Bool.{false}
 use lib.IntN.{ℤ}
 use lib.Dec.{T, ltb, lt→ltb, lit≤, lit<}
 use lib.Pow.{pow-add, pow-pos, pow-mono}
-use lib.Ieee.{Float, nan, inf, fin, binary64, up, down, size, nearest, units, fits}
-use lib.Ieee.Digits.{size-lt, size-reaches, size-le, back}
+use lib.Ieee.{Float, binary64, up, down, size, nearest, units, fits}
+use lib.Ieee.Digits.{size-lt, size-reaches, size-le}
 use lib.Ieee.Exact.{HasValue, units-val}
 use lib.Ieee.Fits.{up-pos, down-pos, nearest-le, odd-fits}
 use lib.Ieee.Bits.{is-true}
 use Rattle.square_root.specs.Sqrt.{isqrt, nearestRoot}
 use Rattle.float64.specs.Units.{inUnits}
-use Rattle.square_root.proofs.Root.{Cmp, cmp, Root, sq-back, isqrt-root}
+use Rattle.square_root.proofs.Root.{Root, sq-back, isqrt-root}
 use Rattle.float64.proofs.Doubles.{Grid, Fit}
+use Rattle.float64.proofs.Spacing.{Cmp, cmp, spaced, gap, value-units}
 
 -- r is nearer to the root of n than any other z: the half way between the two, (r + z) / 2, lies beyond the root. Both sides are
 -- squared, and multiplied by 4.
 pub record Nearer (n r z : ℕ) : Type 0 where
   pub from-below : z < r → (r + z) * (r + z) < 4 * n
   pub from-above : r < z → 4 * n < (r + z) * (r + z)
-
--- ---- the spacing of the doubles
-
--- from 2 ^ 52 * 2 ^ k on they are multiples of 2 ^ k
-spaced : (z k : ℕ) → Grid z → 2 ^ 52 * 2 ^ k ≤ z → (c : ℕ) × (z ≡ c * 2 ^ k)
-spaced z k (m, j, b, e) h = go (decLe k j)
-  where
-    go : Dec (k ≤ j) → (c : ℕ) × (z ≡ c * 2 ^ k)
-    go (yes g) = (m * 2 ^ (j - k), e ∙ ap (λ (x : ℕ). m * x) (ap (λ (x : ℕ). 2 ^ x) (sym (back j k g)) ∙ pow-add 2 (j - k) k) ∙ sym (mul-assoc m (2 ^ (j - k)) (2 ^ k)))
-    go (no f) =
-        let p : 2 ^ suc j ≤ 2 ^ k = pow-mono (lt-of-not-le f) in
-        let q : m * 2 ^ j < 2 ^ 53 * 2 ^ j = mul-lt-mul-of-pos-right b (pow-pos j) in
-        let r : 2 ^ suc j ≡ 2 * 2 ^ j = pow-succ' 2 j in
-        absurd (omega arith)
 
 -- ---- squares
 
@@ -53,17 +39,6 @@ over-root n a z h g = omega (arith, sq-lt (a + a) (a + z) (omega arith))
 -- ---- a root between q * 2 ^ k and the next double
 
 module _ (n q k : ℕ) (lo : q * 2 ^ k * (q * 2 ^ k) ≤ n) (hi : n < suc q * 2 ^ k * (suc q * 2 ^ k)) (l : 2 ^ 52 ≤ q) where
-  -- no double lies between
-  gap : (z : ℕ) → Grid z → (z ≤ q * 2 ^ k) ⊎ (suc q * 2 ^ k ≤ z)
-  gap z g = go (decLe z (q * 2 ^ k))
-    where
-      go : Dec (z ≤ q * 2 ^ k) → (z ≤ q * 2 ^ k) ⊎ (suc q * 2 ^ k ≤ z)
-      go (yes h) = inl h
-      go (no f) =
-          let h : q * 2 ^ k < z = lt-of-not-le f in
-          let s = spaced z k g (le-trans (mul-le-mul-right (2 ^ k) l) (le-of-lt h)) in
-          inr (le-trans (mul-le-mul-right (2 ^ k) (lt-of-mul-lt-mul-right (2 ^ k) (subst (λ (x : ℕ). q * 2 ^ k < x) (s .1) h))) (le-of-eq (sym (s .1))))
-
   -- twice the half way
   abbrev mid : ℕ
   mid = (2 * q + 1) * 2 ^ k
@@ -74,7 +49,7 @@ module _ (n q k : ℕ) (lo : q * 2 ^ k * (q * 2 ^ k) ≤ n) (hi : n < suc q * 2 
   stays : (z : ℕ) → Grid z → 4 * n < mid * mid → Nearer n (q * 2 ^ k) z
   stays z g h = record {
     from-below = under-root n (q * 2 ^ k) z lo;
-    from-above = λ u. elim (gap z g) [
+    from-above = λ u. elim (gap q k z l g) [
       | inl v ↦ absurd (not-le-of-lt u v)
       | inr v ↦ let w : mid ≤ q * 2 ^ k + z = omega (arith, middle, v) in lt-of-lt-of-le h (mul-le-mul w w)
     ];
@@ -82,7 +57,7 @@ module _ (n q k : ℕ) (lo : q * 2 ^ k * (q * 2 ^ k) ≤ n) (hi : n < suc q * 2 
 
   moves : (z : ℕ) → Grid z → mid * mid < 4 * n → Nearer n (suc q * 2 ^ k) z
   moves z g h = record {
-    from-below = λ u. elim (gap z g) [
+    from-below = λ u. elim (gap q k z l g) [
       | inl v ↦ let w : suc q * 2 ^ k + z ≤ mid = omega (arith, middle, v) in lt-of-le-of-lt (mul-le-mul w w) h
       | inr v ↦ absurd (not-le-of-lt u v)
     ];
@@ -172,12 +147,7 @@ module _ (n : ℕ) (a : 2 ^ 104 ≤ n) (b : n < 2 ^ 3172) where
   root-value = subst (λ (x : Float). HasValue x false (digits n * 2 ^ kept n) (2 ^ 1074)) (sym (nearestRoot-is n)) (units-val binary64 false (digits n) (kept n) in-range)
 
   root-units : inUnits (nearestRoot n) ≡ digits n * 2 ^ kept n
-  root-units = value-units (nearestRoot n) (digits n * 2 ^ kept n) root-value
-    where
-      value-units : (x : Float) (v : ℕ) → HasValue x false v (2 ^ 1074) → inUnits x ≡ v
-      value-units nan v h = absurd h
-      value-units (inf s) v h = absurd h
-      value-units (fin s m e) v h = ap (λ (y : ℕ). y / down e) (h .1) ∙ mul-div-cancel v (down-pos e)
+  root-units = value-units (nearestRoot n) false (digits n * 2 ^ kept n) root-value
 
   pub root-nearer : (z : ℕ) → Grid n → Grid z → Nearer n (inUnits (nearestRoot n)) z
   unfolding digits

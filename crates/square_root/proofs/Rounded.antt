@@ -8,7 +8,8 @@ use lib.Ieee.{nearest}
 use lib.Ieee.Nearest.{nearest-ge}
 use Rattle.square_root.specs.Sqrt.{isqrt}
 use Rattle.square_root.specs.Parts.{roundedRoot}
-use Rattle.square_root.proofs.Root.{Cmp, cmp, cmp-is, Root, sq-back, isqrt-root, isqrt-is}
+use Rattle.float64.proofs.Spacing.{Cmp, cmp}
+use Rattle.square_root.proofs.Root.{cmp-is, Root, sq-back, isqrt-root, isqrt-is}
 
 -- ---- with n = q * q + rest
 

@@ -31,6 +31,9 @@ use Rattle.framing.specs.Bytes.{littleEndian, signed32}
 use Rattle.framing.specs.Frames.{recordsPast}
 use Rattle.records.specs.Entries.{settingsIn, entryOf, entries, countSettings, hoursOf}
 use Rattle.records.specs.Corrections.{extended, names, namedFrom}
+use Rattle.overrun.specs.Fractions.{euclid}
+use Rattle.overrun.specs.Overrun.{overrun}
+use Rattle.records.specs.Rates.{rates, rated}
 use Rattle.records.specs.Week.{readWeek, askEntries}
 use Rattle.records.specs.Positions.{positionsFrom}
 use Rattle.fields.specs.Fields.{decimalIn, decimal, hexOf, field, hexField}
@@ -68,7 +71,7 @@ table =
     ∷ (28 ∷ 0 ∷ 3 ∷ 0 ∷ 0 ∷ 0 ∷ 0 ∷ 0 ∷ 0 ∷ 64 ∷ 175 ∷ 64 ∷ 58 ∷ 140 ∷ 48 ∷ 226 ∷ 142 ∷ 121 ∷ 69 ∷ 62 ∷ 100 ∷ 0 ∷ 0 ∷ 0 ∷ 0 ∷ 0 ∷ 0 ∷ 0 ∷ 2 ∷ 1 ∷ 6 ∷ 0 ∷ 1 ∷ 0 ∷ 64 ∷ 31 ∷ 0 ∷ 0 ∷ 6 ∷ 0 ∷ 1 ∷ 0 ∷ 0 ∷ 0 ∷ 0 ∷ 0 ∷ [], 114 ∷ 101 ∷ 102 ∷ 117 ∷ 115 ∷ 101 ∷ 100 ∷ 32 ∷ 50 ∷ 10 ∷ [])
     -- L2, order 2, y (0, 0, 0), lam 1e308: 10
     ∷ (28 ∷ 0 ∷ 3 ∷ 0 ∷ 160 ∷ 200 ∷ 235 ∷ 133 ∷ 243 ∷ 204 ∷ 225 ∷ 127 ∷ 58 ∷ 140 ∷ 48 ∷ 226 ∷ 142 ∷ 121 ∷ 69 ∷ 62 ∷ 100 ∷ 0 ∷ 0 ∷ 0 ∷ 0 ∷ 0 ∷ 0 ∷ 0 ∷ 2 ∷ 2 ∷ 6 ∷ 0 ∷ 1 ∷ 0 ∷ 0 ∷ 0 ∷ 0 ∷ 0 ∷ 6 ∷ 0 ∷ 1 ∷ 0 ∷ 0 ∷ 0 ∷ 0 ∷ 0 ∷ 6 ∷ 0 ∷ 1 ∷ 0 ∷ 0 ∷ 0 ∷ 0 ∷ 0 ∷ [], 114 ∷ 101 ∷ 102 ∷ 117 ∷ 115 ∷ 101 ∷ 100 ∷ 32 ∷ 49 ∷ 48 ∷ 10 ∷ [])
-    -- an empty input; 11, 12, 17 and 13 come before 1 to 10
+    -- an empty input; 11, 12, 17, 13 and 22 come before 1 to 10
     ∷ ([], 114 ∷ 101 ∷ 102 ∷ 117 ∷ 115 ∷ 101 ∷ 100 ∷ 32 ∷ 49 ∷ 50 ∷ 10 ∷ [])
     ∷ (6 ∷ 0 ∷ 1 ∷ 0 ∷ 64 ∷ 31 ∷ 0 ∷ 0 ∷ 28 ∷ 0 ∷ 3 ∷ 0 ∷ 0 ∷ 0 ∷ 0 ∷ 0 ∷ 0 ∷ 64 ∷ 175 ∷ 64 ∷ 58 ∷ 140 ∷ 48 ∷ 226 ∷ 142 ∷ 121 ∷ 69 ∷ 62 ∷ 100 ∷ 0 ∷ 0 ∷ 0 ∷ 0 ∷ 0 ∷ 0 ∷ 0 ∷ 0 ∷ 1 ∷ [], 114 ∷ 101 ∷ 102 ∷ 117 ∷ 115 ∷ 101 ∷ 100 ∷ 32 ∷ 49 ∷ 50 ∷ 10 ∷ [])
     ∷ (28 ∷ 0 ∷ 3 ∷ 0 ∷ 0 ∷ 0 ∷ 0 ∷ 0 ∷ 0 ∷ 64 ∷ 175 ∷ 64 ∷ 58 ∷ 140 ∷ 48 ∷ 226 ∷ 142 ∷ 121 ∷ 69 ∷ 62 ∷ 100 ∷ 0 ∷ 0 ∷ 0 ∷ 0 ∷ 0 ∷ 0 ∷ 0 ∷ 0 ∷ 1 ∷ 6 ∷ 0 ∷ 1 ∷ 0 ∷ 64 ∷ 31 ∷ 0 ∷ 0 ∷ 6 ∷ [], 114 ∷ 101 ∷ 102 ∷ 117 ∷ 115 ∷ 101 ∷ 100 ∷ 32 ∷ 49 ∷ 49 ∷ 10 ∷ [])
@@ -79,6 +82,9 @@ table =
     ∷ (28 ∷ 0 ∷ 3 ∷ 0 ∷ 0 ∷ 0 ∷ 0 ∷ 0 ∷ 0 ∷ 0 ∷ 0 ∷ 0 ∷ 58 ∷ 140 ∷ 48 ∷ 226 ∷ 142 ∷ 121 ∷ 69 ∷ 62 ∷ 100 ∷ 0 ∷ 0 ∷ 0 ∷ 0 ∷ 0 ∷ 0 ∷ 0 ∷ 1 ∷ 1 ∷ 2 ∷ 0 ∷ 2 ∷ 0 ∷ 6 ∷ 0 ∷ 1 ∷ 0 ∷ 64 ∷ 31 ∷ 0 ∷ 0 ∷ 2 ∷ 0 ∷ 2 ∷ 0 ∷ 6 ∷ 0 ∷ 1 ∷ 0 ∷ 0 ∷ 0 ∷ 0 ∷ 0 ∷ 8 ∷ 0 ∷ 4 ∷ 0 ∷ 2 ∷ 0 ∷ 192 ∷ 224 ∷ 255 ∷ 255 ∷ [], 102 ∷ 105 ∷ 116 ∷ 32 ∷ 51 ∷ 32 ∷ 49 ∷ 32 ∷ 49 ∷ 32 ∷ 48 ∷ 32 ∷ 48 ∷ 32 ∷ 49 ∷ 32 ∷ 48 ∷ 10 ∷ 52 ∷ 48 ∷ 98 ∷ 102 ∷ 52 ∷ 48 ∷ 48 ∷ 48 ∷ 48 ∷ 48 ∷ 48 ∷ 48 ∷ 48 ∷ 48 ∷ 48 ∷ 48 ∷ 32 ∷ 48 ∷ 48 ∷ 48 ∷ 48 ∷ 48 ∷ 48 ∷ 48 ∷ 48 ∷ 48 ∷ 48 ∷ 48 ∷ 48 ∷ 48 ∷ 48 ∷ 48 ∷ 48 ∷ 32 ∷ 48 ∷ 48 ∷ 48 ∷ 48 ∷ 48 ∷ 48 ∷ 48 ∷ 48 ∷ 48 ∷ 48 ∷ 48 ∷ 48 ∷ 48 ∷ 48 ∷ 48 ∷ 48 ∷ 10 ∷ 104 ∷ 32 ∷ 49 ∷ 32 ∷ 52 ∷ 48 ∷ 98 ∷ 102 ∷ 52 ∷ 48 ∷ 48 ∷ 48 ∷ 48 ∷ 48 ∷ 48 ∷ 48 ∷ 48 ∷ 48 ∷ 48 ∷ 48 ∷ 32 ∷ 48 ∷ 48 ∷ 48 ∷ 48 ∷ 48 ∷ 48 ∷ 48 ∷ 48 ∷ 48 ∷ 48 ∷ 48 ∷ 48 ∷ 48 ∷ 48 ∷ 48 ∷ 48 ∷ 10 ∷ 104 ∷ 32 ∷ 50 ∷ 32 ∷ 99 ∷ 48 ∷ 98 ∷ 102 ∷ 52 ∷ 48 ∷ 48 ∷ 48 ∷ 48 ∷ 48 ∷ 48 ∷ 48 ∷ 48 ∷ 48 ∷ 48 ∷ 48 ∷ 32 ∷ 48 ∷ 48 ∷ 48 ∷ 48 ∷ 48 ∷ 48 ∷ 48 ∷ 48 ∷ 48 ∷ 48 ∷ 48 ∷ 48 ∷ 48 ∷ 48 ∷ 48 ∷ 48 ∷ 10 ∷ 104 ∷ 32 ∷ 51 ∷ 32 ∷ 48 ∷ 48 ∷ 48 ∷ 48 ∷ 48 ∷ 48 ∷ 48 ∷ 48 ∷ 48 ∷ 48 ∷ 48 ∷ 48 ∷ 48 ∷ 48 ∷ 48 ∷ 48 ∷ 32 ∷ 48 ∷ 48 ∷ 48 ∷ 48 ∷ 48 ∷ 48 ∷ 48 ∷ 48 ∷ 48 ∷ 48 ∷ 48 ∷ 48 ∷ 48 ∷ 48 ∷ 48 ∷ 48 ∷ 10 ∷ 107 ∷ 110 ∷ 111 ∷ 116 ∷ 32 ∷ 49 ∷ 10 ∷ 107 ∷ 110 ∷ 111 ∷ 116 ∷ 32 ∷ 50 ∷ 10 ∷ [])
     -- a correction ahead of its hour, before a bad order: 17
     ∷ (28 ∷ 0 ∷ 3 ∷ 0 ∷ 0 ∷ 0 ∷ 0 ∷ 0 ∷ 0 ∷ 64 ∷ 175 ∷ 64 ∷ 58 ∷ 140 ∷ 48 ∷ 226 ∷ 142 ∷ 121 ∷ 69 ∷ 62 ∷ 100 ∷ 0 ∷ 0 ∷ 0 ∷ 0 ∷ 0 ∷ 0 ∷ 0 ∷ 0 ∷ 1 ∷ 8 ∷ 0 ∷ 4 ∷ 0 ∷ 0 ∷ 0 ∷ 0 ∷ 0 ∷ 0 ∷ 0 ∷ 6 ∷ 0 ∷ 1 ∷ 0 ∷ 64 ∷ 31 ∷ 0 ∷ 0 ∷ 6 ∷ 0 ∷ 1 ∷ 0 ∷ 0 ∷ 0 ∷ 0 ∷ 0 ∷ [], 114 ∷ 101 ∷ 102 ∷ 117 ∷ 115 ∷ 101 ∷ 100 ∷ 32 ∷ 49 ∷ 55 ∷ 10 ∷ [])
+    -- document 01's listing in frames; no frames at 25/0, before a bad order: 22
+    ∷ (28 ∷ 0 ∷ 3 ∷ 0 ∷ 0 ∷ 0 ∷ 0 ∷ 0 ∷ 0 ∷ 64 ∷ 175 ∷ 64 ∷ 58 ∷ 140 ∷ 48 ∷ 226 ∷ 142 ∷ 121 ∷ 69 ∷ 62 ∷ 100 ∷ 0 ∷ 0 ∷ 0 ∷ 0 ∷ 0 ∷ 0 ∷ 0 ∷ 1 ∷ 1 ∷ 14 ∷ 0 ∷ 5 ∷ 0 ∷ 200 ∷ 0 ∷ 0 ∷ 0 ∷ 25 ∷ 0 ∷ 0 ∷ 0 ∷ 1 ∷ 0 ∷ 0 ∷ 0 ∷ 14 ∷ 0 ∷ 5 ∷ 0 ∷ 0 ∷ 0 ∷ 0 ∷ 0 ∷ 25 ∷ 0 ∷ 0 ∷ 0 ∷ 1 ∷ 0 ∷ 0 ∷ 0 ∷ [], 102 ∷ 105 ∷ 116 ∷ 32 ∷ 50 ∷ 32 ∷ 49 ∷ 32 ∷ 49 ∷ 32 ∷ 48 ∷ 32 ∷ 48 ∷ 32 ∷ 49 ∷ 32 ∷ 48 ∷ 10 ∷ 52 ∷ 48 ∷ 97 ∷ 102 ∷ 52 ∷ 48 ∷ 48 ∷ 48 ∷ 48 ∷ 48 ∷ 48 ∷ 48 ∷ 48 ∷ 48 ∷ 48 ∷ 48 ∷ 32 ∷ 48 ∷ 48 ∷ 48 ∷ 48 ∷ 48 ∷ 48 ∷ 48 ∷ 48 ∷ 48 ∷ 48 ∷ 48 ∷ 48 ∷ 48 ∷ 48 ∷ 48 ∷ 48 ∷ 32 ∷ 52 ∷ 49 ∷ 54 ∷ 101 ∷ 56 ∷ 52 ∷ 56 ∷ 48 ∷ 48 ∷ 48 ∷ 48 ∷ 48 ∷ 48 ∷ 48 ∷ 48 ∷ 48 ∷ 10 ∷ 104 ∷ 32 ∷ 48 ∷ 32 ∷ 52 ∷ 48 ∷ 97 ∷ 102 ∷ 52 ∷ 48 ∷ 48 ∷ 48 ∷ 48 ∷ 48 ∷ 48 ∷ 48 ∷ 48 ∷ 48 ∷ 48 ∷ 48 ∷ 32 ∷ 52 ∷ 48 ∷ 97 ∷ 102 ∷ 52 ∷ 48 ∷ 48 ∷ 48 ∷ 48 ∷ 48 ∷ 48 ∷ 48 ∷ 48 ∷ 48 ∷ 48 ∷ 48 ∷ 10 ∷ 104 ∷ 32 ∷ 49 ∷ 32 ∷ 52 ∷ 48 ∷ 97 ∷ 102 ∷ 52 ∷ 48 ∷ 48 ∷ 48 ∷ 48 ∷ 48 ∷ 48 ∷ 48 ∷ 48 ∷ 48 ∷ 48 ∷ 48 ∷ 32 ∷ 99 ∷ 48 ∷ 97 ∷ 102 ∷ 52 ∷ 48 ∷ 48 ∷ 48 ∷ 48 ∷ 48 ∷ 48 ∷ 48 ∷ 48 ∷ 48 ∷ 48 ∷ 48 ∷ 10 ∷ [])
+    ∷ (28 ∷ 0 ∷ 3 ∷ 0 ∷ 0 ∷ 0 ∷ 0 ∷ 0 ∷ 0 ∷ 64 ∷ 175 ∷ 64 ∷ 58 ∷ 140 ∷ 48 ∷ 226 ∷ 142 ∷ 121 ∷ 69 ∷ 62 ∷ 100 ∷ 0 ∷ 0 ∷ 0 ∷ 0 ∷ 0 ∷ 0 ∷ 0 ∷ 0 ∷ 1 ∷ 14 ∷ 0 ∷ 5 ∷ 0 ∷ 0 ∷ 0 ∷ 0 ∷ 0 ∷ 25 ∷ 0 ∷ 0 ∷ 0 ∷ 0 ∷ 0 ∷ 0 ∷ 0 ∷ [], 114 ∷ 101 ∷ 102 ∷ 117 ∷ 115 ∷ 101 ∷ 100 ∷ 32 ∷ 50 ∷ 50 ∷ 10 ∷ [])
     ∷ []
 
 printed : List (List ℕ × List ℕ) → List (List ℕ)
@@ -90,5 +96,5 @@ expected [] = []
 expected (p ∷ ps) = p .1 ∷ expected ps
 
 known : printed table ≡ expected table
-unfolding table printed expected weekText readingText outcomeText fitText readWeek askEntries bind entries entryOf settingsIn extended names namedFrom countSettings hoursOf positionsFrom recordsPast littleEndian signed32 toBits decimalIn decimal hexOf field hexField three fitLine numbersLine hourLine hourLines knotLine knotLines listingOf refusedLine absOf isFinite maxOf minOf clampOf isqrtOf isqrt nearestRoot sqrtOf list sumTo maxTo norm2Sq dot sumAbs maxAbs diff diffK diffT diffKT less lessFrom reduced entry placed rowTo row rows sound forwardAt forward divided backAt back solve gram more moreFrom product zstar lamMax ridge minus clamped certify threshold aboveTo knots iterate run diagonalShift rhsAt dmu1At dmu2At residualSquareAt stepCapBy system rhs direction residualSquare residualNorm stepCapTo stepped along insideTo accepted trials newtonZ searchLine nextT move problem origin interiorPoint holdAt freeTo compressed lessTo compressedRhsAt solved candidateAt candidate polish soundL2 trendL2 scaled objectiveL2 dualL2 gapL2 finiteTo room question pathL2 pathZero pathFlat polished searchOf keptOf pathEnd pathL1 path written outcome fit ofBits ofInt add sub mul div neg lt le eq isNan
+unfolding table printed expected weekText readingText outcomeText fitText readWeek askEntries bind entries entryOf settingsIn extended names namedFrom euclid overrun rates rated countSettings hoursOf positionsFrom recordsPast littleEndian signed32 toBits decimalIn decimal hexOf field hexField three fitLine numbersLine hourLine hourLines knotLine knotLines listingOf refusedLine absOf isFinite maxOf minOf clampOf isqrtOf isqrt nearestRoot sqrtOf list sumTo maxTo norm2Sq dot sumAbs maxAbs diff diffK diffT diffKT less lessFrom reduced entry placed rowTo row rows sound forwardAt forward divided backAt back solve gram more moreFrom product zstar lamMax ridge minus clamped certify threshold aboveTo knots iterate run diagonalShift rhsAt dmu1At dmu2At residualSquareAt stepCapBy system rhs direction residualSquare residualNorm stepCapTo stepped along insideTo accepted trials newtonZ searchLine nextT move problem origin interiorPoint holdAt freeTo compressed lessTo compressedRhsAt solved candidateAt candidate polish soundL2 trendL2 scaled objectiveL2 dualL2 gapL2 finiteTo room question pathL2 pathZero pathFlat polished searchOf keptOf pathEnd pathL1 path written outcome fit ofBits ofInt add sub mul div neg lt le eq isNan
 known = refl

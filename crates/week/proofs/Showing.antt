@@ -15,8 +15,9 @@ use Rattle.io.specs.Counts.{Counts}
 use Rattle.vectors.specs.Vec.{put}
 use Rattle.vectors.specs.Parts.{Wrote}
 use Rattle.vectors.proofs.Texts.{wrote-length}
-use Rattle.records.specs.Entries.{Slot, Entry, slot, settings, correction, countSettings, hoursOf}
+use Rattle.records.specs.Entries.{Slot, Entry, slot, frames, settings, correction, countSettings, hoursOf}
 use Rattle.records.specs.Corrections.{weekOf, named}
+use Rattle.records.specs.Rates.{rated}
 use Rattle.records.specs.Week.{readWeek, askEntries, entriesIn}
 use Rattle.records.specs.Positions.{positionsOf}
 use Rattle.series.specs.Inner.{answer, Reads}
@@ -57,11 +58,13 @@ unfolding askEntries
 ask-short none = tt
 ask-short (some []) = tt
 ask-short (some (slot w ∷ es)) = tt
+ask-short (some (frames f ∷ es)) = tt
 ask-short (some (correction p x ∷ es)) = tt
 ask-short (some (settings st ∷ es)) =
     cond-case Short (eqb (countSettings es) 0) _ _
     (λ _. cond-case Short (named es) _ _
-    (λ _. cond-case Short (leb (length (hoursOf (weekOf es))) 168) (read.read st (weekOf es)) (read.unread 13) (λ e. leb-true _ _ e) tt) tt) tt
+    (λ _. cond-case Short (leb (length (hoursOf (weekOf es))) 168) _ _
+    (λ e. cond-case Short (rated es) (read.read st (weekOf es)) (read.unread 22) (λ _. leb-true _ _ e) tt) tt) tt) tt
 
 short : (s : List ℕ) → Short (readWeek s)
 unfolding readWeek

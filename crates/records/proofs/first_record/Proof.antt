@@ -1,11 +1,12 @@
-use Rattle.records.proofs.Entries.{first-end, first-bad, first-set, first-other, settings-inside}
+use mathlib.Core.Path.{refl}
+use Rattle.records.proofs.Entries.{first-end, first-bad, first-set, first-other, body-inside}
 use borrow.Author.Needs.{needs}
 use Rattle.records.proofs.first_record.Statement.{statement}
 use Rattle.records.proofs.first_record.Tie as tie
 
 settings-at-requires : tie.Need-settings-at-requires
 settings-at-requires c κs = let k = c .before .before in
-    settings-inside (rw (k .kind .given .1) at (k .before .before .record-at .ensures)) (c .if1 .taken)
+    body-inside 3 26 (λ i. refl) (rw (k .kind .given .1) at (k .before .before .record-at .ensures)) (c .if1 .taken)
 
 returns : tie.Need-returns
 returns c = λ es h. first-end _ es h (rw (c .enum-told .given .1) at (c .before .before .record-at .ensures))

@@ -1,23 +1,22 @@
 use mathlib.Core.Path.{refl}
+use mathlib.Core.Logic.{inl, inr}
 use borrow.Author.Tests.{ne-eqb}
 use borrow.Author.Needs.{needs}
 use Rattle.series.proofs.Arrays.{set-silent}
 use Rattle.series.proofs.put_record.Statement.{statement}
 use Rattle.series.proofs.put_record.Tie as tie
 
-sound-requires : tie.Need-sound-requires
-sound-requires c κs = let k = c .before .before in
-    let p = k .before .before .before .before .pre in
-    (p .0 .0 (k .match .keys1), p .1 .0, p .1 .1)
-
 correct-requires : tie.Need-correct-requires
 correct-requires c κs = let k = c .before .before in
     let p = k .before .before .before .before .pre in
-    (p .0 .1 (k .match .keys3), p .1 .0, p .1 .1)
+    (p .0 (k .match .keys3), p .1, p .2)
 
 returns : tie.Need-returns
 returns c = let d = c .before .before .before .before in
-    rw (d .before .before .before .match .keys1) (refl, d .sound .ensures)
+    elim (d .before .before .before .match .keys1) [
+      | inl e ↦ rw e (refl, d .sound .ensures)
+      | inr e ↦ rw e (refl, d .sound .ensures)
+    ]
 
 returns-2 : tie.Need-returns-2
 returns-2 c = rw (c .match .keys2) (refl, set-silent _ _ _)
@@ -28,10 +27,10 @@ returns-3 c = let d = c .before .before .before .before in
 
 returns-4 : tie.Need-returns-4
 returns-4 c = let n = c .match .rest in
-    simp (ne-eqb _ _ (n .0 .0 .1), ne-eqb _ _ (n .0 .1), ne-eqb _ _ (n .1)) (refl, refl)
+    simp (ne-eqb _ _ (λ e. n .0 .0 .1 (inl e)), ne-eqb _ _ (λ e. n .0 .0 .1 (inr e)), ne-eqb _ _ (n .0 .1), ne-eqb _ _ (n .1)) (refl, refl)
 
 pub put-record-spec : {M : Type 1} → statement M
 put-record-spec =
     tie.close
-    (tie.spec sound-requires (λ c. search needs) correct-requires (λ c. search needs) (λ c. search needs) returns
+    (tie.spec (λ c κs. search needs) (λ c. search needs) correct-requires (λ c. search needs) (λ c. search needs) returns
     (λ c. search needs) returns-2 (λ c. search needs) (λ c. search needs) returns-3 returns-4)

@@ -94,7 +94,7 @@ returns-6 c = let d = c .before .before .before .before .before in
     let f = split e in
     let w = gathered r in
     let k = week-named _ (short e) (f .splits) (set o) (sym (f .settings) ∙ r .before .before .before .if2 .left) (sym (w .names) ∙ not-false _ (d .if3 .left)) in
-    rw (k, sym (w .week)) (c .take-hours .ensures)
+    rw (k, sym (w .week), sym (w .rates)) (c .take-hours .ensures)
 
 pub read-week-spec : {M : Type 1} → statement M
 read-week-spec =

@@ -4,11 +4,9 @@ use Rattle.series.proofs.sound.Statement.{statement}
 use Rattle.series.proofs.sound.Tie as tie
 
 returns : tie.Need-returns
-returns c = let f = c .before in
-    simp (c .signed .ensures, f .four .ensures .0) (set-slots _ _ _ _ _)
+returns c = set-slots _ _ _ _ _
 
 pub sound-spec : {M : Type 1} → statement M
 sound-spec =
     tie.close
-    (tie.spec (λ c κs. search needs) (λ c κs. search needs) (λ c. search needs) (λ c. search needs) (λ c. search needs)
-    (λ c. search needs) (λ c. search needs) returns)
+    (tie.spec (λ c. search needs) (λ c. search needs) (λ c. search needs) (λ c. search needs) (λ c. search needs) returns)

@@ -5,10 +5,11 @@ use native.Mathlib.Omega.{arith}
 use borrow.Author.Needs.{needs}
 use mathlib.Core.Bool.{Bool, not}
 use lib.Dec.{T, ltb, ltb→lt, not-T}
-use lib.Ieee.{Float, nan, binary64, div, ofBits, toBits}
+use lib.Ieee.{Float, binary64, ofBits, toBits}
 use lib.Ieee.Bits.{ofBits-toBits, toBits-lt, nanBits-above}
 use Rattle.square_root.specs.Sqrt.{sqrtOf}
 use Rattle.float64.proofs.Helpers.{is-nan, no-nan}
+use Rattle.float64.proofs.Bits.{zero-by-zero}
 use Rattle.square_root.proofs.Joined.{negative-root, top-root}
 use Rattle.square_root.proofs.sqrt.Statement.{statement}
 use Rattle.square_root.proofs.sqrt.Tie as tie
@@ -35,10 +36,6 @@ returns-2 c = fixed (c .before .before .args .x) 0 (back (c .before .before)) (c
 returns-3 : tie.Need-returns-3
 unfolding ofBits sqrtOf
 returns-3 c = let s = c .before .before .before in fixed (s .args .x) (2 ^ 63) (back s) (c .if3 .taken) refl
-
-zero-by-zero : div binary64 (ofBits binary64 0) (ofBits binary64 0) ≡ nan
-unfolding div ofBits
-zero-by-zero = refl
 
 returns-4 : tie.Need-returns-4
 returns-4 c =
