@@ -1,7 +1,7 @@
 #!/usr/bin/env python3
 """A sample week, and a reader for its listing.
 
-week.py make FILE    writes the sample week: 168 hours, four of them silent, and the correction of a mistyped one
+week.py make FILE    writes the sample week: 168 hours, four of them silent and one in frames, and the correction of a mistyped one
 week.py show         reads a listing from standard input and prints it with plain numbers; hours are numbered from 0, silent
                      ones too: of the sample week hour 0 is Monday, 00:00, and hour 77 Thursday, 05:00
 
@@ -17,6 +17,7 @@ LAM, TOL, LIMIT, ORDER, PENALTY = 8000.0, 1e-8, 100, 1, 1
 NIGHT = range(73, 77)  # Thursday, 01:00 to 05:00: the transmitter is off
 STEP = 62  # Wednesday, 14:00: a longer jingle package goes on air
 MISTYPED = 33  # Tuesday, 09:00: typed with a 0 too many
+TELEVISION = 163  # Sunday, 19:00: taken over from television, which logs frames, 25 a second
 
 
 def drift(hour):
@@ -25,9 +26,24 @@ def drift(hour):
     return round(900 + 4 * hour + swing + (2600 if hour >= STEP else 0) + random.gauss(0, 220))
 
 
-def correction(position, milliseconds):
+def milliseconds(overrun):
+    """The record of an hour whose overrun is so many milliseconds."""
+    return struct.pack("<HHi", 6, 1, overrun)
+
+
+def frames(count, numerator, denominator):
+    """The record of an hour whose overrun is so many frames, at numerator / denominator a second: 25 / 1, 30000 / 1001."""
+    return struct.pack("<HHiII", 14, 5, count, numerator, denominator)
+
+
+def silence():
+    """The record of a silent hour."""
+    return struct.pack("<HH", 2, 2)
+
+
+def correction(position, overrun):
     """The record that corrects an hour, silent or not, which stands before it; of several for one hour the last counts."""
-    return struct.pack("<HHHi", 8, 4, position, milliseconds)
+    return struct.pack("<HHHi", 8, 4, position, overrun)
 
 
 def make():
@@ -35,8 +51,12 @@ def make():
     late = [drift(hour) for hour in range(168)]
     out = struct.pack("<HHddQBB", 28, 3, LAM, TOL, LIMIT, ORDER, PENALTY)
     for hour in range(168):
-        typed = 10 * late[hour] if hour == MISTYPED else late[hour]
-        out += struct.pack("<HH", 2, 2) if hour in NIGHT else struct.pack("<HHi", 6, 1, typed)
+        if hour in NIGHT:
+            out += silence()
+        elif hour == TELEVISION:
+            out += frames(late[hour] // 40, 25, 1)  # a frame lasts 40 ms, and 107 of them just as long as this hour is late
+        else:
+            out += milliseconds(10 * late[hour] if hour == MISTYPED else late[hour])
     return out + correction(MISTYPED, late[MISTYPED])
 
 

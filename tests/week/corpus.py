@@ -1,12 +1,12 @@
 #!/usr/bin/env python3
-"""corpus.py [--no-reason] [--places] [--no-corrections] DIR [PROGRAM]: runs the weekly program on every DIR/NAME.in and compares what it prints with DIR/NAME.out.
+"""corpus.py [--no-reason] [--places] [--no-corrections] [--no-frames] DIR [PROGRAM]: runs the weekly program on every DIR/NAME.in and compares what it prints with DIR/NAME.out.
 
 With --no-reason the listings of DIR are from before A11 of document 02, when the first line ended with converged: the reason, a
 number from 0 to 4 that must stand there, is left out of what the program prints. With --places they are from before A1, when an
-hour had its place in the series, silent hours left out: each such number becomes that hour's position among the records of
-kinds 1 and 2, counted from NAME.in. With --no-corrections they are from before A8, when kind 4 was no kind: a week that was
-refused with 11 and has corrections among whole records is held to what fuzz.py reads in it, and the last line names it. All other
-refusals are compared as they are.
+hour had its place in the series, silent hours left out: each such number becomes that hour's position among the hours,
+silent ones too, counted from NAME.in. With --no-corrections they are from before A8, when kind 4 was no kind, and with
+--no-frames from before A14, when kind 5 was none: a week that was refused with 11 and has such a kind among whole records is
+held to what fuzz.py reads in it, and the last line names it. All other refusals are compared as they are.
 PROGRAM is target/bin/weektrend unless it is given. The last line counts; the exit status is 0 only if all agree.
 """
 import os
@@ -17,7 +17,9 @@ import sys
 
 import fuzz
 
-OPTIONS = ("--no-reason", "--places", "--no-corrections")
+# the kind that was not known yet
+LATER = {"--no-corrections": 4, "--no-frames": 5}
+OPTIONS = ("--no-reason", "--places", *LATER)
 
 
 def without_reason(listing):
@@ -33,9 +35,9 @@ def renumbered(listing, data):
     return re.sub(rb"(?m)^(h|knot) (\w+)", lambda line: line[1] + b" " + position.get(line[2], b"none"), listing)
 
 
-def not_known_then(want, data):
-    """Whether a week was refused for a correction alone."""
-    return want == b"refused 11\n" and fuzz.has_correction(data)
+def not_known_then(want, data, earlier):
+    """Whether a week was refused for a kind alone that was not known yet."""
+    return want == b"refused 11\n" and any(fuzz.has_kind(data, kind) for option, kind in LATER.items() if option in earlier)
 
 
 def difference(got, want):
@@ -61,7 +63,7 @@ def main():
         got = without_reason(run.stdout) if "--no-reason" in earlier else run.stdout
         want = renumbered(want, data) if "--places" in earlier else want
         fault = None
-        if "--no-corrections" in earlier and not_known_then(want, data):
+        if not_known_then(want, data, earlier):
             anew.append(case.stem)
             fault = fuzz.fault(fuzz.expected(data), run)
         elif got != want or run.stderr or run.returncode != 0:

@@ -2,15 +2,17 @@
 """fuzz.py [COUNT [SEED [PROGRAM]]]: random and mutated inputs of the weekly program, 100,000 unless COUNT is given.
 
 Each run must end within ten seconds, with status 0, and print a listing or one line `refused N`, nothing else.
-Beside that form, a plain reading of the questions 11, 12, 17 (document 02, A8), 13, 1, 2, 5, 6, 7 and 10 says for each input
-which refusal is right, and of a fit n, order, penalty, the bounds of n_iter and what the other fields say of the reason are
+Beside that form, a plain reading of the questions 11, 12, 17 (document 02, A8), 13, 22 (A14), 1, 2, 5, 6, 7 and 10 says for each
+input which refusal is right, and of a fit n, order, penalty, the bounds of n_iter and what the other fields say of the reason are
 checked. The hours must be printed by their positions (document 02, A1), each with the cycle that the trend leaves of the
-milliseconds at that position, corrections made, and the knots by the positions of exactly the places at which document 01 has
-the printed trend bend.
+milliseconds at that position, frames turned into milliseconds by exact fractions and corrections made, and the knots by the
+positions of exactly the places at which document 01 has the printed trend bend.
 Refusal 10 is right exactly where the Rust's elimination, done here in doubles, meets a pivot that isn't finite and above 0.
-The line before the last says how many inputs met each refusal, and how many are fitted.
+The line before the last says how many inputs met each refusal, and how many are fitted; the last one, how many agree, how many
+fits have hours in frames and how many refusals are 22.
 """
 import collections
+import fractions
 import functools
 import math
 import multiprocessing
@@ -20,7 +22,7 @@ import struct
 import subprocess
 import sys
 
-LENGTHS = {1: 6, 2: 2, 3: 28, 4: 8}
+LENGTHS = {1: 6, 2: 2, 3: 28, 4: 8, 5: 14}
 WHOLE, HEX = "(?:0|[1-9][0-9]*)", "[0-9a-f]{16}"
 FIT = re.compile(rf"fit{f' ({WHOLE})' * 5} ([01]) ([0-4])\n({HEX}) {HEX} {HEX}\n((?:h {WHOLE} {HEX} {HEX}\n)*)((?:knot {WHOLE}\n)*)")
 CLOSED, SMALL, SPENT, STALLED, LOST = range(5)
@@ -44,9 +46,18 @@ def split(data):
     return records
 
 
-def has_correction(data):
-    """Whether an input splits into whole records with a correction among them."""
-    return any(kind == 4 for kind, _ in split(data) or [])
+def has_kind(data, kind):
+    """Whether an input splits into whole records, one of that kind among them."""
+    return any(k == kind for k, _ in split(data) or [])
+
+
+def in_milliseconds(body):
+    """The double nearest to the milliseconds that an hour in frames says, or a NaN where question 22 refuses it."""
+    count, numerator, denominator = struct.unpack("<iII", body)
+    if numerator == 0 or denominator == 0:
+        return math.nan
+    exact = fractions.Fraction(count * 1000 * denominator, numerator)  # in lowest terms
+    return float(exact) if abs(exact.numerator) < 2 ** 53 else math.nan
 
 
 def series_of(records):
@@ -57,6 +68,8 @@ def series_of(records):
             week.append(struct.unpack("<i", body)[0])
         elif kind == 2:
             week.append(None)
+        elif kind == 5:
+            week.append(in_milliseconds(body))
         elif kind == 4:
             position, milliseconds = struct.unpack("<Hi", body)
             if position >= len(week):
@@ -78,6 +91,8 @@ def expected(data):
     n = len(series)
     if n > 168:
         return 13
+    if any(kind == 5 and math.isnan(in_milliseconds(body)) for kind, body in records):
+        return 22
     settings = lam, tol, limit, order, penalty = struct.unpack("<ddQBB", records[0][1])
     if order not in (1, 2) or penalty not in (1, 2):
         return 1
@@ -200,7 +215,12 @@ def fault(want, run):
 
 SILENT = struct.pack("<HH", 2, 2)
 # kinds and sizes of a body that there are not
-ODD = [(4, 0), (4, 2), (4, 4), (4, 5), (4, 7), (4, 8), (4, 12), (5, 4), (5, 6), (5, 12), (0, 6), (260, 6), (1024, 6)]
+ODD = [(4, 0), (4, 2), (4, 4), (4, 5), (4, 7), (4, 8), (4, 12), (0, 6), (260, 6), (1024, 6)]
+ODD += [(5, 0), (5, 4), (5, 6), (5, 8), (5, 11), (5, 13), (5, 14), (1, 12), (2, 12), (6, 12), (261, 12), (1280, 12)]
+# frames a second, as television has them
+RATES = [(30000, 1001), (24000, 1001), (60000, 1001), (25, 1), (24, 1), (30, 1), (50, 1)]
+# numbers whose product is 2^53, 1 or 2 less, or 2 more
+AT_LIMIT = [(2 ** i, 2 ** (53 - i)) for i in range(22, 31)] + [(441650591, 20394401), (67108863, 134217730), (308761441, 29172034)]
 
 
 def correction(position, milliseconds):
@@ -209,6 +229,50 @@ def correction(position, milliseconds):
 
 def overrun(r):
     return r.choice([r.randrange(-8000, 8000), r.randrange(-2 ** 31, 2 ** 31), 2 ** 31 - 1, -2 ** 31])
+
+
+def in_frames(count, numerator, denominator):
+    return struct.pack("<HHiII", 14, 5, count, numerator, denominator)
+
+
+def usual_frames(r, milliseconds):
+    """An hour of about so many milliseconds in frames, at a usual rate; half of them write the rate with larger numbers."""
+    numerator, denominator = r.choice(RATES)
+    factor = r.choice([1, r.randrange(1, (2 ** 32 - 1) // numerator + 1)])
+    return in_frames(milliseconds * numerator // (1000 * denominator), factor * numerator, factor * denominator)
+
+
+def near_limit(r):
+    """A count and a rate whose fraction has an upper number near 2^53, or a part of such a number."""
+    count, denominator = r.choice(AT_LIMIT)
+    most = (2 ** 32 - 1) // 1000
+    rest = r.choice([1, r.randrange(1, most + 1)])
+    factor = r.randrange(1, min((2 ** 32 - 1) // denominator, most // rest) + 1)
+    return r.choice([-1, 1]) * (count + r.choice([-1, 0, 0, 1])), 1000 * rest * factor, denominator * factor
+
+
+def near_tie(r):
+    """A count and a rate whose milliseconds are as near as can be to a double, or to the middle between two."""
+    while True:
+        numerator, denominator = r.randrange(1, 2 ** 32), r.choice([1, 1001, r.randrange(1, 4195)])
+        if math.gcd(numerator, 10 * denominator) == 1:
+            # with so many binary digits behind the point milliseconds near 1000 * denominator, or near half of it, have 54
+            shift = 54 - (1000 * denominator).bit_length() + r.randrange(2)
+            count = pow(1000 * denominator << shift, -1, numerator)  # and 1 / numerator of the last one is left over
+            count = r.choice([count, numerator - count])
+            if count < 2 ** 31:
+                return r.choice([-1, 1]) * count, numerator, denominator
+
+
+def odd_frames(r, right):
+    """An hour in frames of an unusual count or rate, which question 22 takes if it is to be right, and else refuses."""
+    some = lambda: r.choice([1, 1000, 2 ** 31, 2 ** 32 - 1, r.randrange(1, 2 ** 32)])
+    while True:
+        count = r.choice([0, 1, -1, 77, 2 ** 31 - 1, -2 ** 31, r.randrange(-2 ** 31, 2 ** 31)])
+        zero = r.choice([(0, some()), (some(), 0), (0, 0)])
+        hour = in_frames(*r.choice([(count, some(), some()), (count, *zero), near_limit(r), near_tie(r)]))
+        if math.isnan(in_milliseconds(hour[4:])) != right:
+            return hour
 
 
 def bits(r, right):
@@ -224,35 +288,44 @@ def bits(r, right):
 
 
 def settings(r):
-    """Settings, in half of the inputs such as no question refuses."""
+    """Settings, in half of the inputs such as no question refuses; in some lam is 0, where the trend is the series itself."""
     right = r.random() < 0.5
+    lam = bytes(8) if r.random() < 0.1 else bits(r, right)
     limit = r.choice([1 if right else 0, 1, 2, 20, 60, 100, 2 ** 32, 2 ** 64 - 1, r.getrandbits(64)])
     small = lambda: r.choice([1, 2] if right else [1, 2, 1, 2, 1, 2, 0, 3, r.getrandbits(8)])
-    return struct.pack("<HH", 28, 3) + bits(r, right) + bits(r, right) + struct.pack("<QBB", limit, small(), small())
+    return struct.pack("<HH", 28, 3) + lam + bits(r, right) + struct.pack("<QBB", limit, small(), small())
 
 
 def hours(r):
-    """The records of a week's hours, sounding and silent."""
+    """The records of a week's hours, in milliseconds, in frames and silent; in some weeks question 22 refuses one."""
     n = r.choice([0, 1, 2, 3, r.randrange(4, 40), r.randrange(100, 169), 168, 169])
+    framed, odd = r.choice([0, 0, 0.1, 0.5, 1]), r.choice([0, 0.1, 1])  # how many hours are in frames, and how many of these are odd
     level, out, changes = r.randrange(-8000, 8000), [], []
     for i in range(n):
         if r.random() < 0.03:
             level = overrun(r)
             changes.append(i)
-        out.append(struct.pack("<HHi", 6, 1, max(-2 ** 31, min(2 ** 31 - 1, level + r.randrange(-300, 300)))))
-    silent = silences(r, n, changes)
+        milliseconds = max(-2 ** 31, min(2 ** 31 - 1, level + r.randrange(-300, 300)))
+        if r.random() < framed:
+            out.append(odd_frames(r, True) if r.random() < odd else usual_frames(r, milliseconds))
+        else:
+            out.append(struct.pack("<HHi", 6, 1, milliseconds))
+    if out and framed and r.random() < 0.25:
+        out[r.randrange(n)] = odd_frames(r, False)
+    silent = silences(r, out, changes)
     return [slot for s, hour in zip(silent, out) for slot in [SILENT] * s + [hour]] + [SILENT] * silent[n]
 
 
-def silences(r, n, changes):
-    """How many silent hours stand before each of n hours and after the last: none, single ones, or a few runs."""
+def silences(r, out, changes):
+    """How many silent hours stand before each of some hours and after the last: none, single ones, or a few runs."""
+    n = len(out)
     kind, silent = r.random(), [0] * (n + 1)
     if 0.3 <= kind < 0.5:
         often = r.choice([0.05, 0.5])
         silent = [int(r.random() < often) for _ in silent]
     elif 0.5 <= kind:
-        # 4,096 bytes have room for 1,016 - 2n beside the settings and n hours, 2 less with a correction, 5 less with two
-        room = max(0, 1016 - 2 * n - r.choice([0, 2, 5, 200]))
+        # 4,096 bytes have room for 1,016 beside the settings, less 2 for each hour, 4 in frames, and 2 with a correction, 5 with two
+        room = max(0, 1016 - sum(map(len, out)) // 4 - r.choice([0, 2, 5, 200]))
         near = [c + side for c in changes for side in (0, 1)]  # before the hour at which the level changes, and after it
         for _ in range(r.choice([1, 2, 4])):
             run = min(room, r.choice([1, 2, r.randrange(1, 13), r.randrange(1, 400), room]))
@@ -265,13 +338,15 @@ def silences(r, n, changes):
 def named(r, slots):
     """The positions that are corrected: none; a few, maybe more than once; or silent ones, so many that 168 hours sound, one less or one more."""
     silent = [p for p, slot in enumerate(slots) if slot == SILENT]
+    framed = [p for p, slot in enumerate(slots) if slot[2] == 5]
+    refused = [p for p in framed if math.isnan(in_milliseconds(slots[p][4:]))]
     kind = r.random()
     if kind < 0.4 or not slots:
         return []
     if kind < 0.55:
         lack = r.choice([167, 168, 169]) - (len(slots) - len(silent))
         return r.sample(silent, max(0, min(lack, len(silent))))
-    few = [0, len(slots) - 1, r.randrange(len(slots)), *r.sample(silent, min(3, len(silent)))]
+    few = [0, len(slots) - 1, r.randrange(len(slots)), *r.sample(silent, min(3, len(silent))), *r.sample(framed, min(3, len(framed))), *refused]
     return r.choices(few, k=r.choice([1, 2, 5, 20]))
 
 
@@ -290,7 +365,7 @@ def corrected(r, slots):
 def mutated(r, data):
     data = bytearray(data)
     for _ in range(r.choice([1, 1, 2, 5])):
-        way, at = r.randrange(9), r.randrange(len(data) + 1)
+        way, at = r.randrange(10), r.randrange(len(data) + 1)
         if way == 0 and at < len(data):
             data[at] ^= 1 << r.randrange(8)
         elif way == 1:
@@ -306,6 +381,8 @@ def mutated(r, data):
         elif way == 6:
             data += correction(r.choice([0, 1, r.randrange(200), 1015, 65535]), overrun(r))
         elif way == 7:
+            data += r.choice([usual_frames(r, overrun(r)), odd_frames(r, True), odd_frames(r, False)])
+        elif way == 8:
             kind, size = r.choice(ODD)
             data += struct.pack("<HH", 2 + size, kind) + r.randbytes(size)
         elif at < len(data):
@@ -322,11 +399,13 @@ def made(seed):
     return data if kind < 0.6 else mutated(r, data)
 
 
-def group(data, want):
+def groups(data, want):
     """What an input counts as."""
+    if want == 22 and not any(math.isnan(x) for _, x in series_of(split(data))):
+        return ["refused 22", "refused 22 for superseded hours only"]
     if isinstance(want, int):
-        return f"refused {want}"
-    return "fits with corrections" if has_correction(data) else "fits without corrections"
+        return [f"refused {want}"]
+    return ["fits"] + [f"fits with {what}" for kind, what in [(4, "corrections"), (5, "hours in frames")] if has_kind(data, kind)]
 
 
 def one(job):
@@ -337,7 +416,7 @@ def one(job):
         what = fault(want, subprocess.run([program], input=data, capture_output=True, timeout=10))
     except subprocess.TimeoutExpired:
         what = "no end within ten seconds"
-    return seed, group(data, want), what
+    return seed, groups(data, want), what
 
 
 def main():
@@ -346,15 +425,16 @@ def main():
     program = sys.argv[3] if len(sys.argv) > 3 else "target/bin/weektrend"
     if count < 1:
         sys.exit("fuzz.py: no input was tried: COUNT is at least 1")
-    wrong, groups = 0, collections.Counter()
+    wrong, counts = 0, collections.Counter()
     with multiprocessing.Pool() as pool:
         for seed, met, what in pool.imap_unordered(one, ((s, program) for s in range(first, first + count)), 200):
-            groups[met] += 1
+            counts.update(met)
             if what:
                 wrong += 1
                 print(f"input {seed}: {what}")
-    print(", ".join(f"{name}: {groups[name]}" for name in sorted(groups, key=lambda g: (len(g), g))))
-    print(f"{count - wrong} of {count} inputs: a listing or a refusal, as documents 01 and 02 have it")
+    print(", ".join(f"{name}: {counts[name]}" for name in sorted(counts, key=lambda g: (len(g), g))))
+    print(f"{count - wrong} of {count} inputs: a listing or a refusal, as documents 01 and 02 have it; "
+          f"{counts['fits with hours in frames']} fits with hours in frames, {counts['refused 22']} refusals 22")
     sys.exit(1 if wrong else 0)
 
 

@@ -1,11 +1,12 @@
 #!/usr/bin/env python3
 """rust.py COUNT SEED ORACLE [PROGRAM]: whole listings of random weeks, held to the Rust's answers.
 
-The inputs are those of fuzz.py; of COUNT seeds from SEED on, those that reach the fit are used. The series of each, corrections made
-(document 02, A8) and silent hours left out, is fitted by the Rust (ORACLE is the program of oracle/). The listing is written here from
-that answer, each index of the Rust's mapped to the position of its hour (A1), and must be what PROGRAM prints, byte by byte.
-PROGRAM is target/bin/weektrend unless it is given. The last line counts, the weeks with corrections too; the exit status is 0 only if
-all agree.
+The inputs are those of fuzz.py; of COUNT seeds from SEED on, those that reach the fit are used. The series of each, frames turned into
+milliseconds (document 02, A14), corrections made (A8) and silent hours left out, is fitted by the Rust (ORACLE is the program of
+oracle/). The listing is written here from that answer, each index of the Rust's mapped to the position of its hour (A1), and must be
+what PROGRAM prints, byte by byte.
+PROGRAM is target/bin/weektrend unless it is given. The last line counts, the weeks with corrections and those with hours in frames
+too; the exit status is 0 only if all agree.
 """
 import pathlib
 import struct
@@ -55,8 +56,8 @@ def main():
             if run.stdout != listing((folder / f"{seed}.exp").read_text(), positions) or run.stderr or run.returncode != 0:
                 wrong += 1
                 print(f"input {seed}: another listing than the Rust's")
-    corrected = sum(fuzz.has_correction(data) for data, _ in weeks.values())
-    print(f"{len(weeks) - wrong} of {len(weeks)} listings are the Rust's; {corrected} are of weeks with corrections")
+    corrected, framed = [sum(fuzz.has_kind(data, kind) for data, _ in weeks.values()) for kind in (4, 5)]
+    print(f"{len(weeks) - wrong} of {len(weeks)} listings are the Rust's; {corrected} are of weeks with corrections, {framed} of weeks with hours in frames")
     sys.exit(1 if wrong or not weeks else 0)
 
 
