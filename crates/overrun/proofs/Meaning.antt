@@ -3,14 +3,14 @@
 use mathlib.Core.Path.{_≡_, refl, sym, _∙_, subst}
 use Prim.Native.Nat.{ℕ, zero, suc, _+_, _*_, _^_, _≤_, _<_}
 use native.Mathlib.Nat.{le-trans, le-of-lt, zero-lt-suc, zero-mul}
-use native.Mathlib.Omega.{arith}
-use mathlib.Core.Bool.{Bool, true, false, _&&_, Bool·beq, cond}
+use mathlib.Core.Bool.{Bool, true, false, Bool·beq, cond, and-eq-true-iff}
 use lib.IntN.{pos, natAbs}
-use lib.Dec.{T, ltb, ltb→lt, lit<, lit≤}
+use lib.Dec.{T, ltb, lit<, lit≤}
+use borrow.Author.Tests.{ltb-true}
 use lib.Ieee.{Float, fin, binary64, round, ne, fits, ofBits}
 use lib.Ieee.Compare.{differs-from-itself}
 use lib.Ieee.Exact.{HasValue}
-use lib.Ieee.Fits.{and-l, and-r, round-fits}
+use lib.Ieee.Fits.{round-fits}
 use lib.Ieee.Scale.{round-same}
 use Rattle.float64.specs.Helpers.{isFinite}
 use Rattle.float64.specs.Units.{inUnits, hasMinus}
@@ -107,12 +107,6 @@ round-nearest s (suc a) b u v b-pos b-le v-pos u-lt e =
 
 -- ---- hours in frames
 
--- what `isRated` tests
-tested : (a b c d : ℕ) → ltb 0 a && (ltb 0 b && ltb c d) ≡ true → (0 < a) × (c < d)
-tested a b c d e =
-    let t : T (ltb 0 a && (ltb 0 b && ltb c d)) = rw e tt in
-    (ltb→lt 0 a (and-l (ltb 0 a) (ltb 0 b && ltb c d) t), ltb→lt c d (and-r (ltb 0 b) (ltb c d) (and-r (ltb 0 a) (ltb 0 b && ltb c d) t)))
-
 module _ (f : Frames) (rated : isRated f ≡ true) where
   abbrev a : ℕ
   a = natAbs (f .count) * 1000 * f .denominator
@@ -121,10 +115,10 @@ module _ (f : Frames) (rated : isRated f ≡ true) where
   b = f .numerator
 
   b-pos : 0 < b
-  b-pos = tested b (f .denominator) (fractionOf f .upper) _ rated .0
+  b-pos = ltb-true 0 b (and-eq-true-iff (ltb 0 b) _ .0 rated .0)
 
   upper-lt : fractionOf f .upper < 2 ^ 53
-  upper-lt = omega (arith, tested b (f .denominator) (fractionOf f .upper) _ rated .1)
+  upper-lt = ltb-true _ _ (and-eq-true-iff (ltb 0 (f .denominator)) _ .0 (and-eq-true-iff (ltb 0 b) _ .0 rated .1) .1)
 
   terms : LowestTerms a b (fractionOf f)
   terms = reductions .terms a b b-pos

@@ -19,13 +19,14 @@ fn quotient(a: u64, b: u64, c: u64) -> f64
     ensures { λ r. ⌜ r ≡ quotientOf (a * b) c ⌝ }
 {
     let g = gcd(a, c);
-    let h = gcd(b, c / g);
+    let rest = c / g;
+    let h = gcd(b, rest);
     let left = a / g;
     let right = b / h;
     if left > 9007199254740991 / right {
         return 0.0 / 0.0;
     }
-    (left * right) as f64 / (c / g / h) as f64
+    (left * right) as f64 / (rest / h) as f64
 }
 
 // The milliseconds of an hour in frames whose body starts there, or NaN where question 22 refuses its rate.

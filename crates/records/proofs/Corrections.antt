@@ -1,5 +1,5 @@
 -- Laws of corrections, which specs/Corrections.antt states. Assumes nothing.
-use mathlib.Core.Path.{_≡_, refl, sym, ap, _∙_}
+use mathlib.Core.Path.{_≡_, refl, sym, _∙_}
 use mathlib.Core.Bool.{Bool, true, false, cond, _&&_, and-eq-true-iff}
 use Prim.Native.Nat.{ℕ, _+_, _≤_, _<_}
 use native.Mathlib.Omega.{arith}
@@ -14,10 +14,10 @@ use Rattle.framing.specs.Bytes.{numberAt}
 use Rattle.framing.specs.Frames.{Rec, rec}
 use Rattle.overrun.specs.Overrun.{overrun}
 use Rattle.records.specs.Entries.{Slot, silent, sounding, Entry, slot, frames, settings, correction}
-use Rattle.records.specs.Positions.{Hour, slotsOf, countKind, hoursAmong}
+use Rattle.records.specs.Positions.{Somewhere, Hour, slotsOf, countKind, hoursAmong}
 use Rattle.records.specs.Corrections.{extended, names, namedFrom, lastCorrection, CorrectedInFile}
 use Rattle.records.specs.Inner.{Says, hour, quiet, setup, repair, framed}
-use Rattle.records.proofs.Positions.{AllSay, end, next, all-say, hour-says}
+use Rattle.records.proofs.Positions.{AllSay, end, next, all-say, hour-says, weaker, later}
 
 -- what an entry adds to the week so far, by its record: only an hour adds a slot, and only a correction can be wrong or change one
 record Adds (ws : List Slot) (k : ℕ) (b : List ℕ) (e : Entry) : Type 0 where
@@ -48,33 +48,29 @@ slots-more (frames f) es = refl
 slots-more (settings st) es = refl
 slots-more (correction p x) es = refl
 
-said-at : (P Q : List Rec) (k : ℕ) (b : List ℕ) {w : Slot} {es : List Entry} → Hour (rec k b) w → AllSay (P ++ rec k b ∷ Q) es → getD (slotsOf es) (hoursAmong P) silent ≡ w
+said-at : (P Q : List Rec) (r : Rec) {w : Slot} {es : List Entry} → Hour r w → AllSay (P ++ r ∷ Q) es → getD (slotsOf es) (hoursAmong P) silent ≡ w
 unfolding countKind
-said-at [] Q k b h (next {es} s t) = rw (hour-says es h s)
-said-at (rec j c ∷ P) Q k b h (next {e} {es} s t) =
+said-at [] Q (rec k b) h (next {es} s t) = rw (hour-says es h s)
+said-at (rec j c ∷ P) Q r h (next {e} {es} s t) =
     let a : hoursAmong (rec j c ∷ P) ≡ length (extended [] e) + hoursAmong P = omega (arith, adds [] s .long P) in
-    rw (a, slots-more e es) (getD-append-add (extended [] e) (slotsOf es) (hoursAmong P) silent ∙ said-at P Q k b h t)
+    rw (a, slots-more e es) (getD-append-add (extended [] e) (slotsOf es) (hoursAmong P) silent ∙ said-at P Q r h t)
 
 right : (P Q : List Rec) (b : List ℕ) {es : List Entry} (ws : List Slot) → AllSay (P ++ rec 4 b ∷ Q) es → namedFrom ws es ≡ true → numberAt 0 2 b < length ws + hoursAmong P
 unfolding namedFrom countKind
 right [] Q b ws (next {e} s t) h = omega (arith, adds ws s .right (and-eq-true-iff (names ws e) _ .0 h .0) refl)
 right (rec k c ∷ P) Q b ws (next {e} s t) h = omega (arith, right P Q b (extended ws e) t (and-eq-true-iff (names ws e) _ .0 h .1), adds ws s .long P)
 
--- `Misnamed`, with n hours before the records
-record MisnamedAfter (n : ℕ) (rs : List Rec) : Type 0 where
-  P : List Rec
-  b : List ℕ
-  Q : List Rec
-  is : rs ≡ P ++ rec 4 b ∷ Q
-  none-has : n + hoursAmong P ≤ numberAt 0 2 b
+-- some correction is wrong, with n hours before the records
+abbrev Misnamed : ℕ → List Rec → Type 0
+Misnamed n rs = Somewhere 4 (λ P b. n + hoursAmong P ≤ numberAt 0 2 b) rs
 
 -- one record and then others: its own correction is wrong, or a later one
-wrong-more : {ws : List Slot} {k : ℕ} {b : List ℕ} {e : Entry} (rs : List Rec) (u v : Bool) → Adds ws k b e → names ws e ≡ u → (v ≡ false → MisnamedAfter (length (extended ws e)) rs) → u && v ≡ false → MisnamedAfter (length ws) (rec k b ∷ rs)
+wrong-more : {ws : List Slot} {k : ℕ} {b : List ℕ} {e : Entry} (rs : List Rec) (u v : Bool) → Adds ws k b e → names ws e ≡ u → (v ≡ false → Misnamed (length (extended ws e)) rs) → u && v ≡ false → Misnamed (length ws) (rec k b ∷ rs)
 unfolding countKind
-wrong-more {b} rs false v a g f h = let w = a .wrong g in record { P = []; b = b; Q = rs; is = rw (w .0); none-has = omega (arith, w .1) }
-wrong-more {k} {b} rs true v a g f h = let w = f h in record { P = rec k b ∷ w .P; b = w .b; Q = w .Q; is = ap (λ (t : List Rec). rec k b ∷ t) (w .is); none-has = omega (arith, w .none-has, a .long (w .P)) }
+wrong-more {b} rs false v a g f h = let w = a .wrong g in record { P = []; b = b; Q = rs; is = rw (w .0); has = omega (arith, w .1) }
+wrong-more {k} {b} rs true v a g f h = later (rec k b) (weaker (λ P c w. omega (arith, w, a .long P)) (f h))
 
-wrong : {rs : List Rec} {es : List Entry} (ws : List Slot) → AllSay rs es → namedFrom ws es ≡ false → MisnamedAfter (length ws) rs
+wrong : {rs : List Rec} {es : List Entry} (ws : List Slot) → AllSay rs es → namedFrom ws es ≡ false → Misnamed (length ws) rs
 unfolding namedFrom
 wrong ws end h = absurd (clash refl h)
 wrong ws (next {e} {rs} {es} s t) h = wrong-more rs (names ws e) (namedFrom (extended ws e) es) (adds ws s) refl (wrong (extended ws e) t) h
@@ -107,15 +103,12 @@ last (correction q x ∷ es) ws h p =
     let n = and-eq-true-iff (ltb q (length ws)) _ .0 h in
     last es (set ws q (sounding x)) (n .1) p ∙ corrected (lastCorrection p es) ws (slotsOf es) q p (sounding x) (ltb-true _ _ (n .0))
 
-hour-at : (P Q : List Rec) (r : Rec) {w : Slot} {es : List Entry} → Hour r w → AllSay (P ++ r ∷ Q) es → getD (slotsOf es) (hoursAmong P) silent ≡ w
-hour-at P Q (rec k b) = said-at P Q k b
-
 pub corrected-in-file : CorrectedInFile
 corrected-in-file rs es h = let t = all-say rs es h in record {
   count = omega (arith, count [] t);
-  hour = λ P Q r w h e. hour-at P Q r h (rw e at t);
+  hour = λ P Q r w h e. said-at P Q r h (rw e at t);
   last = last es [];
   right = λ n P Q b e. omega (arith, right P Q b [] (rw e at t) n);
-  wrong = λ n. let w = wrong [] t n in record { P = w .P; b = w .b; Q = w .Q; is = w .is; none-has = omega (arith, w .none-has) };
+  wrong = λ n. weaker (λ P b w. omega (arith, w)) (wrong [] t n);
   without = without [] t;
 }

@@ -14,7 +14,7 @@ use Rattle.vectors.proofs.Laws.{list-is, list-ext}
 use Rattle.framing.specs.Frames.{Rec, rec}
 use Rattle.overrun.specs.Overrun.{framesIn, overrun}
 use Rattle.records.specs.Entries.{Slot, silent, sounding, Entry, millisecondsIn, both, entryOf, entries, hoursOf}
-use Rattle.records.specs.Positions.{positionsFrom, positionsOf, HasPosition, Positions, Hour, in-milliseconds, in-silence, in-frames, slotsOf, countKind, soundingAmong, hoursAmong, PositionsInFile}
+use Rattle.records.specs.Positions.{positionsFrom, positionsOf, HasPosition, Positions, Somewhere, Hour, in-milliseconds, in-silence, in-frames, slotsOf, countKind, soundingAmong, hoursAmong, PositionsInFile}
 use Rattle.records.specs.Inner.{Says, hour, quiet, setup, repair, framed}
 use Rattle.records.proofs.Entries.{entry-says}
 
@@ -126,6 +126,13 @@ all-say (rec k b ∷ rs) es h =
     let w = parted (entryOf (rec k b)) (entries rs) es h in
     rw (w .all) (next (entry-says k b (w .first) (w .one)) (all-say rs (w .rest) (w .more)))
 
+-- some record, by what it also has, and after one record more
+pub weaker : {k : ℕ} {R S : List Rec → List ℕ → Type 0} {rs : List Rec} → ((P : List Rec) (b : List ℕ) → R P b → S P b) → Somewhere k R rs → Somewhere k S rs
+weaker f w = record { P = w .P; b = w .b; Q = w .Q; is = w .is; has = f (w .P) (w .b) (w .has) }
+
+pub later : {k : ℕ} {R : List Rec → List ℕ → Type 0} {rs : List Rec} (r : Rec) → Somewhere k (λ P b. R (r ∷ P) b) rs → Somewhere k R (r ∷ rs)
+later r w = record { P = r ∷ w .P; b = w .b; Q = w .Q; is = ap (λ (t : List Rec). r ∷ t) (w .is); has = w .has }
+
 -- the slots that a record says
 slotsSaid : Rec → List Slot
 slotsSaid (rec k b) = cond (eqb k 1) (sounding (millisecondsIn b) ∷ []) (cond (eqb k 2) (silent ∷ []) (cond (eqb k 5) (sounding (overrun (framesIn b)) ∷ []) []))
@@ -178,10 +185,10 @@ from-more p P x t (setup k l h) f = rw (h, k) (f p)
 from-more p P x t (repair k l h) f = rw (h, k) (f p)
 from-more p P x t (framed k l h) f = rw (h, k) (from-sounding (f (suc p)) (omega arith) (omega arith))
 
-from : (P Q : List Rec) (k : ℕ) (b : List ℕ) (x : Float) {es : List Entry} → Hour (rec k b) (sounding x) → AllSay (P ++ rec k b ∷ Q) es → (p : ℕ) → FromRecords p P x (slotsOf es)
+from : (P Q : List Rec) (r : Rec) (x : Float) {es : List Entry} → Hour r (sounding x) → AllSay (P ++ r ∷ Q) es → (p : ℕ) → FromRecords p P x (slotsOf es)
 unfolding countKind
-from [] Q k b x h (next {es} s t) p = rw (hour-says es h s) (from-first p x (slotsOf es))
-from (rec j c ∷ P) Q k b x h (next {es} s t) p = from-more p P x es s (from P Q k b x h t)
+from [] Q (rec k b) x h (next {es} s t) p = rw (hour-says es h s) (from-first p x (slotsOf es))
+from (rec j c ∷ P) Q r x h (next {es} s t) p = from-more p P x es s (from P Q r x h t)
 
 pub positions-in-file : PositionsInFile
-positions-in-file P Q (rec k b) x es h e = let w = from P Q k b x h (all-say _ es e) 0 in record { inside = w .inside; milliseconds = w .milliseconds; position = omega (arith, w .position) }
+positions-in-file P Q r x es h e = let w = from P Q r x h (all-say _ es e) 0 in record { inside = w .inside; milliseconds = w .milliseconds; position = omega (arith, w .position) }

@@ -1,16 +1,16 @@
 -- Document 02, A8: corrections to an hour, and what is proved of the week that they leave (`Rattle.records.proofs.Corrections` proves it).
 use mathlib.Core.Path.{_≡_}
 use mathlib.Core.Bool.{Bool, true, false, cond, _&&_}
-use Prim.Native.Nat.{ℕ, _+_, _≤_, _<_}
+use Prim.Native.Nat.{ℕ, _≤_, _<_}
 use mathlib.Core.List.{List, [], _∷_, _++_, foldl}
 use mathlib.Core.Option.{Option, none, some, Option·getD, orElse}
 use lib.ListN.{length, getD, set}
 use lib.Dec.{eqb, ltb}
 use Rattle.framing.specs.Bytes.{numberAt}
-use Rattle.framing.specs.Frames.{Rec, rec}
+use Rattle.framing.specs.Frames.{Rec}
 use Rattle.overrun.specs.Overrun.{overrun}
 use Rattle.records.specs.Entries.{Slot, silent, sounding, Entry, slot, frames, settings, correction, entries}
-use Rattle.records.specs.Positions.{Hour, hoursAmong, slotsOf, countKind}
+use Rattle.records.specs.Positions.{Everywhere, Somewhere, Hour, hoursAmong, slotsOf, countKind}
 
 -- the week so far and one entry more: an hour is its next slot; a correction replaces the slot that it names, which then sounds
 unfoldable pub extended : List Slot → Entry → List Slot
@@ -47,14 +47,6 @@ lastCorrection p (frames f ∷ es) = lastCorrection p es
 lastCorrection p (settings st ∷ es) = lastCorrection p es
 lastCorrection p (correction q x ∷ es) = orElse (lastCorrection p es) (cond (eqb q p) (some (sounding x)) none)
 
--- some correction of the file, with the body b after the records P, has a position that no hour before it has
-pub record Misnamed (rs : List Rec) : Type 0 where
-  pub P : List Rec
-  pub b : List ℕ
-  pub Q : List Rec
-  pub is : rs ≡ P ++ rec 4 b ∷ Q
-  pub none-has : hoursAmong P ≤ numberAt 0 2 b
-
 -- what is proved of the week of any file, with the records rs that say es
 pub record Corrected (rs : List Rec) (es : List Entry) : Type 0 where
   -- the slots are as many as the hours
@@ -64,8 +56,8 @@ pub record Corrected (rs : List Rec) (es : List Entry) : Type 0 where
   -- a slot holds its last correction, or what its hour said
   pub last : named es ≡ true → (p : ℕ) → getD (weekOf es) p silent ≡ Option·getD (lastCorrection p es) (getD (slotsOf es) p silent)
   -- 17 is asked of the file: where it is answered yes each correction has the position of an earlier hour, and else one has not
-  pub right : named es ≡ true → (P Q : List Rec) (b : List ℕ) → rs ≡ P ++ rec 4 b ∷ Q → numberAt 0 2 b < hoursAmong P
-  pub wrong : named es ≡ false → Misnamed rs
+  pub right : named es ≡ true → Everywhere 4 (λ P b. numberAt 0 2 b < hoursAmong P) rs
+  pub wrong : named es ≡ false → Somewhere 4 (λ P b. hoursAmong P ≤ numberAt 0 2 b) rs
   -- without corrections the week is what its hours say, as in A1
   pub without : countKind 4 rs ≡ 0 → (weekOf es ≡ slotsOf es) × (named es ≡ true)
 

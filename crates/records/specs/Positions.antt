@@ -53,6 +53,18 @@ unfoldable pub countKind : ℕ → List Rec → ℕ
 countKind k [] = zero
 countKind k (rec j b ∷ rs) = cond (eqb j k) (suc (countKind k rs)) (countKind k rs)
 
+-- each record of kind k has R, with the body b after the records P
+abbrev pub Everywhere : ℕ → (List Rec → List ℕ → Type 0) → List Rec → Type 0
+Everywhere k R rs = (P Q : List Rec) (b : List ℕ) → rs ≡ P ++ rec k b ∷ Q → R P b
+
+-- some record of kind k has it
+pub record Somewhere (k : ℕ) (R : List Rec → List ℕ → Type 0) (rs : List Rec) : Type 0 where
+  pub P : List Rec
+  pub b : List ℕ
+  pub Q : List Rec
+  pub is : rs ≡ P ++ rec k b ∷ Q
+  pub has : R P b
+
 -- which records are hours, and the slots that they say: kinds 1, 2 and 5 (A14)
 pub data Hour : Rec → Slot → Type 0 where
   in-milliseconds : (b : List ℕ) → Hour (rec 1 b) (sounding (millisecondsIn b))

@@ -28,7 +28,7 @@ use Rattle.series.specs.declared.Week.the-variants as week
 use Rattle.lines.specs.Lines.{refusedLine}
 use Rattle.listing.specs.Shown.{Below, shownLine, shownListing}
 use Rattle.questions.specs.Questions.{Asked, Lent}
-use Rattle.fit.specs.Fit.{FitResult, Outcome, refused, fitted, fit, after}
+use Rattle.fit.specs.Fit.{Outcome, refused, fitted, fit, after}
 use Rattle.fit.proofs.Lengths.{lengths, knot-places}
 use Rattle.decomposition.specs.Outputs.{Outputs, outputs}
 use Rattle.trend_filter.specs.Answers.{summaryOf, answerOf, Gives}

@@ -31,8 +31,8 @@ quotient-is : (c : tie.After-gcd2) → quotientOf (c .before .before .args .a * 
 unfolding quotientOf
 quotient-is c = ap (λ (f : Fraction). cond (ltb (f .upper) (2 ^ 53)) (round binary64 false (f .upper) (f .lower)) nan) (known c .terms)
 
-div-gcd : tie.Need-div-gcd
-div-gcd c = rw (c .gcd .ensures) (gcd-pos (c .before .args .a) (c .before .args .c) (omega arith))
+div-rest : tie.Need-div-rest
+div-rest c = rw (c .gcd .ensures) (gcd-pos (c .before .args .a) (c .before .args .c) (omega arith))
 
 div-if1 : tie.Need-div-if1
 div-if1 c = omega (arith, known c)
@@ -69,6 +69,6 @@ returns-2 c =
 pub quotient-spec : {M : Type 1} → statement M
 quotient-spec =
     tie.close
-    (tie.spec (λ c κs. search needs) div-gcd (λ c κs. search needs)
+    (tie.spec (λ c κs. search needs) div-rest (λ c κs. search needs)
     (λ c. known c .first) (λ c. known c .second) div-if1
-    returns mul-result int-to-float-result (λ c. known (c .before .before) .first) (λ c. known (c .before .before) .second) int-to-float-result-2 returns-2)
+    returns mul-result int-to-float-result (λ c. known (c .before .before) .second) int-to-float-result-2 returns-2)
