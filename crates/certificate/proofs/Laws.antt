@@ -1,28 +1,28 @@
--- Laws of the certificate: the places of its vectors, D' by reads that go beyond the ends, and a point inside the bounds. Assumes nothing.
+-- Laws of the certificate: the places of its vectors, and a point inside the bounds. Assumes nothing.
 use mathlib.Core.Path.{_≡_, refl, sym, ap, ap₂, _∙_}
 use mathlib.Core.Bool.{Bool, true, false}
 use mathlib.Core.List.{List}
 use Prim.Native.Nat.{ℕ, _+_, _-_, _*_, _≤_, _<_, min}
 use native.Mathlib.Omega.{arith}
-use borrow.Author.Tests.{lt-ltb, le-ltb, ltb-true}
+use borrow.Author.Tests.{le-ltb, ltb-true}
 use lib.Dec.{ltb}
 use lib.ListN.{length, take, drop, length-take}
 use lib.Seq.{getD-take}
 use lib.Ieee.{Float, nan, inf, fin, lt, neg, below, up, down}
-use Rattle.float64.specs.Ops.{_⊕_, _⊖_, _⊗_, c0, half}
+use Rattle.float64.specs.Ops.{_⊕_, _⊖_, _⊗_, half}
 use Rattle.float64.specs.Helpers.{absOf, clampOf}
 use Rattle.float64.proofs.Clash.{clash}
-use Rattle.vectors.specs.Vec.{at}
+use Rattle.vectors.specs.Vec.{at, put}
 use Rattle.vectors.specs.Parts.{part, Written}
 use Rattle.vectors.specs.Sums.{norm2Sq, dot, sumAbs, inside}
-use Rattle.vectors.proofs.Laws.{length-list, at-list, list-ext, list-is, cond-cong}
+use Rattle.vectors.proofs.Laws.{length-list, at-list, list-ext, list-is}
 use Rattle.vectors.proofs.Parts.{partOf-ext, range-part, length-part, part-above}
+use Rattle.vectors.proofs.Texts.{put-start}
 use Rattle.vectors.proofs.Sums.{sum-ext, inside-at}
-use Rattle.differences.specs.Diff.{fall, diffK, diffKT}
-use Rattle.differences.specs.Ends.{before, here}
-use Rattle.differences.proofs.Laws.{length-diffK, at-fall-1, at-fall-2}
-use Rattle.certificate.specs.Certificate.{minus, clamped, certify}
-use Rattle.certificate.specs.Run.{dualOf, dualAt, Trend, Beside, Summed, Certified}
+use Rattle.differences.specs.Diff.{diffK, diffKT}
+use Rattle.differences.proofs.Laws.{length-diffK}
+use Rattle.certificate.specs.Certificate.{minus, clamped, dualValue, certify}
+use Rattle.certificate.specs.Run.{dualOf, Trend, Beside, Summed, Certified}
 use Rattle.certificate.specs.Ready.{Ready}
 
 -- ---- the places
@@ -55,34 +55,6 @@ pub behind : (n m j : ℕ) (f : ℕ → Float) (s₀ s : List Float) → Written
     → take (n + m - n) (drop n s) ≡ part n m s₀
 behind n m j f s₀ s w h l = range-part n (n + m) m s refl l ∙ partOf-ext nan n n m s s₀ (λ q _. w .above (n + q) (omega arith))
 
--- ---- place j - 1 of a series of m places, 0 beyond either end
-
-pub edge-in : (m : ℕ) (w : ℕ → Float) (j : ℕ) → 0 < j → j ≤ m → before (here m w) j ≡ w (j - 1)
-edge-in m w j a b = rw (lt-ltb 0 j a, lt-ltb (j - 1) m (omega arith))
-
-pub edge-past : (m : ℕ) (w : ℕ → Float) (j : ℕ) → m < j → before (here m w) j ≡ c0
-edge-past m w j a = rw (lt-ltb 0 j (omega arith), le-ltb (j - 1) m (omega arith))
-
-fall-edges : (m : ℕ) (w : ℕ → Float) (j : ℕ) → j ≤ m → fall m w j ≡ before (here m w) j ⊖ before (here m w) (j + 1)
-fall-edges m w j h =
-    let p : before w j ≡ before (here m w) j =
-    cond-cong (ltb 0 j) (w (j - 1)) (here m w (j - 1)) c0 (λ t. let l = ltb-true 0 j t in sym (rw (lt-ltb (j - 1) m (omega arith)))) in
-    let d : j + 1 - 1 ≡ j = omega arith in
-    let q : here m w j ≡ before (here m w) (j + 1) = rw (lt-ltb 0 (j + 1) (omega arith), d) in
-    ap₂ (λ (x y : Float). x ⊖ y) p q
-
--- and of its transposed first differences, by such reads
-pub edge-fall : (m : ℕ) (w : ℕ → Float) (j : ℕ) → 0 < j → j ≤ m + 1 → before (here (m + 1) (fall m w)) j ≡ before (here m w) (j - 1) ⊖ before (here m w) j
-edge-fall m w j a b = let d : j - 1 + 1 ≡ j = omega arith in edge-in (m + 1) (fall m w) j a b ∙ (rw d at (fall-edges m w (j - 1) (omega arith)))
-
--- place j of D' by such reads, for order 1 and 2
-pub edges-1 : (v : List Float) (m j : ℕ) → length v ≡ m → j < m + 1 → at (diffKT 1 v) j ≡ before (here m (at v)) j ⊖ before (here m (at v)) (j + 1)
-edges-1 v m j e h = at-fall-1 v j (omega arith) ∙ rw e (fall-edges m (at v) j (omega arith))
-
-pub edges-2 : (v : List Float) (m j : ℕ) → length v ≡ m → j < m + 2
-    → at (diffKT 2 v) j ≡ before (here (m + 1) (fall m (at v))) j ⊖ before (here (m + 1) (fall m (at v))) (j + 1)
-edges-2 v m j e h = at-fall-2 v j (omega arith) ∙ rw e (fall-edges (m + 1) (fall m (at v)) j (omega arith))
-
 -- ---- a point inside the bounds is its own clamped point
 
 under : (s : Bool) (a b : ℕ) → ltb a b ≡ true → (below s a true b ≡ false) × (below false b s a ≡ false)
@@ -108,6 +80,13 @@ unfolding clamped
 clamped-inside lam z h =
     list-ext (length z) (λ i. clampOf (at z i) lam) (at z) (λ i l. clamp-inside (at z i) lam (inside-at lam z (length z) i h l)) ∙ sym (list-is nan z)
 
+-- the clamped z at the start of d, as a part that is lent
+pub clamped-first : (lam : Float) (z d₀ d : List Float) → length z ≤ length d₀ → d ≡ put d₀ 0 (clamped lam z) → take (length z - 0) (drop 0 d) ≡ clamped lam z
+clamped-first lam z d₀ d fits e =
+    let h = put-start (length z) d₀ (clamped lam z) d e (length-clamped lam z) fits in
+    let size = h .1 .size in
+    range-part 0 (length z) (length z) d (omega arith) (omega arith) ∙ h .0
+
 -- ---- the whole certificate
 
 -- a vector whose first m places are c has m places
@@ -130,23 +109,35 @@ module _ {k : ℕ} {y dy s₀ s : List Float} {a : Float} (r : Ready k y dy (len
   point : take (length y + (length y - k) - length y) (drop (length y) s) ≡ dualOf k y s₀
   point = range ∙ part-above nan (length y) (length y - k) (t .kept) (omega arith)
 
-  pub summed : {b : Float} → b ≡ dot (part (length y) (length y - k) s) dy → Summed k (take (length y + (length y - k) - length y) (drop (length y) s)) dy a b
-  summed e = record {
-    order = r .series .order;
-    long = rw range (omega (arith, ready-long r, length-part (length y) (length y - k) s));
-    squared = t .squared ∙ ap (λ (v : List Float). norm2Sq (diffKT k v)) (sym point);
-    multiplied = e ∙ ap (λ (v : List Float). dot v dy) (sym range);
-  }
+  length-point : length (take (length y + (length y - k) - length y) (drop (length y) s)) ≡ length y - k
+  length-point = ap length range ∙ length-part (length y) (length y - k) s
 
-  pub certified : (lam : Float) {j g : Float} → j ≡ sumAbs (diffK k (part 0 (length y) s))
-      → g ≡ dualAt k lam dy (take (length y + (length y - k) - length y) (drop (length y) s)) → Certified k y lam s₀ s (half ⊗ a ⊕ lam ⊗ j) g
-  unfolding certify
-  certified lam p q =
-      let zc = clamped lam (dualOf k y s₀) in
-      let l : length zc ≡ length y - k = length-clamped lam (dualOf k y s₀) ∙ length-part (length y) (length y - k) s₀ in
+  -- and there is room for it, clamped, in d₀
+  module _ (d₀ : List Float) (fits : length y - k ≤ length d₀) where
+    pub summed : {b : Float} → b ≡ dot (part (length y) (length y - k) s) dy → (Summed k (take (length y + (length y - k) - length y) (drop (length y) s)) dy a b) × (length (take (length y + (length y - k) - length y) (drop (length y) s)) ≤ length d₀)
+    summed e = (
       record {
-        trend = t .trend;
-        primal-is = ap₂ (λ (u v : Float). half ⊗ u ⊕ lam ⊗ v) (t .squared) (p ∙ ap (λ (v : List Float). sumAbs (diffK k v)) (t .trend));
-        dual-is = (rw point at q) ∙ ap (λ (v : Float). neg half ⊗ norm2Sq (diffKT k zc) ⊕ v) (dot-take zc dy (diffK k y) (length y - k) l (r .known));
-        kept = t .kept;
-      }
+        order = r .series .order;
+        long = omega (arith, ready-long r, length-point);
+        squared = t .squared ∙ ap (λ (v : List Float). norm2Sq (diffKT k v)) (sym point);
+        multiplied = e ∙ ap (λ (v : List Float). dot v dy) (sym range);
+      },
+      omega (arith, length-point),
+    )
+
+    pub certified : (lam : Float) (d : List Float) {j g : Float} → j ≡ sumAbs (diffK k (part 0 (length y) s))
+        → g ≡ dualValue k dy (clamped lam (take (length y + (length y - k) - length y) (drop (length y) s)))
+        → d ≡ put d₀ 0 (clamped lam (take (length y + (length y - k) - length y) (drop (length y) s))) → Certified k y lam s₀ s d₀ d (half ⊗ a ⊕ lam ⊗ j) g
+    unfolding certify
+    certified lam d p q e =
+        let zc = clamped lam (dualOf k y s₀) in
+        let l : length zc ≡ length y - k = length-clamped lam (dualOf k y s₀) ∙ length-part (length y) (length y - k) s₀ in
+        let h = put-start (length y - k) d₀ zc d (rw point at e) l fits in
+        record {
+          trend = t .trend;
+          primal-is = ap₂ (λ (u v : Float). half ⊗ u ⊕ lam ⊗ v) (t .squared) (p ∙ ap (λ (v : List Float). sumAbs (diffK k v)) (t .trend));
+          dual-is = (rw point at q) ∙ ap (λ (v : Float). neg half ⊗ norm2Sq (diffKT k zc) ⊕ v) (dot-take zc dy (diffK k y) (length y - k) l (r .known));
+          zc-is = h .0;
+          kept = t .kept;
+          dual-kept = h .1;
+        }

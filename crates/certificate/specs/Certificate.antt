@@ -10,11 +10,12 @@ use Rattle.vectors.specs.Sums.{norm2Sq, dot, sumAbs}
 use Rattle.differences.specs.Diff.{diffK, diffKT}
 use Rattle.search.specs.Search.{gapBetween}
 
--- the trend x, P and G
+-- the trend x, P, G, and zc, the clamped z
 pub record Certificate : Type 0 where
   pub trend : List Float
   pub primal : Float
   pub dual : Float
+  pub zc : List Float
 
 -- a - b, place by place
 unfoldable pub minus : List Float → List Float → List Float
@@ -24,7 +25,11 @@ minus a b = list (length a) (λ i. at a i ⊖ at b i)
 unfoldable pub clamped : Float → List Float → List Float
 clamped lam z = list (length z) (λ i. clampOf (at z i) lam)
 
--- x = y - D'z; P = 0.5·Σ(D'z)² + lam·Σ|D x|; with zc the clamped z, G = -0.5·Σ(D'zc)² + Σ zc·D y
+-- G at a dual point z: -0.5·Σ(D'z)² + Σ z·dy, where dy is D y
+abbrev pub dualValue : ℕ → List Float → List Float → Float
+dualValue k dy z = neg half ⊗ norm2Sq (diffKT k z) ⊕ dot z dy
+
+-- x = y - D'z; P = 0.5·Σ(D'z)² + lam·Σ|D x|; G at zc, the clamped z
 unfoldable pub certify : ℕ → List Float → Float → List Float → Certificate
 certify k y lam z =
     let w = diffKT k z in
@@ -34,7 +39,8 @@ certify k y lam z =
     record {
       trend = x;
       primal = half ⊗ norm2Sq w ⊕ lam ⊗ sumAbs dx;
-      dual = neg half ⊗ norm2Sq (diffKT k zc) ⊕ dot zc (diffK k y);
+      dual = dualValue k (diffK k y) zc;
+      zc = zc;
     }
 
 -- gap = P - G

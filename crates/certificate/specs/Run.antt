@@ -3,21 +3,16 @@ use mathlib.Core.Path.{_≡_}
 use mathlib.Core.List.{List}
 use Prim.Native.Nat.{ℕ, _+_, _-_, _≤_}
 use lib.ListN.{length}
-use lib.Ieee.{Float, neg}
-use Rattle.float64.specs.Ops.{_⊕_, _⊗_, half}
+use lib.Ieee.{Float}
 use Rattle.vectors.specs.Parts.{Kept, part}
 use Rattle.vectors.specs.Sums.{norm2Sq, dot}
 use Rattle.differences.specs.Diff.{diffKT}
 use Rattle.differences.specs.Series.{Order, Series}
-use Rattle.certificate.specs.Certificate.{minus, clamped, certify}
+use Rattle.certificate.specs.Certificate.{minus, certify}
 
 -- z, after the n places of the trend
 abbrev pub dualOf : ℕ → List Float → List Float → List Float
 dualOf k y s = part (length y) (length y - k) s
-
--- G at z, of which z·D y reads D y from dy
-abbrev pub dualAt : ℕ → Float → List Float → List Float → Float
-dualAt k lam dy z = neg half ⊗ norm2Sq (diffKT k (clamped lam z)) ⊕ dot (clamped lam z) dy
 
 -- the trend y - D'z and Σ(D'z)²; all else is as found
 pub record Trend (k : ℕ) (y s₀ s : List Float) (squares : Float) : Type 0 where
@@ -38,9 +33,11 @@ pub record Summed (k : ℕ) (z dy : List Float) (squares product : Float) : Type
   pub squared : squares ≡ norm2Sq (diffKT k z)
   pub multiplied : product ≡ dot z dy
 
--- the trend, P and G; all else is as found
-pub record Certified (k : ℕ) (y : List Float) (lam : Float) (s₀ s : List Float) (primal dual : Float) : Type 0 where
+-- the trend, P, G, and zc at the start of d; all else is as found
+pub record Certified (k : ℕ) (y : List Float) (lam : Float) (s₀ s d₀ d : List Float) (primal dual : Float) : Type 0 where
   pub trend : part 0 (length y) s ≡ certify k y lam (dualOf k y s₀) .trend
   pub primal-is : primal ≡ certify k y lam (dualOf k y s₀) .primal
   pub dual-is : dual ≡ certify k y lam (dualOf k y s₀) .dual
+  pub zc-is : part 0 (length y - k) d ≡ certify k y lam (dualOf k y s₀) .zc
   pub kept : Kept 0 (length y) s₀ s
+  pub dual-kept : Kept 0 (length y - k) d₀ d

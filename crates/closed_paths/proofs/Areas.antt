@@ -1,4 +1,4 @@
--- Calls on an area of work: the certificate at z*, L2's system and its objectives, and what each leaves. Assumes nothing.
+-- Calls on an area of work: the certificate at z*, L2's system, and what each leaves. Assumes nothing.
 use mathlib.Core.Path.{_≡_, refl, sym, ap, subst, _∙_}
 use mathlib.Core.Bool.{Bool, true, false}
 use mathlib.Core.List.{List}
@@ -9,21 +9,24 @@ use native.Mathlib.Omega.{arith}
 use lib.Dec.{T}
 use lib.ListN.{length, take, drop}
 use lib.Ieee.{Float, nan}
+use Rattle.float64.specs.Ops.{_⊖_}
 use Rattle.vectors.specs.Parts.{Kept, part}
 use Rattle.vectors.proofs.Laws.{kept-none, kept-then}
-use Rattle.vectors.proofs.Parts.{length-part, putBack, partOf-range, part-put, part-below}
-use Rattle.certificate.specs.Certificate.{certify}
-use Rattle.certificate.specs.Run.{dualOf, Certified}
+use Rattle.vectors.proofs.Parts.{length-part, putBack, partOf-range, part-put}
+use Rattle.differences.specs.Diff.{gramRow}
+use Rattle.certificate.specs.Certificate.{gapOf}
+use Rattle.certificate.specs.Run.{Certified}
 use Rattle.dual_point.specs.Lanes.{candidateTrend}
+use Rattle.gram.specs.Gram.{zstar}
 use Rattle.gram.specs.Prepared.{preparation}
 use Rattle.l2.specs.L2.{soundL2, trendL2, gapL2, objectiveL2}
-use Rattle.l2.specs.Solved.{SolvedL2, Ended}
-use Rattle.l2.specs.declared.Ends.{Ends}
+use Rattle.l2.specs.Solved.{SolvedL2}
 use Rattle.questions.specs.Questions.{Asked}
-use Rattle.fit.specs.Fit.{Found, closed, pathL2}
+use Rattle.fit.proofs.Passed.{foundL2}
+use Rattle.fit.specs.Fit.{Found, places, certificateAt, closed, pathFlat, pathL2}
 use Rattle.closed_paths.specs.declared.Trend.{Trend}
 use Rattle.closed_paths.specs.declared.Trend.the-variants.{Series, Solution, Won}
-use Rattle.closed_paths.specs.Trends.{solutionLane, trendOf}
+use Rattle.closed_paths.specs.Trends.{solutionLane, trendOf, foundOf}
 
 -- a change within a wider stretch
 pub kept-wide : {a n : ℕ} {s₀ s : List Float} (b k : ℕ) → Kept a n s₀ s → b ≤ a → a + n ≤ b + k → Kept b k s₀ s
@@ -37,25 +40,24 @@ isFound (some f) = T true
 pub some-none : (f : Found) → some f ≡ none → ⊥
 some-none f e = subst isFound e tt
 
--- the certificate at the point z that stands in w from a on: its trend goes to the n places before, from s on
-module _ (k : ℕ) (y : List Float) (lam : Float) (w x z : List Float) (primal dual : Float) (s a e : ℕ) (low : k ≤ length y) (start : s + length y ≡ a)
-    (end : e ≡ a + (length y - k)) (fits : e ≤ length w) (size : length x ≡ e - s) (star : part a (length y - k) w ≡ z)
-    (c : Certified k y lam (take (e - s) (drop s w)) x primal dual) where
-  point : dualOf k y (take (e - s) (drop s w)) ≡ z
-  point = partOf-range nan (length y) (length y - k) s e w (omega arith) fits (omega arith) ∙ ap (λ (q : ℕ). part q (length y - k) w) start ∙ star
+-- what the certificate at z gives
+abbrev certifiedAt : Asked → List Float → Found
+certifiedAt a z = let c = certificateAt a z in record { trend = c .trend; dual = c .zc; numbers = closed (gapOf c) (c .primal) }
 
-  pub flat-primal : primal ≡ certify k y lam z .primal
-  flat-primal = c .primal-is ∙ ap (λ (v : List Float). certify k y lam v .primal) point
-
-  pub flat-dual : dual ≡ certify k y lam z .dual
-  flat-dual = c .dual-is ∙ ap (λ (v : List Float). certify k y lam v .dual) point
-
-  pub flat-trend : part s (length y) (putBack s (e - s) w x) ≡ certify k y lam z .trend
-  flat-trend =
-      ap (λ (q : ℕ). part q (length y) (putBack s (e - s) w x)) (sym (add-zero s))
-      ∙ part-put s (e - s) w x (omega arith) size nan 0 (length y) (omega arith)
-      ∙ c .trend
-      ∙ ap (λ (v : List Float). certify k y lam v .trend) point
+-- the certificate at z*, which stands in w behind the n places for its trend
+pub flat-found : (a : Asked) (w x d₀ d : List Float) (primal dual : Float) → let n = length (a .y) in let s = preparation n in let e = s + n + places a in
+    a .order ≤ n → e ≤ length w → length x ≡ e - s → part (s + n) (places a) w ≡ zstar (a .order) (gramRow (a .order)) (places a) (a .y)
+    → Certified (a .order) (a .y) (a .lam) (take (e - s) (drop s w)) x d₀ d primal dual
+    → foundOf (a .order) (a .y) (putBack s (e - s) w x) d (record { trend = Won false; numbers = closed (primal ⊖ dual) primal }) ≡ pathFlat a
+unfolding trendOf pathFlat
+flat-found a w x d₀ d primal dual low fits size star c =
+    let n = length (a .y) in
+    let s = preparation n in
+    let e = s + n + places a in
+    let start = ap (λ (q : ℕ). part q n (putBack s (e - s) w x)) (sym (add-zero s)) in
+    let trend = start ∙ part-put s (e - s) w x (omega arith) size nan 0 n (omega arith) ∙ c .trend in
+    let point = partOf-range nan n (places a) s e w (omega arith) fits (omega arith) ∙ star in
+    (λ i. record { trend = trend i; dual = c .zc-is i; numbers = closed (c .primal-is i ⊖ c .dual-is i) (c .primal-is i) }) ∙ ap (certifiedAt a) point
 
 -- ---- L2
 
@@ -71,30 +73,15 @@ module _ (k : ℕ) (y : List Float) (lam : Float) (w x : List Float) (ok : Bool)
       ∙ part-put a (e - a) w x (omega arith) size nan (length y * (k + 1)) (length y) (omega arith)
       ∙ c .trend t
 
-module _ (k : ℕ) (y : List Float) (lam : Float) (w x t : List Float) (r : Ends) (b f : ℕ) (end : f ≡ b + (length y + length y)) (fits : f ≤ length w)
-    (size : length x ≡ f - b) (held : part b (length y) w ≡ t) (c : Ended k y lam (take (f - b) (drop b w)) x r) where
-  inner : part 0 (length y) (take (f - b) (drop b w)) ≡ t
-  inner = partOf-range nan 0 (length y) b f w (omega arith) fits (omega arith) ∙ ap (λ (q : ℕ). part q (length y) w) (add-zero b) ∙ held
+-- what L2 finds where every pivot is good
+abbrev pub goodL2 : Asked → Found
+goodL2 a = let x = trendL2 (a .order) (a .y) (a .lam) in foundL2 a (gapL2 (a .order) (a .y) (a .lam) x) (objectiveL2 (a .order) (a .y) (a .lam) x)
 
-  pub ends-gap : r .gap ≡ gapL2 k y lam t
-  ends-gap = c .gap ∙ ap (gapL2 k y lam) inner
-
-  pub ends-objective : r .objective ≡ objectiveL2 k y lam t
-  ends-objective = c .objective ∙ ap (objectiveL2 k y lam) inner
-
-  pub ends-trend : part b (length y) (putBack b (f - b) w x) ≡ t
-  ends-trend =
-      ap (λ (q : ℕ). part q (length y) (putBack b (f - b) w x)) (sym (add-zero b))
-      ∙ part-put b (f - b) w x (omega arith) size nan 0 (length y) (omega arith)
-      ∙ part-below nan 0 (length y) (c .kept) (omega arith)
-      ∙ inner
-
-pub l2-sound : (a : Asked) → soundL2 (a .order) (a .y) (a .lam) ≡ true
-    → let x = trendL2 (a .order) (a .y) (a .lam) in pathL2 a ≡ some (record { trend = x; numbers = closed (gapL2 (a .order) (a .y) (a .lam) x) (objectiveL2 (a .order) (a .y) (a .lam) x) })
+pub l2-sound : (a : Asked) → soundL2 (a .order) (a .y) (a .lam) ≡ true → some (goodL2 a) ≡ pathL2 a
 unfolding pathL2
 l2-sound a e = rw e
 
-pub l2-unsound : (a : Asked) → soundL2 (a .order) (a .y) (a .lam) ≡ false → pathL2 a ≡ none
+pub l2-unsound : (a : Asked) → soundL2 (a .order) (a .y) (a .lam) ≡ false → none ≡ pathL2 a
 unfolding pathL2
 l2-unsound a e = rw e
 

@@ -31,14 +31,15 @@ pub record AsksL1 (k : ℕ) (y w c : List Float) : Type 0 where
   pub star : part (starLane k (length y)) (length y - k) w ≡ zstar k (gramRow k) (length y - k) y
   pub differences : part (diffLane (length y)) (length y - k) w ≡ diffK k y
 
--- the search asks too room for its marks
-pub record AsksSearch (k : ℕ) (y w c : List Float) (marks : List ℕ) : Type 0 where
+-- the search asks too room for the dual point in d places, and for its marks
+pub record AsksSearch (k : ℕ) (y w c : List Float) (d : ℕ) (marks : List ℕ) : Type 0 where
   pub l1 : AsksL1 k y w c
+  pub dual : length y - k ≤ d
   pub marked : marksPlaces (length y) ≤ length marks
 
 -- the choice of a path asks too that top is lam_max
-pub record AsksPath (k : ℕ) (y : List Float) (top : Float) (w c : List Float) (marks : List ℕ) : Type 0 where
-  pub search : AsksSearch k y w c marks
+pub record AsksPath (k : ℕ) (y : List Float) (top : Float) (w c : List Float) (d : ℕ) (marks : List ℕ) : Type 0 where
+  pub search : AsksSearch k y w c d marks
   pub top-is : top ≡ lamMax k (gramRow k) (length y - k) y
 
 -- ---- what is left
@@ -48,20 +49,21 @@ pub record Differences (k : ℕ) (y c₀ c : List Float) : Type 0 where
   pub known : take (length y - k) c ≡ diffK k y
   pub kept : Kept 0 (length y) c₀ c
 
--- what may have changed: work behind the preparation, and the first n places of cycle
-pub record Changed (n : ℕ) (w₀ w c₀ c : List Float) : Type 0 where
+-- what may have changed: work behind the preparation, the first n places of cycle, and the first n - k of dual
+pub record Changed (k n : ℕ) (w₀ w c₀ c d₀ d : List Float) : Type 0 where
   pub work : Kept (preparation n) (searchArea n) w₀ w
   pub cycle : Kept 0 n c₀ c
+  pub dual : Kept 0 (n - k) d₀ d
 
 -- r is what f says, for each i of what the path doesn't read
-pub record Finds {I : Type 0} (f : I → Found) (y w₀ w c₀ c : List Float) (r : Finding) : Type 0 where
-  pub says : (i : I) → foundOf y w r ≡ f i
+pub record Finds {I : Type 0} (f : I → Found) (k : ℕ) (y w₀ w c₀ c d₀ d : List Float) (r : Finding) : Type 0 where
+  pub says : (i : I) → foundOf k y w d r ≡ f i
   pub stands : reach (r .trend) (length y) ≤ length w
-  pub changed : Changed (length y) w₀ w c₀ c
+  pub changed : Changed k (length y) w₀ w c₀ c d₀ d
 
--- a path answered r: where it is lost, cycle is as found
-pub record Took (f : Option Found) (y w₀ w c₀ c : List Float) (r : Path) : Type 0 where
-  pub says : said y w r ≡ f
+-- a path answered r: where it is lost, cycle and dual are as found
+pub record Took (f : Option Found) (k : ℕ) (y w₀ w c₀ c d₀ d : List Float) (r : Path) : Type 0 where
+  pub says : said k y w d r ≡ f
   pub stands : reached r (length y) ≤ length w
-  pub lost : f ≡ none → c ≡ c₀
-  pub changed : Changed (length y) w₀ w c₀ c
+  pub lost : f ≡ none → (c ≡ c₀) × (d ≡ d₀)
+  pub changed : Changed k (length y) w₀ w c₀ c d₀ d

@@ -2,7 +2,7 @@
 use mathlib.Core.Bool.{cond}
 use mathlib.Core.List.{List}
 use mathlib.Core.Option.{Option, none, some}
-use Prim.Native.Nat.{ℕ, _+_, _*_}
+use Prim.Native.Nat.{ℕ, _+_, _-_, _*_}
 use lib.ListN.{length}
 use lib.Ieee.{Float}
 use Rattle.vectors.specs.Parts.{part}
@@ -33,14 +33,14 @@ reach Series n = 0
 reach Solution n = solutionLane n + n
 reach (Won second) n = preparation n + searchArea n
 
--- what was found, with the trend in w
-abbrev pub foundOf : List Float → List Float → Finding → Found
-foundOf y w f = record { trend = trendOf y w (f .trend); numbers = f .numbers }
+-- what was found for the order k, with the trend in w and the dual point at the start of d
+abbrev pub foundOf : ℕ → List Float → List Float → List Float → Finding → Found
+foundOf k y w d f = record { trend = trendOf y w (f .trend); dual = part 0 (length y - k) d; numbers = f .numbers }
 
 -- what an answer says: nothing was found, or this
-unfoldable pub said : List Float → List Float → Path → Option Found
-said y w Lost = none
-said y w (Done f) = some (foundOf y w f)
+unfoldable pub said : ℕ → List Float → List Float → List Float → Path → Option Found
+said k y w d Lost = none
+said k y w d (Done f) = some (foundOf k y w d f)
 
 -- the reach of an answer
 unfoldable pub reached : Path → ℕ → ℕ

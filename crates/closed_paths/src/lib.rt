@@ -1,13 +1,14 @@
-// The closed paths of a prepared series: what they have in common, L1 with lam at least lam_max, and L2. What a path answers, and where its trend stands.
+// The closed paths of a prepared series: what they have in common, L1 with lam 0 and with lam at least lam_max, and L2. What a path answers, and where its trend stands.
 // work holds the preparation first; a path writes only behind it.
 use fit::Numbers;
 use search::Reason;
 ghost use mathlib.Core.Path.{_≡_};
 ghost use mathlib.Core.List.{List};
-ghost use Prim.Native.Nat.{ℕ};
+ghost use Prim.Native.Nat.{ℕ, _-_, _≤_};
 ghost use lib.Ieee.{Float};
 ghost use lib.ListN.{length};
-ghost use Rattle.fit.specs.Fit.{closed, pathFlat, pathL2};
+ghost use Rattle.differences.specs.Series.{Series};
+ghost use Rattle.fit.specs.Fit.{closed, pathZero, pathFlat, pathL2};
 ghost use Rattle.questions.specs.Asking.{asking};
 ghost use Rattle.closed_paths.specs.Taken.{AsksL1, AsksL2, Differences, Finds, Took};
 
@@ -57,11 +58,33 @@ pub fn closed(gap: f64, objective: f64) -> Numbers
     }
 }
 
+// L1 with lam 0: the series is the trend, and the dual point is 0.
+pub fn zero_path(dual: &mut [f64], y: &[f64], k: usize) -> Finding
+    requires { ⌜ Series k (length (now y)) × (length (now y) - k ≤ length (now dual)) ⌝ }
+    ensures { λ r. ⌜ ((w c : List Float) → Finds (λ (i : (Float × Float) × (ℕ × ℕ)). pathZero (asking (now (y .entry)) (i .0 .0) (i .0 .1) (i .1 .0) k (i .1 .1))) k (now (y .entry))
+        w w c c (now (dual .entry)) (now (dual .exit)) r) ⌝ }
+{
+    let m = y.len() - k;
+    vectors::fill(dual, 0, m, 0.0);
+    let s = closed(0.0, 0.0);
+    Finding {
+        trend: Trend::Series,
+        numbers: s,
+    }
+}
+
 // L1 with lam at least lam_max: the certificate at z*, which is read from the preparation. cycle holds D y meanwhile.
-pub fn flat_path(work: &mut [f64], cycle: &mut [f64], y: &[f64], lam: f64, k: usize) -> Finding
-    requires { ⌜ AsksL1 k (now y) (now work) (now cycle) ⌝ }
-    ensures { λ r. ⌜ Finds (λ (i : Float × (ℕ × ℕ)). pathFlat (asking (now (y .entry)) lam (i .0) (i .1 .0) k (i .1 .1))) (now (y .entry))
-        (now (work .entry)) (now (work .exit)) (now (cycle .entry)) (now (cycle .exit)) r ⌝ }
+pub fn flat_path(
+    work: &mut [f64],
+    cycle: &mut [f64],
+    dual: &mut [f64],
+    y: &[f64],
+    lam: f64,
+    k: usize,
+) -> Finding
+    requires { ⌜ AsksL1 k (now y) (now work) (now cycle) × (length (now y) - k ≤ length (now dual)) ⌝ }
+    ensures { λ r. ⌜ Finds (λ (i : Float × (ℕ × ℕ)). pathFlat (asking (now (y .entry)) lam (i .0) (i .1 .0) k (i .1 .1))) k (now (y .entry))
+        (now (work .entry)) (now (work .exit)) (now (cycle .entry)) (now (cycle .exit)) (now (dual .entry)) (now (dual .exit)) r ⌝ }
 {
     differences_to(cycle, work, y, k);
     let n = y.len();
@@ -70,7 +93,7 @@ pub fn flat_path(work: &mut [f64], cycle: &mut [f64], y: &[f64], lam: f64, k: us
     let z = a + n;
     let e = z + m;
     vectors::copy_within(work, m * (k + 1), z, m);
-    let p = certificate::certify_l1(&mut work[a..e], y, cycle, lam, k);
+    let p = certificate::certify_l1(&mut work[a..e], dual, y, cycle, lam, k);
     let s = closed(p.primal - p.dual, p.primal);
     Finding {
         trend: Trend::Won(false),
@@ -79,10 +102,10 @@ pub fn flat_path(work: &mut [f64], cycle: &mut [f64], y: &[f64], lam: f64, k: us
 }
 
 // L2: lost where a pivot of its system is bad. The system's rows end where the trend is to stand.
-pub fn l2_path(work: &mut [f64], y: &[f64], lam: f64, k: usize) -> Path
-    requires { ⌜ AsksL2 k (length (now y)) (length (now work)) ⌝ }
-    ensures { λ r. ⌜ ((tol : Float) (max-iter penalty : ℕ) (c : List Float) → Took (pathL2 (asking (now (y .entry)) lam tol max-iter k penalty)) (now (y .entry))
-        (now (work .entry)) (now (work .exit)) c c r) ⌝ }
+pub fn l2_path(work: &mut [f64], dual: &mut [f64], y: &[f64], lam: f64, k: usize) -> Path
+    requires { ⌜ AsksL2 k (length (now y)) (length (now work)) × (length (now y) - k ≤ length (now dual)) ⌝ }
+    ensures { λ r. ⌜ ((tol : Float) (max-iter penalty : ℕ) (c : List Float) → Took (pathL2 (asking (now (y .entry)) lam tol max-iter k penalty)) k (now (y .entry))
+        (now (work .entry)) (now (work .exit)) c c (now (dual .entry)) (now (dual .exit)) r) ⌝ }
 {
     let n = y.len();
     let b = 8 * n;
@@ -91,8 +114,7 @@ pub fn l2_path(work: &mut [f64], y: &[f64], lam: f64, k: usize) -> Path
     if !l2::solve_l2(&mut work[a..e], y, lam, k) {
         return Path::Lost;
     }
-    let f = 10 * n;
-    let o = l2::objectives(&mut work[b..f], y, lam, k);
+    let o = l2::objectives(dual, &work[b..e], y, lam, k);
     let s = closed(o.gap, o.objective);
     Path::Done(Finding {
         trend: Trend::Solution,

@@ -17,13 +17,13 @@ unfoldable pub sameSummary : Summary → List ℕ → ℕ → Bool
 sameSummary f s a = sameDoubles (numbersOf f) s a && sameNumbers (countsOf f) s (a + 5)
 
 -- whether a fit is stored from word a on: 0, its numbers, its places
-unfoldable pub sameFit : Summary → List Float → List Float → List ℕ → List ℕ → ℕ → Bool
-sameFit f trend cycle knots s a = eqb (wordAt s a) 0 && (sameSummary f s (a + 1) && samePlaces trend cycle knots s (a + 11))
+unfoldable pub sameFit : Summary → List Float → List Float → List ℕ → List Float → List ℕ → ℕ → Bool
+sameFit f trend cycle knots dual s a = eqb (wordAt s a) 0 && (sameSummary f s (a + 1) && samePlaces trend cycle knots dual s (a + 11))
 
 -- whether an outcome is stored from word a on: a refusal is its number
 unfoldable pub sameOutcome : Outcome → List ℕ → ℕ → Bool
 sameOutcome (refused q) s a = eqb q (wordAt s a)
-sameOutcome (fitted f) s a = sameFit (summaryOf f) (f .trend) (f .cycle) (f .knots) s a
+sameOutcome (fitted f) s a = sameFit (summaryOf f) (f .trend) (f .cycle) (f .knots) (f .dual) s a
 
 -- a call with the buffers b before and c after: r says whether its outcome is stored from word i on, and the buffers are as the fit leaves them
 pub record Compares (a : Asked) (r : Bool) (b c : Buffers) (s : List ℕ) (i : ℕ) : Type 0 where

@@ -45,38 +45,49 @@ fn same_fit(
     trend: &[f64],
     cycle: &[f64],
     knots: &[u32],
+    dual: &[f64],
     s: &[u8; 131072],
     a: usize,
 ) -> bool
-    requires { ⌜ (length (now trend) ≤ 168) × (length (now cycle) ≤ 168) × (length (now knots) ≤ 168) ⌝ }
+    requires { ⌜ (length (now trend) ≤ 168) × (length (now cycle) ≤ 168) × (length (now knots) ≤ 168) × (length (now dual) ≤ 168) ⌝ }
     requires { ⌜ a < 32000 ⌝ }
-    ensures { λ r. ⌜ r ≡ sameFit f (now (trend .entry)) (now (cycle .entry)) (now (knots .entry)) (now (s .entry)) a ⌝ }
+    ensures { λ r. ⌜ r ≡ sameFit f (now (trend .entry)) (now (cycle .entry)) (now (knots .entry)) (now (dual .entry)) (now (s .entry)) a ⌝ }
 {
     let w = stored::word(s, a);
     let n = same_summary(f, s, a + 1);
-    let p = stored::same_places(trend, cycle, knots, s, a + 11);
+    let p = stored::same_places(trend, cycle, knots, dual, s, a + 11);
     stored::both(w == 0, stored::both(n, p))
 }
 
-// Whether an answer is the one that is stored from word a on; the places of a fit of n stand first in the slices.
+// Whether an answer is the one that is stored from word a on; the places of a fit of n, with m differences, stand first in the slices.
 fn same_answer(
     r: Answer,
     n: usize,
+    m: usize,
     trend: &[f64],
     cycle: &[f64],
     knots: &[u32],
+    dual: &[f64],
     s: &[u8; 131072],
     a: usize,
 ) -> bool
-    requires { ⌜ Room r n (length (now trend)) (length (now cycle)) (length (now knots)) ⌝ }
+    requires { ⌜ Room r n m (length (now trend)) (length (now cycle)) (length (now knots)) (length (now dual)) ⌝ }
     requires { ⌜ a < 32000 ⌝ }
-    ensures { λ z. ⌜ z ≡ sameAnswer r n (now (trend .entry)) (now (cycle .entry)) (now (knots .entry)) (now (s .entry)) a ⌝ }
+    ensures { λ z. ⌜ z ≡ sameAnswer r n m (now (trend .entry)) (now (cycle .entry)) (now (knots .entry)) (now (dual .entry)) (now (s .entry)) a ⌝ }
 {
     match r {
         Answer::Refused(q) => wide(q) == stored::word(s, a),
         Answer::Fit(f) => {
             let k = f.knots;
-            same_fit(f, &trend[0..n], &cycle[0..n], &knots[0..k], s, a)
+            same_fit(
+                f,
+                &trend[0..n],
+                &cycle[0..n],
+                &knots[0..k],
+                &dual[0..m],
+                s,
+                a,
+            )
         }
     }
 }
@@ -89,6 +100,7 @@ pub fn same_outcome(
     trend: &mut [f64],
     cycle: &mut [f64],
     knots: &mut [u32],
+    dual: &mut [f64],
     work: &mut [f64],
     marks: &mut [u32],
     s: &[u8; 131072],
@@ -96,10 +108,12 @@ pub fn same_outcome(
 ) -> bool
     requires { ⌜ (length (now y) ≤ 168) × (a < 32000) ⌝ }
     ensures { λ r. ⌜ Compares (asking (now (y .entry)) lam (opts .tol) (opts .«max_iter») (opts .order) (opts .penalty)) r
-        (buffers (now (trend .entry)) (now (cycle .entry)) (now (knots .entry)) (now (work .entry)) (now (marks .entry)))
-        (buffers (now (trend .exit)) (now (cycle .exit)) (now (knots .exit)) (now (work .exit)) (now (marks .exit)))
+        (buffers (now (trend .entry)) (now (cycle .entry)) (now (knots .entry)) (now (dual .entry)) (now (work .entry)) (now (marks .entry)))
+        (buffers (now (trend .exit)) (now (cycle .exit)) (now (knots .exit)) (now (dual .exit)) (now (work .exit)) (now (marks .exit)))
         (now (s .entry)) a ⌝ }
 {
-    let r = l1_trend_filter(y, lam, opts, trend, cycle, knots, work, marks);
-    same_answer(r, y.len(), trend, cycle, knots, s, a)
+    let n = y.len();
+    let m = vectors::over(n, opts.order as usize);
+    let r = l1_trend_filter(y, lam, opts, trend, cycle, knots, dual, work, marks);
+    same_answer(r, n, m, trend, cycle, knots, dual, s, a)
 }

@@ -1,4 +1,3 @@
 -- The definitions that the contracts of decomposition cite.
 pub mod Knots
-pub mod Outputs
 pub mod Written

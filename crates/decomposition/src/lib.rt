@@ -13,8 +13,7 @@ ghost use Rattle.differences.specs.Diff.{diffK};
 ghost use Rattle.certificate.specs.Certificate.{minus};
 ghost use Rattle.differences.specs.Series.{Series};
 ghost use Rattle.decomposition.specs.Knots.{threshold, knots as knotsOf};
-ghost use Rattle.decomposition.specs.Outputs.{outputs};
-ghost use Rattle.decomposition.specs.Written.{KnotPlaces, Places, WroteOut};
+ghost use Rattle.decomposition.specs.Written.{decomposed, KnotPlaces, Places, WroteOut};
 
 // The greatest |D y| and the greatest |y|, from 0; NaN is ignored.
 struct Peaks {
@@ -121,9 +120,9 @@ pub fn write_out(
     x: &[f64],
     k: usize,
 ) -> usize
-    requires { ⌜ Places k (now y) (now x) (outputs (now trend) (now cycle) (now knots)) ⌝ }
+    requires { ⌜ Places k (now y) (now x) (decomposed (now trend) (now cycle) (now knots)) ⌝ }
     ensures { λ r. ⌜ WroteOut k (now (y .entry)) (now (x .entry)) r
-        (outputs (now (trend .entry)) (now (cycle .entry)) (now (knots .entry))) (outputs (now (trend .exit)) (now (cycle .exit)) (now (knots .exit))) ⌝ }
+        (decomposed (now (trend .entry)) (now (cycle .entry)) (now (knots .entry))) (decomposed (now (trend .exit)) (now (cycle .exit)) (now (knots .exit))) ⌝ }
 {
     vectors::copy(trend, x);
     minus_into(cycle, y, x);

@@ -3,6 +3,7 @@ ghost use mathlib.Core.Path.{_≡_};
 ghost use Prim.Native.Nat.{_≤_, _<_, _-_, _+_};
 ghost use lib.ListN.{length};
 ghost use Rattle.vectors.specs.Vec.{at, put};
+ghost use Rattle.vectors.specs.Sums.{norm2Sq};
 ghost use Rattle.differences.specs.Diff.{diffK, fall, diffKT, stencil as stencil_of, gramRow};
 ghost use Rattle.differences.specs.Ends.{before, here};
 ghost use Rattle.differences.specs.Series.{Order, Series};
@@ -111,4 +112,20 @@ pub fn diff_t_at(z: &[f64], k: usize, j: usize) -> f64
     let a = fall_before(z, j);
     let b = fall_here(z, j);
     a - b
+}
+
+// Σ(D'v)²
+pub fn fall_squares(v: &[f64], k: usize) -> f64
+    requires { ⌜ Order k ⌝ }
+    ensures { λ r. ⌜ r ≡ norm2Sq (diffKT k (now (v .entry))) ⌝ }
+{
+    let n = v.len() + k;
+    let mut sum = 0.0;
+    let mut j = 0;
+    while j < n {
+        let d = diff_t_at(v, k, j);
+        sum = sum + d * d;
+        j += 1;
+    }
+    sum
 }

@@ -225,7 +225,7 @@ other-reason a l f e r other g = above a l f e r other (omega (arith, bounds a l
 
 -- ---- the limit n_iter itself
 abbrev foundWith : Reason → Found → Found
-foundWith r f = record { trend = f .trend; numbers = numbersWith r (f .numbers) }
+foundWith r f = record { trend = f .trend; dual = f .dual; numbers = numbersWith r (f .numbers) }
 
 end-retold : (a : Asked) (e : Ended State) (r : Reason) → pathEnd a (search.retold e r) ≡ foundWith r (pathEnd a e)
 unfolding pathEnd keptOf

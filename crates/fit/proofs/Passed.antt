@@ -7,7 +7,8 @@ use mathlib.Core.Option.{Option, none, some}
 use lib.Dec.{T, eqb, eqb→eq}
 use lib.ListN.{length}
 use lib.Ieee.{Float}
-use Rattle.l2.specs.L2.{soundL2, trendL2}
+use Rattle.differences.specs.Diff.{diffK}
+use Rattle.l2.specs.L2.{soundL2, trendL2, scaled}
 use Rattle.questions.specs.Questions.{Asked, Lent, oneOrTwo, question}
 use Rattle.questions.proofs.Laws.{same-question, too-long, not-too-long}
 use Rattle.fit.specs.Fit.{FitResult, Outcome, refused, fitted, Found, closed, pathL2, pathZero, pathFlat, searchOf, pathEnd, pathL1, path, written, outcome, fit}
@@ -94,22 +95,28 @@ passed a l f e = go (eqb (question a l) 0) (soundDD a) (path a) (eqb→eq (quest
     go true false o h s r q = absurd (not-refused q)
     go false c o h s r q = absurd (not-refused q)
 
--- ---- what holds of every path
-abbrev Over : (Found → Type 0) → Option Found → Type 0
+-- ---- P of what there is, if anything
+abbrev pub Over : {A : Type 0} → (A → Type 0) → Option A → Type 0
 Over P none = T true
-Over P (some f) = P f
+Over P (some x) = P x
 
-over-l2 : (a : Asked) (P : Found → Type 0) → ((gap objective : Float) → P (record { trend = trendL2 (a .order) (a .y) (a .lam); numbers = closed gap objective })) → Over P (pathL2 a)
+pub over-cond : {A : Type 0} (P : A → Type 0) (b : Bool) (x : A) → P x → Over P (cond b (some x) none)
+over-cond P true x h = h
+over-cond P false x h = tt
+
+-- ---- what holds of every path
+
+-- what L2 finds, whatever its gap and its objective
+abbrev pub foundL2 : Asked → Float → Float → Found
+foundL2 a gap objective = let x = trendL2 (a .order) (a .y) (a .lam) in record { trend = x; dual = scaled (a .lam) (diffK (a .order) x); numbers = closed gap objective }
+
+over-l2 : (a : Asked) (P : Found → Type 0) → ((gap objective : Float) → P (foundL2 a gap objective)) → Over P (pathL2 a)
 unfolding pathL2
-over-l2 a P h = go (soundL2 (a .order) (a .y) (a .lam)) _ (h _ _)
-  where
-    go : (b : Bool) (f : Found) → P f → Over P (cond b (some f) none)
-    go true f k = k
-    go false f k = tt
+over-l2 a P h = over-cond P (soundL2 (a .order) (a .y) (a .lam)) _ (h _ _)
 
 -- P of what each path finds, where that path is taken
 pub record EachPath (a : Asked) (P : Found → Type 0) : Type 0 where
-  pub squared : eqb (a .penalty) 2 ≡ true → (gap objective : Float) → P (record { trend = trendL2 (a .order) (a .y) (a .lam); numbers = closed gap objective })
+  pub squared : eqb (a .penalty) 2 ≡ true → (gap objective : Float) → P (foundL2 a gap objective)
   pub zero : lamZero a ≡ true → P (pathZero a)
   pub flat : lamHigh a ≡ true → P (pathFlat a)
   pub searched : lamZero a ≡ false → P (pathEnd a (searchOf a))

@@ -17,7 +17,7 @@ abbrev pub withMaxIter : ℕ → Asked → Asked
 withMaxIter max-iter a = record { y = a .y; lam = a .lam; tol = a .tol; max-iter = max-iter; order = a .order; penalty = a .penalty }
 
 -- The whole, for whatever is asked and lent. It is stated of every call that isn't refused, whatever its reason: of L2 too, which does no iteration.
--- An outcome is a refusal's number or the whole answer: every place of trend, cycle and knots, and all numbers with the reason. A NaN is one value, so NaN matches NaN.
+-- An outcome is a refusal's number or the whole answer: every place of trend, cycle, knots and dual, and all numbers with the reason. A NaN is one value, so NaN matches NaN.
 pub record Demand3 (a : Asked) (l : Lent) : Type 0 where
   pub bounds : (f : FitResult) → fit a l ≡ fitted f → Bounds (a .max-iter) f
   -- If n_iter is below max_iter, then every other max_iter above n_iter gives the same whole answer with its reason,

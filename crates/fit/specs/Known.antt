@@ -38,11 +38,11 @@ usual order penalty lam y = record { y = y; lam = lam; tol = ofBits binary64 0x3
 
 -- what a series of n asks for
 abbrev pub roomFor : ℕ → Lent
-roomFor n = record { trend = n; cycle = n; knots = n; work = workPlaces n; marks = marksPlaces n }
+roomFor n = record { trend = n; cycle = n; knots = n; dual = n; work = workPlaces n; marks = marksPlaces n }
 
 -- the outcome of a closed path whose three gaps are 0: no iteration and no improvement
-abbrev pub flat : List Float → List Float → List ℕ → Float → Float → Outcome
-flat trend cycle knots lam-max objective = fitted (record { trend = trend; cycle = cycle; knots = knots; lam-max = lam-max; numbers = record { gap = whole 0; «first_gap» = whole 0; «best_gap» = whole 0; objective = objective; «n_iter» = 0; improvements = 0; converged = true; reason = ClosedPath } })
+abbrev pub flat : List Float → List Float → List ℕ → List Float → Float → Float → Outcome
+flat trend cycle knots dual lam-max objective = fitted (record { trend = trend; cycle = cycle; knots = knots; dual = dual; lam-max = lam-max; numbers = record { gap = whole 0; «first_gap» = whole 0; «best_gap» = whole 0; objective = objective; «n_iter» = 0; improvements = 0; converged = true; reason = ClosedPath } })
 
 -- three zeros
 abbrev pub zeros : List Float
@@ -56,16 +56,16 @@ hours = whole 8000 ∷ whole 0 ∷ []
 abbrev pub table : List Case
 table =
     -- the listing
-    record { asked = usual 1 1 (whole 4000) hours; lent = roomFor 2; outcome = flat (whole 4000 ∷ whole 4000 ∷ []) (whole 4000 ∷ neg (whole 4000) ∷ []) [] (whole 4000) (whole 16000000) }
+    record { asked = usual 1 1 (whole 4000) hours; lent = roomFor 2; outcome = flat (whole 4000 ∷ whole 4000 ∷ []) (whole 4000 ∷ neg (whole 4000) ∷ []) [] (neg (whole 4000) ∷ []) (whole 4000) (whole 16000000) }
     -- the same with lam 0 and -0
-    ∷ record { asked = usual 1 1 (whole 0) hours; lent = roomFor 2; outcome = flat hours (whole 0 ∷ whole 0 ∷ []) (0 ∷ []) (whole 4000) (whole 0) }
-    ∷ record { asked = usual 1 1 (neg (whole 0)) hours; lent = roomFor 2; outcome = flat hours (whole 0 ∷ whole 0 ∷ []) (0 ∷ []) (whole 4000) (whole 0) }
+    ∷ record { asked = usual 1 1 (whole 0) hours; lent = roomFor 2; outcome = flat hours (whole 0 ∷ whole 0 ∷ []) (0 ∷ []) (whole 0 ∷ []) (whole 4000) (whole 0) }
+    ∷ record { asked = usual 1 1 (neg (whole 0)) hours; lent = roomFor 2; outcome = flat hours (whole 0 ∷ whole 0 ∷ []) (0 ∷ []) (whole 0 ∷ []) (whole 4000) (whole 0) }
     -- L2 with lam 1
-    ∷ record { asked = usual 1 2 (whole 1) (whole 6 ∷ whole 0 ∷ []); lent = roomFor 2; outcome = flat (whole 4 ∷ whole 2 ∷ []) (whole 2 ∷ neg (whole 2) ∷ []) (0 ∷ []) (whole 3) (whole 6) }
-    ∷ record { asked = usual 1 2 (whole 1) (whole 4 ∷ whole 4 ∷ []); lent = roomFor 2; outcome = flat (whole 4 ∷ whole 4 ∷ []) (whole 0 ∷ whole 0 ∷ []) [] (whole 0) (whole 0) }
+    ∷ record { asked = usual 1 2 (whole 1) (whole 6 ∷ whole 0 ∷ []); lent = roomFor 2; outcome = flat (whole 4 ∷ whole 2 ∷ []) (whole 2 ∷ neg (whole 2) ∷ []) (0 ∷ []) (neg (whole 2) ∷ []) (whole 3) (whole 6) }
+    ∷ record { asked = usual 1 2 (whole 1) (whole 4 ∷ whole 4 ∷ []); lent = roomFor 2; outcome = flat (whole 4 ∷ whole 4 ∷ []) (whole 0 ∷ whole 0 ∷ []) [] (whole 0 ∷ []) (whole 0) (whole 0) }
     -- order 2 with n 2, and with n 3
     ∷ record { asked = usual 2 1 (whole 1) hours; lent = roomFor 2; outcome = refused 2 }
-    ∷ record { asked = usual 2 1 (whole 1) zeros; lent = roomFor 3; outcome = flat zeros zeros [] (whole 0) (whole 0) }
+    ∷ record { asked = usual 2 1 (whole 1) zeros; lent = roomFor 3; outcome = flat zeros zeros [] (whole 0 ∷ []) (whole 0) (whole 0) }
     -- a NaN in y and lam -1
     ∷ record { asked = usual 1 1 (neg (whole 1)) (whole 8000 ∷ nan ∷ []); lent = roomFor 2; outcome = refused 4 }
     -- lam -5e-324

@@ -1,4 +1,5 @@
 -- The whole fit, from what is asked and lent to its outcome.
+pub mod Outputs
 pub mod Fit
 pub mod Ways
 pub mod Known
@@ -7,3 +8,4 @@ pub mod Demand3
 pub mod Lasting
 pub mod Looser
 pub mod KnotPlaces
+pub mod Duals

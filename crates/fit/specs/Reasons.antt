@@ -9,4 +9,4 @@ numbersWith r s = record { gap = s .gap; «first_gap» = s .«first_gap»; «bes
 
 -- the same fit with another reason
 abbrev pub withReason : Reason → FitResult → FitResult
-withReason r f = record { trend = f .trend; cycle = f .cycle; knots = f .knots; lam-max = f .lam-max; numbers = numbersWith r (f .numbers) }
+withReason r f = record { trend = f .trend; cycle = f .cycle; knots = f .knots; dual = f .dual; lam-max = f .lam-max; numbers = numbersWith r (f .numbers) }

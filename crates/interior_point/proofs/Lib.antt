@@ -1,3 +1,4 @@
--- Laws of a step on a part of the run, and of the search that the code accounts for.
+-- Laws of a step on a part of the run, of the search that the code accounts for, and of the places of its dual point.
 pub mod Places
 pub mod Turns
+pub mod Lengths

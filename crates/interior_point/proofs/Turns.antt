@@ -18,6 +18,7 @@ use Rattle.vectors.proofs.Parts.{length-part, part-below, part-above}
 use Rattle.differences.specs.Diff.{diffK, gramRow}
 use Rattle.banded.specs.Rows.{sound}
 use Rattle.certificate.specs.Certificate.{certify, gapOf}
+use Rattle.certificate.specs.Run.{Certified}
 use Rattle.search.specs.declared.Reason.{Reason}
 use Rattle.search.specs.declared.Reason.the-variants.{GapSmall, LimitSpent, Stalled, PivotLost}
 use Rattle.search.specs.Search.{lost, moved, Problem, Point, Ended, gap, ended, enough, improved, advance, startAt, run}
@@ -110,6 +111,28 @@ module _ (k : ℕ) (y : List Float) (lam : Float) where
   abbrev m : ℕ
   m = length y - k
 
+  -- ---- the certificate
+
+  -- the certificate at z, which is still the z of the point in s
+  stands-at : (s d z : List Float) (r : Run) → z ≡ part n m s → part 0 n s ≡ certify k y lam z .trend → part 0 m d ≡ certify k y lam z .zc → r .primal ≡ certify k y lam z .primal
+      → r .gap ≡ gapOf (certify k y lam z) → Standing k y lam s d r
+  stands-at s d z r e f g h v = record {
+    trend = f ∙ λ i. certify k y lam (e i) .trend;
+    dual = g ∙ λ i. certify k y lam (e i) .zc;
+    primal = h ∙ λ i. certify k y lam (e i) .primal;
+    gap = v ∙ λ i. gapOf (certify k y lam (e i));
+  }
+
+  -- what the certificate wrote, for an account of its P and gap
+  certified : {s₀ s d₀ d : List Float} {p q : Float} → Certified k y lam s₀ s d₀ d p q → (r : Run) → r .primal ≡ p → r .gap ≡ p ⊖ q → Standing k y lam s d r
+  certified {s₀} {s} {d₀} {d} c r e f =
+      stands-at s d (part n m s₀) r (sym (part-above nan n m (c .kept) (omega arith))) (c .trend) (c .zc-is) (e ∙ c .primal-is) (f ∙ λ i. c .primal-is i ⊖ c .dual-is i)
+
+  -- then the definition's test of the gap is the code's
+  enough-is : {s d : List Float} {r : Run} (g : List Float) (tol : Float) → Standing k y lam s d r → enough (problem k g y lam) tol (pointOf k y s r) ≡ le (r .gap) (tol ⊗ r .primal)
+  unfolding problem
+  enough-is g tol w = sym (λ i. le (w .gap i) (tol ⊗ w .primal i))
+
   -- ---- the start
 
   -- z, mu1 and mu2 filled, and then the trend written
@@ -135,20 +158,18 @@ module _ (k : ℕ) (y : List Float) (lam : Float) where
   }
 
   -- the fills, and then the certificate
-  pub started : (s₀ s₁ s₂ s₃ : List Float) (p d : Float)
-      → Written n (n + m) (λ j. c0) s₀ s₁ → Written (n + m) (n + m + m + m) (λ j. c1) s₁ s₂
-      → part 0 n s₃ ≡ certify k y lam (part n m s₂) .trend → p ≡ certify k y lam (part n m s₂) .primal → d ≡ certify k y lam (part n m s₂) .dual → Kept 0 n s₂ s₃
-      → Started k y lam s₀ s₃ (startRun (p ⊖ d) p)
-  started s₀ s₁ s₂ s₃ p d v w e f h q =
-      let z : part n m s₃ ≡ part n m s₂ = part-above nan n m q (omega arith) in
-      let x : p ⊖ d ≡ gapOf (certify k y lam (part n m s₃)) = λ i. (f ∙ λ j. certify k y lam (sym z j) .primal) i ⊖ (h ∙ λ j. certify k y lam (sym z j) .dual) i in
+  pub started : {s₀ s₁ s₂ s₃ d₀ d : List Float} {p q : Float} → Written n (n + m) (λ j. c0) s₀ s₁ → Written (n + m) (n + m + m + m) (λ j. c1) s₁ s₂ → Certified k y lam s₂ s₃ d₀ d p q
+      → Started k y lam s₀ s₃ d₀ d (startRun (p ⊖ q) p)
+  started {s₀} {s₁} {s₂} {s₃} {d₀} {d} {p} {q} v w c =
+      let stands = certified c (startRun (p ⊖ q) p) refl refl in
       let b : Kept (n + m) (m + m) s₁ s₂ = record { size = w .size; below = w .below; above = λ j u. w .above j (omega arith) } in
       let a = kept-then 0 (searchArea n) (written-kept v) b (omega arith) (omega arith) (omega arith) (omega arith) in
       record {
-        begins = λ g. start-is g s₃ (p ⊖ d) p (origin-stands s₀ s₁ s₂ s₃ v w q) x;
-        standing = record { trend = e ∙ (λ i. certify k y lam (sym z i) .trend); primal = f ∙ (λ i. certify k y lam (sym z i) .primal); gap = x };
+        begins = λ g. start-is g s₃ (p ⊖ q) p (origin-stands s₀ s₁ s₂ s₃ v w (c .kept)) (stands .gap);
+        standing = stands;
         lost = refl;
-        kept = kept-then 0 (searchArea n) a q (omega arith) (omega arith) (omega arith) (omega arith);
+        kept = kept-then 0 (searchArea n) a (c .kept) (omega arith) (omega arith) (omega arith) (omega arith);
+        dual-kept = c .dual-kept;
       }
 
   -- ---- one iteration
@@ -161,8 +182,8 @@ module _ (k : ℕ) (y : List Float) (lam : Float) where
       let q : nextT (length (st .point .z)) v st ≡ t₁ = (λ i. nextT (l i) v st) ∙ sym f in
       λ i. cond (sound k (system k g lam (st .point)) (l i)) (moved (landed lam st (q i) (searchLine (dataOf k g (diffK k y) lam (c1 ⊘ q i)) (st .point)))) lost
 
-  module _ (g s₀ s₁ : List Float) (r : Run) (t₁ : Float) (w : Step)
-      (room : n + stepArea k m ≤ searchArea n) (stands : Standing k y lam s₀ r)
+  module _ {g s₀ s₁ d₀ : List Float} {r : Run} {t₁ : Float} {w : Step}
+      (room : n + stepArea k m ≤ searchArea n) (stands : Standing k y lam s₀ d₀ r)
       (next : t₁ ≡ nextT m (r .gap) (stateOf k y s₀ r)) (stepped : Stepped k g (diffK k y) lam (c1 ⊘ t₁) n m s₀ s₁ w) where
     -- the line search of the step
     abbrev line : Trial
@@ -179,57 +200,41 @@ module _ (k : ℕ) (y : List Float) (lam : Float) where
         ∙ move-is g (stateOf k y s₀ r) (r .gap) t₁ (length-part n m s₀) next
         ∙ λ i. cond (e i) (moved (landed lam (stateOf k y s₀ r) t₁ line)) lost
 
-    -- the definition's test of the gap is the code's
-    gap-test : (tol : Float) (b : Bool) → le (r .gap) (tol ⊗ r .primal) ≡ b → enough L tol (pointOf k y s₀ r) ≡ b
-    unfolding problem
-    gap-test tol b e = sym (λ i. le (stands .gap i) (tol ⊗ stands .primal i)) ∙ e
-
     -- a lost pivot
-    pub turned-lost : w ≡ Lost → Turned k g y lam s₀ s₁ r (lostRun r)
+    pub turned-lost : w ≡ Lost → Turned k g y lam s₀ s₁ d₀ d₀ r (lostRun r)
     turned-lost e =
         let b : sound k (system k g lam (point n m s₀)) m ≡ false = was-lost (sound k (system k g lam (point n m s₀)) m) (line .step) (sym (stepped .answer) ∙ e) in
         let same : point n m s₁ ≡ point n m s₀ = stepped .moves ∙ rw b in
-        let z : part n m s₁ ≡ part n m s₀ = ap (λ (p : Dual). p .z) same in
         record {
-          ahead = λ tol j q f. run-lost L tol j (pointOf k y s₀ r) (gap-test tol false q) f (by-flag false b)
+          ahead = λ tol j q f. run-lost L tol j (pointOf k y s₀ r) (enough-is g tol stands ∙ q) f (by-flag false b)
               ∙ λ i. record { state = record { point = sym same i; t = r .t; step = r .step }; n-iter = sym (add-one (r .«n_iter»)) i; first = r .first; best = r .best; improvements = r .improvements; reason = PivotLost };
-          standing = record {
-            trend = part-below nan 0 n (stepped .kept) (omega arith) ∙ stands .trend ∙ λ i. certify k y lam (sym z i) .trend;
-            primal = stands .primal ∙ λ i. certify k y lam (sym z i) .primal;
-            gap = stands .gap ∙ λ i. gapOf (certify k y lam (sym z i));
-          };
+          standing = stands-at s₁ d₀ (part n m s₀) (lostRun r) (ap (λ (p : Dual). p .z) (sym same)) (part-below nan 0 n (stepped .kept) (omega arith) ∙ stands .trend)
+              (stands .dual) (stands .primal) (stands .gap);
           n-iter = refl;
           improvements = omega arith;
           stall = omega arith;
           kept = kept-then 0 (searchArea n) (stepped .kept) (kept-none 0 0 s₁) (omega arith) (omega arith) (omega arith) (omega arith);
+          dual-kept = kept-none 0 m d₀;
         }
 
     -- a step, and the certificate at the point that it left
-    module _ (step p d : Float) (s : List Float) (x : Run) (trend : part 0 n s ≡ certify k y lam (part n m s₁) .trend)
-        (primal : p ≡ certify k y lam (part n m s₁) .primal) (dual : d ≡ certify k y lam (part n m s₁) .dual) (kept : Kept 0 n s₁ s) (new : Settled r t₁ step p d x) where
-      at-s : point n m s ≡ point n m s₁
-      at-s = point-above n m kept (omega arith)
+    module _ {step p q : Float} {s d : List Float} {x : Run} (c : Certified k y lam s₁ s d₀ d p q) (new : Settled r t₁ step p q x) where
+      after : Standing k y lam s d x
+      after = certified c x (new .primal) (new .gap)
 
-      z-s : part n m s ≡ part n m s₁
-      z-s = ap (λ (q : Dual). q .z) at-s
-
-      gap-s : p ⊖ d ≡ gapOf (certify k y lam (part n m s))
-      gap-s = λ i. (primal ∙ λ j. certify k y lam (sym z-s j) .primal) i ⊖ (dual ∙ λ j. certify k y lam (sym z-s j) .dual) i
-
-      improved-is : improved L (pointOf k y s₀ r) (stateOf k y s x) ≡ improves r p d
+      gap-is : p ⊖ q ≡ gap L (stateOf k y s x)
       unfolding problem
-      improved-is = λ i. lt (sym gap-s i) (c0·99 ⊗ r .best)
+      gap-is = sym (new .gap) ∙ after .gap
 
-      gap-is : p ⊖ d ≡ L .primal (stateOf k y s x) ⊖ L .dual (stateOf k y s x)
-      unfolding problem
-      gap-is = gap-s
+      improved-is : improved L (pointOf k y s₀ r) (stateOf k y s x) ≡ improves r p q
+      improved-is = λ i. lt (sym gap-is i) (c0·99 ⊗ r .best)
 
-      advanced : (b : Bool) → improves r p d ≡ b → pointOf k y s x ≡ advance L (pointOf k y s₀ r) (stateOf k y s x) b
+      advanced : (b : Bool) → improves r p q ≡ b → pointOf k y s x ≡ advance L (pointOf k y s₀ r) (stateOf k y s x) b
       advanced true e = λ i. record {
         state = stateOf k y s x;
         n-iter = (new .n-iter ∙ add-one (r .«n_iter»)) i;
         first = new .first i;
-        best = (new .best ∙ (λ j. cond (e j) (p ⊖ d) (r .best)) ∙ gap-is) i;
+        best = (new .best ∙ (λ j. cond (e j) (p ⊖ q) (r .best)) ∙ gap-is) i;
         improvements = (new .improvements ∙ (λ j. cond (e j) (r .improvements + 1) (r .improvements)) ∙ add-one (r .improvements)) i;
         stall = (new .stall ∙ λ j. cond (e j) 0 (r .stalled + 1)) i;
       }
@@ -237,7 +242,7 @@ module _ (k : ℕ) (y : List Float) (lam : Float) where
         state = stateOf k y s x;
         n-iter = (new .n-iter ∙ add-one (r .«n_iter»)) i;
         first = new .first i;
-        best = (new .best ∙ λ j. cond (e j) (p ⊖ d) (r .best)) i;
+        best = (new .best ∙ λ j. cond (e j) (p ⊖ q) (r .best)) i;
         improvements = (new .improvements ∙ λ j. cond (e j) (r .improvements + 1) (r .improvements)) i;
         stall = (new .stall ∙ (λ j. cond (e j) 0 (r .stalled + 1)) ∙ add-one (r .stalled)) i;
       }
@@ -249,24 +254,21 @@ module _ (k : ℕ) (y : List Float) (lam : Float) where
       landed-at : w ≡ Moved step → L .move (gap L (stateOf k y s₀ r)) (stateOf k y s₀ r) ≡ moved (stateOf k y s x)
       landed-at e =
           let b = was-moved (sound k (system k g lam (point n m s₀)) m) (line .step) step (sym (stepped .answer) ∙ e) in
-          let there : point n m s ≡ nextPoint lam (point n m s₀) line = at-s ∙ stepped .moves ∙ rw (b .0) in
+          let there : point n m s ≡ nextPoint lam (point n m s₀) line = point-above n m (c .kept) (omega arith) ∙ stepped .moves ∙ rw (b .0) in
           by-flag true (b .0) ∙ λ i. moved (record { point = sym there i; t = sym (new .t) i; step = (b .1 ∙ sym (new .step)) i })
 
-      pub turned-moved : w ≡ Moved step → Turned k g y lam s₀ s r x
+      pub turned-moved : w ≡ Moved step → Turned k g y lam s₀ s d₀ d r x
       turned-moved e = record {
-        ahead = λ tol j q f. run-moved L tol j (pointOf k y s₀ r) (stateOf k y s x) (improves r p d) (gap-test tol false q) f
+        ahead = λ tol j h f. run-moved L tol j (pointOf k y s₀ r) (stateOf k y s x) (improves r p q) (enough-is g tol stands ∙ h) f
             (landed-at e) improved-is
-            ∙ sym (ap (run L tol j) (advanced (improves r p d) refl))
+            ∙ sym (ap (run L tol j) (advanced (improves r p q) refl))
             ∙ sym (ap (leftOf L tol j (pointOf k y s x)) (new .lost));
-        standing = record {
-          trend = trend ∙ λ i. certify k y lam (sym z-s i) .trend;
-          primal = new .primal ∙ primal ∙ λ i. certify k y lam (sym z-s i) .primal;
-          gap = new .gap ∙ gap-s;
-        };
+        standing = after;
         n-iter = new .n-iter;
-        improvements = rw (new .improvements) (at-most (improves r p d) (r .improvements + 1) (r .improvements) (omega arith));
-        stall = rw (new .stall) (no-more (improves r p d));
-        kept = kept-then 0 (searchArea n) (stepped .kept) kept (omega arith) (omega arith) (omega arith) (omega arith);
+        improvements = rw (new .improvements) (at-most (improves r p q) (r .improvements + 1) (r .improvements) (omega arith));
+        stall = rw (new .stall) (no-more (improves r p q));
+        kept = kept-then 0 (searchArea n) (stepped .kept) (c .kept) (omega arith) (omega arith) (omega arith) (omega arith);
+        dual-kept = c .dual-kept;
       }
         where
           no-more : (b : Bool) → cond b 0 (r .stalled + 1) ≤ r .stalled + 1
@@ -275,84 +277,81 @@ module _ (k : ℕ) (y : List Float) (lam : Float) where
 
   -- ---- the loop
 
-  -- the definition's test of the gap
-  enough-is : (g : List Float) (tol : Float) (s : List Float) (r : Run) → Standing k y lam s r
-      → enough (problem k g y lam) tol (pointOf k y s r) ≡ le (r .gap) (tol ⊗ r .primal)
-  unfolding problem
-  enough-is g tol s r w = sym (λ i. le (w .gap i) (tol ⊗ w .primal i))
-
   -- what holds before each iteration: what is left of the search is the whole
-  pub record Looping (g : List Float) (tol : Float) (max-iter : ℕ) (s₀ s : List Float) (r : Run) : Type 0 where
+  pub record Looping (g : List Float) (tol : Float) (max-iter : ℕ) (s₀ s d₀ d : List Float) (r : Run) : Type 0 where
     pub left : leftOf (problem k g y lam) tol (max-iter - r .«n_iter») (pointOf k y s r) (r .lost) ≡ run (problem k g y lam) tol max-iter (startAt (problem k g y lam) (origin m))
-    pub standing : Standing k y lam s r
+    pub standing : Standing k y lam s d r
     pub within : r .«n_iter» ≤ max-iter
     pub fewer : r .improvements ≤ r .«n_iter»
     pub idle : r .stalled ≤ 10
     pub kept : Kept 0 (searchArea n) s₀ s
+    pub dual-kept : Kept 0 m d₀ d
 
-  module _ (g : List Float) (tol : Float) (max-iter : ℕ) (s₀ s : List Float) (r : Run) where
+  pub loop-starts : {g : List Float} {tol : Float} {max-iter : ℕ} {s₀ s d₀ d : List Float} {r : Run} → Started k y lam s₀ s d₀ d r → Looping g tol max-iter s s d d r
+  loop-starts {g} {tol} {max-iter} {s = s} {d = d} {r = r} w =
+      let e = w .begins g in
+      let none : r .«n_iter» ≡ 0 = ap (λ (p : Point State). p .n-iter) e in
+      let gains : r .improvements ≡ 0 = ap (λ (p : Point State). p .improvements) e in
+      let stall : r .stalled ≡ 0 = ap (λ (p : Point State). p .stall) e in
+      let all : max-iter - r .«n_iter» ≡ max-iter = omega arith in
+      record {
+        left = ap (leftOf (problem k g y lam) tol (max-iter - r .«n_iter») (pointOf k y s r)) (w .lost) ∙ λ i. run (problem k g y lam) tol (all i) (e i);
+        standing = w .standing;
+        within = omega arith;
+        fewer = omega arith;
+        idle = omega arith;
+        kept = kept-none 0 (searchArea n) s;
+        dual-kept = kept-none 0 m d;
+      }
+
+  module _ {g : List Float} {tol : Float} {max-iter : ℕ} {s₀ s d₀ d : List Float} {r : Run} (w : Looping g tol max-iter s₀ s d₀ d r) where
     abbrev P : Problem State
     P = problem k g y lam
 
-    pub loop-starts : Started k y lam s₀ s r → Looping g tol max-iter s s r
-    loop-starts w =
-        let e = w .begins g in
-        let none : r .«n_iter» ≡ 0 = ap (λ (p : Point State). p .n-iter) e in
-        let gains : r .improvements ≡ 0 = ap (λ (p : Point State). p .improvements) e in
-        let stall : r .stalled ≡ 0 = ap (λ (p : Point State). p .stall) e in
-        let all : max-iter - r .«n_iter» ≡ max-iter = omega arith in
+    goes-on : testOf r tol max-iter ≡ Goes → GoesOn (r .lost) (le (r .gap) (tol ⊗ r .primal)) (ltb (r .«n_iter») max-iter) (eqb (r .stalled) 10)
+    goes-on h = go-on (r .lost) (le (r .gap) (tol ⊗ r .primal)) (ltb (r .«n_iter») max-iter) (eqb (r .stalled) 10) h
+
+    pub still : testOf r tol max-iter ≡ Goes → r .«n_iter» < max-iter
+    still h = ltb-true (r .«n_iter») max-iter (goes-on h .within)
+
+    pub loop-goes : {s′ d′ : List Float} {x : Run} → testOf r tol max-iter ≡ Goes → Turned k g y lam s s′ d d′ r x → Looping g tol max-iter s₀ s′ d₀ d′ x
+    loop-goes {s′} {d′} {x} h t =
+        let o = goes-on h in
+        let b = still h in
+        let c = t .n-iter in
+        let one : max-iter - r .«n_iter» ≡ suc (max-iter - x .«n_iter») = omega arith in
+        let f : suc (r .stalled) ≤ 10 = idle-room (r .stalled) (w .idle) (o .lively) in
         record {
-          left = ap (leftOf P tol (max-iter - r .«n_iter») (pointOf k y s r)) (w .lost) ∙ λ i. run P tol (all i) (e i);
-          standing = w .standing;
+          left = sym (t .ahead tol (max-iter - x .«n_iter») (o .wide) (o .lively))
+              ∙ sym (ap (λ (j : ℕ). run P tol j (pointOf k y s r)) one)
+              ∙ sym (ap (leftOf P tol (max-iter - r .«n_iter») (pointOf k y s r)) (o .found))
+              ∙ w .left;
+          standing = t .standing;
           within = omega arith;
-          fewer = omega arith;
-          idle = omega arith;
-          kept = kept-none 0 (searchArea n) s;
+          fewer = omega (arith, t .improvements, w .fewer);
+          idle = omega (arith, t .stall);
+          kept = kept-then 0 (searchArea n) (w .kept) (t .kept) (omega arith) (omega arith) (omega arith) (omega arith);
+          dual-kept = kept-then 0 m (w .dual-kept) (t .dual-kept) (omega arith) (omega arith) (omega arith) (omega arith);
         }
 
-    module _ (w : Looping g tol max-iter s₀ s r) where
-      goes-on : testOf r tol max-iter ≡ Goes → GoesOn (r .lost) (le (r .gap) (tol ⊗ r .primal)) (ltb (r .«n_iter») max-iter) (eqb (r .stalled) 10)
-      goes-on h = go-on (r .lost) (le (r .gap) (tol ⊗ r .primal)) (ltb (r .«n_iter») max-iter) (eqb (r .stalled) 10) h
-
-      pub still : testOf r tol max-iter ≡ Goes → r .«n_iter» < max-iter
-      still h = ltb-true (r .«n_iter») max-iter (goes-on h .within)
-
-      pub loop-goes : testOf r tol max-iter ≡ Goes → (s′ : List Float) (x : Run) → Turned k g y lam s s′ r x → Looping g tol max-iter s₀ s′ x
-      loop-goes h s′ x t =
-          let o = goes-on h in
-          let b = still h in
-          let c = t .n-iter in
-          let one : max-iter - r .«n_iter» ≡ suc (max-iter - x .«n_iter») = omega arith in
-          let d : suc (r .stalled) ≤ 10 = idle-room (r .stalled) (w .idle) (o .lively) in
-          record {
-            left = sym (t .ahead tol (max-iter - x .«n_iter») (o .wide) (o .lively))
-                ∙ sym (ap (λ (j : ℕ). run P tol j (pointOf k y s r)) one)
-                ∙ sym (ap (leftOf P tol (max-iter - r .«n_iter») (pointOf k y s r)) (o .found))
-                ∙ w .left;
-            standing = t .standing;
-            within = omega arith;
-            fewer = omega (arith, t .improvements, w .fewer);
-            idle = omega (arith, t .stall);
-            kept = kept-then 0 (searchArea n) (w .kept) (t .kept) (omega arith) (omega arith) (omega arith) (omega arith);
-          }
-
-      loop-ends : (why : Reason) → testOf r tol max-iter ≡ Stops why → EndsAt (run P tol max-iter (startAt P (origin m))) (pointOf k y s r) why
-      loop-ends why h =
-          finish P tol max-iter (run P tol max-iter (startAt P (origin m))) (pointOf k y s r) (r .lost) why (w .within) (w .left)
-          (r .lost) (le (r .gap) (tol ⊗ r .primal)) (ltb (r .«n_iter») max-iter) (eqb (r .stalled) 10) refl (enough-is g tol s r (w .standing)) refl refl h
+    loop-ends : (why : Reason) → testOf r tol max-iter ≡ Stops why → EndsAt (run P tol max-iter (startAt P (origin m))) (pointOf k y s r) why
+    loop-ends why h =
+        finish P tol max-iter (run P tol max-iter (startAt P (origin m))) (pointOf k y s r) (r .lost) why (w .within) (w .left)
+        (r .lost) (le (r .gap) (tol ⊗ r .primal)) (ltb (r .«n_iter») max-iter) (eqb (r .stalled) 10) refl (enough-is g tol (w .standing)) refl refl h
 
   -- the whole search
-  pub all-found : (g : List Float) (tol : Float) (max-iter : ℕ) (s₀ s₁ s : List Float) (r : Run) (why : Reason) → g ≡ gramRow k → Kept 0 (searchArea (length y)) s₀ s₁
-      → Looping g tol max-iter s₁ s r → testOf r tol max-iter ≡ Stops why → Found k y lam tol max-iter s₀ s (record { run = r; reason = why })
+  pub all-found : {g : List Float} {tol : Float} {max-iter : ℕ} {s₀ s₁ s d₀ d₁ d : List Float} {r₁ r : Run} {why : Reason} → g ≡ gramRow k → Started k y lam s₀ s₁ d₀ d₁ r₁
+      → Looping g tol max-iter s₁ s d₁ d r → testOf r tol max-iter ≡ Stops why → Found k y lam tol max-iter s₀ s d₀ d (record { run = r; reason = why })
   unfolding interiorPoint
-  all-found g tol max-iter s₀ s₁ s r why isg v w h =
-      let e = loop-ends g tol max-iter s₁ s r w why h in
+  all-found {g} {tol} {max-iter} {s = s} {why = why} isg v w h =
+      let e = loop-ends w why h in
       let q : run (problem k g y lam) tol max-iter (startAt (problem k g y lam) (origin m)) ≡ searchOf k y lam tol max-iter =
       λ i. run (problem k (isg i) y lam) tol max-iter (startAt (problem k (isg i) y lam) (origin m)) in
       let p : point n m s ≡ searchOf k y lam tol max-iter .state .point = ap (λ (x : State). x .point) (e .state) ∙ ap (λ (x : Ended State). x .state .point) q in
       record {
         ends = p;
         trend = w .standing .trend ∙ λ i. certify k y lam (p i .z) .trend;
+        dual = w .standing .dual ∙ λ i. certify k y lam (p i .z) .zc;
         gap = w .standing .gap ∙ λ i. gapOf (certify k y lam (p i .z));
         primal = w .standing .primal ∙ λ i. certify k y lam (p i .z) .primal;
         first = e .first ∙ ap (λ (x : Ended State). x .first) q;
@@ -360,5 +359,6 @@ module _ (k : ℕ) (y : List Float) (lam : Float) where
         n-iter = e .n-iter ∙ ap (λ (x : Ended State). x .n-iter) q;
         improvements = e .improvements ∙ ap (λ (x : Ended State). x .improvements) q;
         reason = e .reason ∙ ap (λ (x : Ended State). x .reason) q;
-        kept = kept-then 0 (searchArea n) v (w .kept) (omega arith) (omega arith) (omega arith) (omega arith);
+        kept = kept-then 0 (searchArea n) (v .kept) (w .kept) (omega arith) (omega arith) (omega arith) (omega arith);
+        dual-kept = kept-then 0 m (v .dual-kept) (w .dual-kept) (omega arith) (omega arith) (omega arith) (omega arith);
       }

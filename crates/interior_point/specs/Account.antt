@@ -35,18 +35,20 @@ stateOf k y s r = record { point = pointIn k y s; t = r .t; step = r .step }
 abbrev pub pointOf : ℕ → List Float → List Float → Run → Point State
 pointOf k y s r = record { state = stateOf k y s r; n-iter = r .«n_iter»; first = r .first; best = r .best; improvements = r .improvements; stall = r .stalled }
 
--- the trend in s, and P and the gap of r, are those of the point in s
-pub record Standing (k : ℕ) (y : List Float) (lam : Float) (s : List Float) (r : Run) : Type 0 where
+-- the trend in s, the clamped z in d, and P and the gap of r, are those of the point in s
+pub record Standing (k : ℕ) (y : List Float) (lam : Float) (s d : List Float) (r : Run) : Type 0 where
   pub trend : part 0 (length y) s ≡ certify k y lam (pointIn k y s .z) .trend
+  pub dual : part 0 (length y - k) d ≡ certify k y lam (pointIn k y s .z) .zc
   pub primal : r .primal ≡ certify k y lam (pointIn k y s .z) .primal
   pub gap : r .gap ≡ gapOf (certify k y lam (pointIn k y s .z))
 
 -- the start: the definition's, its trend and certificate
-pub record Started (k : ℕ) (y : List Float) (lam : Float) (s₀ s : List Float) (r : Run) : Type 0 where
+pub record Started (k : ℕ) (y : List Float) (lam : Float) (s₀ s d₀ d : List Float) (r : Run) : Type 0 where
   pub begins : (g : List Float) → pointOf k y s r ≡ startAt (problem k g y lam) (origin (length y - k))
-  pub standing : Standing k y lam s r
+  pub standing : Standing k y lam s d r
   pub lost : r .lost ≡ false
   pub kept : Kept 0 (searchArea (length y)) s₀ s
+  pub dual-kept : Kept 0 (length y - k) d₀ d
 
 -- what is left of the search from p on, unless a pivot was lost
 abbrev pub leftOf : Problem State → Float → ℕ → Point State → Bool → Ended State
@@ -100,20 +102,22 @@ lostRun r = record {
 }
 
 -- what an iteration asks
-pub record Turnable (k : ℕ) (y dy : List Float) (lam : Float) (s : List Float) (r : Run) : Type 0 where
+pub record Turnable (k : ℕ) (y dy : List Float) (lam : Float) (s d : List Float) (r : Run) : Type 0 where
   pub ready : Ready k y dy (searchArea (length y)) (length s)
+  pub room : length y - k ≤ length d
   pub counts : Countable r
-  pub standing : Standing k y lam s r
+  pub standing : Standing k y lam s d r
 
 -- one iteration: of the definition's search from s₀ and r what is left from s and x is left
-pub record Turned (k : ℕ) (g y : List Float) (lam : Float) (s₀ s : List Float) (r x : Run) : Type 0 where
+pub record Turned (k : ℕ) (g y : List Float) (lam : Float) (s₀ s d₀ d : List Float) (r x : Run) : Type 0 where
   pub ahead : (tol : Float) (j : ℕ) → le (r .gap) (tol ⊗ r .primal) ≡ false → eqb (r .stalled) 10 ≡ false
       → run (problem k g y lam) tol (suc j) (pointOf k y s₀ r) ≡ leftOf (problem k g y lam) tol j (pointOf k y s x) (x .lost)
-  pub standing : Standing k y lam s x
+  pub standing : Standing k y lam s d x
   pub n-iter : x .«n_iter» ≡ r .«n_iter» + 1
   pub improvements : x .improvements ≤ r .improvements + 1
   pub stall : x .stalled ≤ r .stalled + 1
   pub kept : Kept 0 (searchArea (length y)) s₀ s
+  pub dual-kept : Kept 0 (length y - k) d₀ d
 
 -- where the definition's search ends
 abbrev pub searchOf : ℕ → List Float → Float → Float → ℕ → Ended State
@@ -123,10 +127,11 @@ searchOf k y lam tol max-iter = interiorPoint k (gramRow k) (length y - k) y lam
 abbrev pub endOf : ℕ → List Float → Float → Float → ℕ → Certificate
 endOf k y lam tol max-iter = certify k y lam (searchOf k y lam tol max-iter .state .point .z)
 
--- the whole search: the point that it ended at stands in s after its trend; r has its gaps and counts, and why it ended
-pub record Found (k : ℕ) (y : List Float) (lam tol : Float) (max-iter : ℕ) (s₀ s : List Float) (r : code.Ended) : Type 0 where
+-- the whole search: the point that it ended at stands in s after its trend, and clamped in d; r has its gaps and counts, and why it ended
+pub record Found (k : ℕ) (y : List Float) (lam tol : Float) (max-iter : ℕ) (s₀ s d₀ d : List Float) (r : code.Ended) : Type 0 where
   pub ends : pointIn k y s ≡ searchOf k y lam tol max-iter .state .point
   pub trend : part 0 (length y) s ≡ endOf k y lam tol max-iter .trend
+  pub dual : part 0 (length y - k) d ≡ endOf k y lam tol max-iter .zc
   pub gap : r .run .gap ≡ gapOf (endOf k y lam tol max-iter)
   pub primal : r .run .primal ≡ endOf k y lam tol max-iter .primal
   pub first : r .run .first ≡ searchOf k y lam tol max-iter .first
@@ -135,6 +140,7 @@ pub record Found (k : ℕ) (y : List Float) (lam tol : Float) (max-iter : ℕ) (
   pub improvements : r .run .improvements ≡ searchOf k y lam tol max-iter .improvements
   pub reason : r .reason ≡ searchOf k y lam tol max-iter .reason
   pub kept : Kept 0 (searchArea (length y)) s₀ s
+  pub dual-kept : Kept 0 (length y - k) d₀ d
 
 -- the state after an iteration with t, whose line search ended as e
 abbrev pub landed : Float → State → Float → Trial → State

@@ -1,9 +1,7 @@
 // The interior point search for the dual point of an L1 fit.
 ghost use mathlib.Core.Path.{_≡_};
-ghost use mathlib.Core.Bool.{true, false};
-ghost use Prim.Native.Nat.{_≤_, _<_, _+_, _-_, _*_, _^_};
+ghost use Prim.Native.Nat.{_≤_, _<_, _+_, _-_, _^_};
 ghost use lib.ListN.{length};
-ghost use Rattle.vectors.specs.Parts.{Written};
 ghost use Rattle.differences.specs.Diff.{diffK};
 ghost use Rattle.certificate.specs.Ready.{Ready};
 ghost use Rattle.dual_point.specs.Dual.{Dual};
@@ -35,29 +33,17 @@ pub struct Ended {
     pub reason: Reason,
 }
 
-// The places from a up to e become v.
-fn fill(s: &mut [f64], a: usize, e: usize, v: f64)
-    requires { ⌜ (a ≤ e) × (e ≤ length (now s)) ⌝ }
-    ensures { λ _. ⌜ Written a e (λ j. v) (now (s .entry)) (now (s .exit)) ⌝ }
-{
-    let mut i = a;
-    while i < e {
-        s[i] = v;
-        i += 1;
-    }
-}
-
 // z = 0, mu1 = mu2 = 1, t = 1e-10, step infinite; the best gap is the first.
-fn start(work: &mut [f64], y: &[f64], dy: &[f64], lam: f64, k: usize) -> Run
-    requires { ⌜ Ready k (now y) (now dy) (searchArea (length (now y))) (length (now work)) ⌝ }
-    ensures { λ r. ⌜ Started k (now (y .entry)) lam (now (work .entry)) (now (work .exit)) r ⌝ }
+fn start(work: &mut [f64], dual: &mut [f64], y: &[f64], dy: &[f64], lam: f64, k: usize) -> Run
+    requires { ⌜ Ready k (now y) (now dy) (searchArea (length (now y))) (length (now work)) × (length (now y) - k ≤ length (now dual)) ⌝ }
+    ensures { λ r. ⌜ Started k (now (y .entry)) lam (now (work .entry)) (now (work .exit)) (now (dual .entry)) (now (dual .exit)) r ⌝ }
 {
     let n = y.len();
     let a = n + (n - k);
     let e = a + (n - k) + (n - k);
-    fill(work, n, a, 0.0);
-    fill(work, a, e, 1.0);
-    let p = certificate::certify_l1(work, y, dy, lam, k);
+    vectors::fill(work, n, a, 0.0);
+    vectors::fill(work, a, e, 1.0);
+    let p = certificate::certify_l1(work, dual, y, dy, lam, k);
     let gap = p.primal - p.dual;
     Run {
         t: 1e-10,
@@ -183,9 +169,18 @@ fn pivot_lost(r: Run) -> Run
 }
 
 // One iteration: a Newton step with the next t, and the certificate at the point that it leaves.
-fn iterate(work: &mut [f64], y: &[f64], dy: &[f64], lam: f64, k: usize, g: [f64; 3], r: Run) -> Run
-    requires { ⌜ Turnable k (now y) (now dy) lam (now work) r ⌝ }
-    ensures { λ x. ⌜ Turned k g (now (y .entry)) lam (now (work .entry)) (now (work .exit)) r x ⌝ }
+fn iterate(
+    work: &mut [f64],
+    dual: &mut [f64],
+    y: &[f64],
+    dy: &[f64],
+    lam: f64,
+    k: usize,
+    g: [f64; 3],
+    r: Run,
+) -> Run
+    requires { ⌜ Turnable k (now y) (now dy) lam (now work) (now dual) r ⌝ }
+    ensures { λ x. ⌜ Turned k g (now (y .entry)) lam (now (work .entry)) (now (work .exit)) (now (dual .entry)) (now (dual .exit)) r x ⌝ }
 {
     let n = y.len();
     let t = next_t(r.t, r.step, r.gap, n - k);
@@ -193,13 +188,14 @@ fn iterate(work: &mut [f64], y: &[f64], dy: &[f64], lam: f64, k: usize, g: [f64;
     let Step::Moved(step) = w else {
         return pivot_lost(r);
     };
-    let p = certificate::certify_l1(work, y, dy, lam, k);
+    let p = certificate::certify_l1(work, dual, y, dy, lam, k);
     settled(r, t, step, p)
 }
 
-// The interior point search. work: the trend's n places; z, mu1, mu2; the trial's; the rows of the Newton system; dz, dmu1, dmu2.
+// The interior point search. work: the trend's n places; z, mu1, mu2; the trial's; the rows of the Newton system; dz, dmu1, dmu2. dual: the clamped z.
 pub fn ipm_l1(
     work: &mut [f64],
+    dual: &mut [f64],
     y: &[f64],
     dy: &[f64],
     lam: f64,
@@ -207,11 +203,11 @@ pub fn ipm_l1(
     max_iter: u64,
     k: usize,
 ) -> Ended
-    requires { ⌜ Ready k (now y) (now dy) (searchArea (length (now y))) (length (now work)) ⌝ }
-    ensures { λ r. ⌜ Found k (now (y .entry)) lam tol «max_iter» (now (work .entry)) (now (work .exit)) r ⌝ }
+    requires { ⌜ Ready k (now y) (now dy) (searchArea (length (now y))) (length (now work)) × (length (now y) - k ≤ length (now dual)) ⌝ }
+    ensures { λ r. ⌜ Found k (now (y .entry)) lam tol «max_iter» (now (work .entry)) (now (work .exit)) (now (dual .entry)) (now (dual .exit)) r ⌝ }
 {
     let g = differences::gram_offsets(k);
-    let mut r = start(work, y, dy, lam, k);
+    let mut r = start(work, dual, y, dy, lam, k);
     loop {
         if let Test::Stops(why) = tested(r, tol, max_iter) {
             return Ended {
@@ -219,6 +215,6 @@ pub fn ipm_l1(
                 reason: why,
             };
         }
-        r = iterate(work, y, dy, lam, k, g, r);
+        r = iterate(work, dual, y, dy, lam, k, g, r);
     }
 }

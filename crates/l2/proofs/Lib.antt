@@ -1,2 +1,3 @@
 -- The laws of l2.
+pub mod Scaled
 pub mod System

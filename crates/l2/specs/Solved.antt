@@ -2,9 +2,10 @@
 use mathlib.Core.Path.{_≡_}
 use mathlib.Core.Bool.{Bool, true}
 use mathlib.Core.List.{List}
-use Prim.Native.Nat.{ℕ, _+_, _-_, _*_}
+use Prim.Native.Nat.{ℕ, _+_, _*_}
 use lib.ListN.{length}
 use lib.Ieee.{Float}
+use Rattle.vectors.specs.Vec.{put}
 use Rattle.vectors.specs.Parts.{Kept, part}
 use Rattle.differences.specs.Diff.{diffK}
 use Rattle.l2.specs.L2.{soundL2, trendL2, scaled, objectiveL2, gapL2}
@@ -16,13 +17,8 @@ pub record SolvedL2 (k : ℕ) (y : List Float) (lam : Float) (s₀ s : List Floa
   pub trend : ok ≡ true → part (length y * (k + 1)) (length y) s ≡ trendL2 k y lam
   pub kept : Kept 0 (length y * (k + 1) + length y) s₀ s
 
--- lam·D x stands in the places after the n of x; all others hold what they held before
-pub record Scaled (k n : ℕ) (lam : Float) (s₀ s : List Float) : Type 0 where
-  pub held : part n (n - k) s ≡ scaled lam (diffK k (part 0 n s₀))
-  pub kept : Kept n (n - k) s₀ s
-
--- r has the objective and the gap of the trend in the first n places; only the n places after them may have changed
-pub record Ended (k : ℕ) (y : List Float) (lam : Float) (s₀ s : List Float) (r : Ends) : Type 0 where
-  pub objective : r .objective ≡ objectiveL2 k y lam (part 0 (length y) s₀)
-  pub gap : r .gap ≡ gapL2 k y lam (part 0 (length y) s₀)
-  pub kept : Kept (length y) (length y) s₀ s
+-- r has the objective and the gap of the trend x, and d begins with lam·D x; all else is as found
+pub record Ended (k : ℕ) (y : List Float) (lam : Float) (x d₀ d : List Float) (r : Ends) : Type 0 where
+  pub objective : r .objective ≡ objectiveL2 k y lam x
+  pub gap : r .gap ≡ gapL2 k y lam x
+  pub dual : d ≡ put d₀ 0 (scaled lam (diffK k x))

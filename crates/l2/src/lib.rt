@@ -2,7 +2,7 @@
 mod sums;
 
 ghost use mathlib.Core.Path.{_≡_};
-ghost use Prim.Native.Nat.{_≤_, _+_, _*_};
+ghost use Prim.Native.Nat.{_≤_, _+_, _-_, _*_};
 ghost use lib.ListN.{length};
 ghost use Rattle.differences.specs.Series.{Series};
 ghost use Rattle.l2.specs.L2.{objectiveL2, dualL2};
@@ -35,7 +35,7 @@ fn dual_l2(v: &[f64], y: &[f64], lam: f64, k: usize) -> f64
     requires { ⌜ Series k (length (now y)) × (length (now v) + k ≡ length (now y)) ⌝ }
     ensures { λ r. ⌜ r ≡ dualL2 k (now (y .entry)) lam (now (v .entry)) ⌝ }
 {
-    let a = sums::fall_squares(v, k);
+    let a = differences::fall_squares(v, k);
     let p = sums::products(v, y, k);
     -0.5 * a + p.dot - p.square / (2.0 * lam)
 }
@@ -45,22 +45,21 @@ pub struct Ends {
     pub objective: f64,
 }
 
-// The objective and the gap of the trend in the first n places of s. The places after it are for lam D x.
-pub fn objectives(s: &mut [f64], y: &[f64], lam: f64, k: usize) -> Ends
-    requires { ⌜ Series k (length (now y)) × (length (now y) + length (now y) ≤ length (now s)) ⌝ }
-    ensures { λ r. ⌜ Ended k (now (y .entry)) lam (now (s .entry)) (now (s .exit)) r ⌝ }
+// The objective and the gap of the trend x. The first places of dual become lam D x.
+pub fn objectives(dual: &mut [f64], x: &[f64], y: &[f64], lam: f64, k: usize) -> Ends
+    requires { ⌜ Series k (length (now y)) × (length (now x) ≡ length (now y)) × (length (now y) - k ≤ length (now dual)) ⌝ }
+    ensures { λ r. ⌜ Ended k (now (y .entry)) lam (now (x .entry)) (now (dual .entry)) (now (dual .exit)) r ⌝ }
 {
-    let n = y.len();
-    let p = objective(&s[0..n], y, lam, k);
+    let p = objective(x, y, lam, k);
+    sums::scale_diff(dual, x, lam, k);
     if !(0.0 < lam) {
         return Ends {
             gap: 0.0,
             objective: p,
         };
     }
-    sums::scale_diff(s, lam, k, n);
-    let e = n + (n - k);
-    let d = dual_l2(&s[n..e], y, lam, k);
+    let m = y.len() - k;
+    let d = dual_l2(&dual[0..m], y, lam, k);
     Ends {
         gap: p - d,
         objective: p,

@@ -1,14 +1,14 @@
 // The sums that the objective and the gap are made of.
 ghost use mathlib.Core.Path.{_≡_};
-ghost use Prim.Native.Nat.{_≤_, _<_, _-_, _+_};
+ghost use Prim.Native.Nat.{_≤_, _-_, _+_};
 ghost use lib.ListN.{length};
 ghost use Rattle.float64.specs.Ops.{_⊗_};
-ghost use Rattle.vectors.specs.Vec.{at};
+ghost use Rattle.vectors.specs.Vec.{at, put};
 ghost use Rattle.vectors.specs.Sums.{sumTo, norm2Sq, dot};
-ghost use Rattle.differences.specs.Diff.{diffK, diffKT};
+ghost use Rattle.differences.specs.Diff.{diffK};
 ghost use Rattle.differences.specs.Series.{Order, Series};
 ghost use Rattle.certificate.specs.Certificate.{minus};
-ghost use Rattle.l2.specs.Solved.{Scaled};
+ghost use Rattle.l2.specs.L2.{scaled};
 
 // Σ(y - x)² and Σ(D x)².
 pub struct PrimalSums {
@@ -54,22 +54,6 @@ pub fn squares(x: &[f64], y: &[f64], k: usize) -> PrimalSums
     }
 }
 
-// Σ(D'v)²
-pub fn fall_squares(v: &[f64], k: usize) -> f64
-    requires { ⌜ Order k ⌝ }
-    ensures { λ r. ⌜ r ≡ norm2Sq (diffKT k (now (v .entry))) ⌝ }
-{
-    let n = v.len() + k;
-    let mut sum = 0.0;
-    let mut j = 0;
-    while j < n {
-        let d = differences::diff_t_at(v, k, j);
-        sum = sum + d * d;
-        j += 1;
-    }
-    sum
-}
-
 // Σ v·D y and Σ v².
 pub struct DualSums {
     pub dot: f64,
@@ -94,16 +78,16 @@ pub fn products(v: &[f64], y: &[f64], k: usize) -> DualSums
     DualSums { dot: a, square: b }
 }
 
-// lam D x, x the first n places of s, in the places after them.
-pub fn scale_diff(s: &mut [f64], lam: f64, k: usize, n: usize)
-    requires { ⌜ Series k n × (n + (n - k) ≤ length (now s)) ⌝ }
-    ensures { λ _. ⌜ Scaled k n lam (now (s .entry)) (now (s .exit)) ⌝ }
+// The first places of v become lam D x.
+pub fn scale_diff(v: &mut [f64], x: &[f64], lam: f64, k: usize)
+    requires { ⌜ Series k (length (now x)) × (length (now x) - k ≤ length (now v)) ⌝ }
+    ensures { λ _. ⌜ now (v .exit) ≡ put (now (v .entry)) 0 (scaled lam (diffK k (now (x .entry)))) ⌝ }
 {
-    let m = n - k;
+    let m = x.len() - k;
     let mut i = 0;
     while i < m {
-        let d = differences::diff_at(&s[0..n], k, i);
-        s[n + i] = lam * d;
+        let d = differences::diff_at(x, k, i);
+        v[i] = lam * d;
         i += 1;
     }
 }

@@ -3,6 +3,7 @@ use mathlib.Core.Path.{_≡_, sym, ap, _∙_}
 use mathlib.Core.Bool.{Bool, true, false, cond}
 use mathlib.Core.List.{List}
 use mathlib.Core.Option.{some}
+use Prim.Native.Nat.{ℕ}
 use lib.Ieee.{Float}
 use borrow.Author.Tests.{eq-eqb, ne-eqb}
 use Rattle.questions.specs.Questions.{Asked}
@@ -35,6 +36,7 @@ unfolding path
 by-1 a n = rw (ne-eqb (a .penalty) 2 n)
 
 -- a path that finds is one that took, where it is the path of the fit
-pub took-done : {I : Type 0} {f : I → Found} {y w₀ w c₀ c : List Float} {r : Finding} (a : Asked) (i : I) → Finds f y w₀ w c₀ c r → path a ≡ some (f i) → Took (path a) y w₀ w c₀ c (Done r)
+pub took-done : {I : Type 0} {f : I → Found} {k : ℕ} {y w₀ w c₀ c d₀ d : List Float} {r : Finding} (a : Asked) (i : I) → Finds f k y w₀ w c₀ c d₀ d r → path a ≡ some (f i)
+    → Took (path a) k y w₀ w c₀ c d₀ d (Done r)
 unfolding said reached
 took-done a i h e = record { says = ap some (h .says i) ∙ sym e; stands = h .stands; lost = λ z. absurd (some-none _ (sym e ∙ z)); changed = h .changed }

@@ -1,6 +1,5 @@
 // The paths of a fit, once its series is prepared at the start of work: L1 with lam 0, with lam at least lam_max and by the search, and L2.
 // Each writes behind the preparation, and answers what it found and where the trend stands (crates closed_paths, search_path).
-use closed_paths::Finding;
 use closed_paths::Path;
 use closed_paths::Trend;
 ghost use mathlib.Core.Path.{_≡_};
@@ -39,6 +38,7 @@ pub fn take_path(
     work: &mut [f64],
     marks: &mut [u32],
     cycle: &mut [f64],
+    dual: &mut [f64],
     y: &[f64],
     lam: f64,
     tol: f64,
@@ -47,23 +47,19 @@ pub fn take_path(
     penalty: u32,
     lam_max: f64,
 ) -> Path
-    requires { ⌜ AsksPath k (now y) «lam_max» (now work) (now cycle) (now marks) ⌝ }
-    ensures { λ r. ⌜ Took (path (asking (now (y .entry)) lam tol «max_iter» k penalty)) (now (y .entry))
-        (now (work .entry)) (now (work .exit)) (now (cycle .entry)) (now (cycle .exit)) r
+    requires { ⌜ AsksPath k (now y) «lam_max» (now work) (now cycle) (length (now dual)) (now marks) ⌝ }
+    ensures { λ r. ⌜ Took (path (asking (now (y .entry)) lam tol «max_iter» k penalty)) k (now (y .entry))
+        (now (work .entry)) (now (work .exit)) (now (cycle .entry)) (now (cycle .exit)) (now (dual .entry)) (now (dual .exit)) r
         × KeptOf 0 0 (marksPlaces (length (now (y .entry)))) (now (marks .entry)) (now (marks .exit)) ⌝ }
 {
     if penalty == 2 {
-        return closed_paths::l2_path(work, y, lam, k);
+        return closed_paths::l2_path(work, dual, y, lam, k);
     }
     if lam == 0.0 {
-        let s = closed_paths::closed(0.0, 0.0);
-        return Path::Done(Finding {
-            trend: Trend::Series,
-            numbers: s,
-        });
+        return Path::Done(closed_paths::zero_path(dual, y, k));
     }
     if lam_max <= lam {
-        return Path::Done(closed_paths::flat_path(work, cycle, y, lam, k));
+        return Path::Done(closed_paths::flat_path(work, cycle, dual, y, lam, k));
     }
-    Path::Done(search_path::search_path(work, marks, cycle, y, lam, tol, max_iter, k))
+    Path::Done(search_path::search_path(work, marks, cycle, dual, y, lam, tol, max_iter, k))
 }

@@ -2,7 +2,7 @@
 use mathlib.Core.Bool.{true, false}
 use mathlib.Core.List.{List}
 use mathlib.Core.Option.{Option, none, some}
-use mathlib.Core.Path.{_≡_, sym, ap, _∙_}
+use mathlib.Core.Path.{_≡_, refl, sym, ap, _∙_}
 use Prim.Native.Nat.{ℕ, _+_, _-_, _*_, _≤_, _<_}
 use native.Mathlib.Nat.{add-zero}
 use native.Mathlib.Omega.{arith}
@@ -13,7 +13,7 @@ use Rattle.float64.proofs.Clash.{impossible}
 use Rattle.float64.specs.Ops.{_⊖_}
 use Rattle.vectors.specs.Vec.{at, KeptOf}
 use Rattle.vectors.specs.Parts.{Kept, part}
-use Rattle.vectors.proofs.Laws.{list-ext, kept-then}
+use Rattle.vectors.proofs.Laws.{list-ext, kept-none, kept-then}
 use Rattle.vectors.proofs.Parts.{length-part, partOf-range, putBack, part-put}
 use Rattle.differences.specs.Diff.{diffK, gramRow}
 use Rattle.dual_point.specs.Places.{point}
@@ -70,18 +70,20 @@ only : {a b : List Float} → some a ≡ some b → a ≡ b
 only u = cc
 
 -- w₁ is the run with the candidate, v the marks
-module _ (k : ℕ) (y : List Float) (lam : Float) {w₀ w₁ : List Float} {v₀ v : List ℕ} (marks : KeptOf 0 0 (length y + (length y - k)) v₀ v) (kept : Kept (settleLane (length y)) (polishArea (length y)) w₀ w₁) where
-  pub ended-none : (r : Candidate) → r .there ≡ false → polishFrom k y lam w₀ ≡ none → Polished k y lam w₀ w₁ v₀ v r
+module _ (k : ℕ) (y : List Float) (lam : Float) {w₀ w₁ : List Float} (d₀ : List Float) {v₀ v : List ℕ} (marks : KeptOf 0 0 (length y + (length y - k)) v₀ v) (kept : Kept (settleLane (length y)) (polishArea (length y)) w₀ w₁) where
+  pub ended-none : (r : Candidate) → r .there ≡ false → polishFrom k y lam w₀ ≡ none → Polished k y lam w₀ w₁ d₀ d₀ v₀ v r
   ended-none r e p = record {
     there = e ∙ rw p;
     rated = λ z s. impossible cc;
     kept = kept;
+    none-there = λ _. refl;
+    dual = kept-none 0 (length y - k) d₀;
     marks = marks-all (length y) k marks;
   }
 
-  -- x is what the certificate leaves in the candidate's two lanes
-  module _ (big : searchArea (length y) ≤ length w₀) (l : ℕ) (d : l ≡ length y + (length y - k)) (x : List Float) (size : length x ≡ l) (primal dual : Float)
-      (p : polishFrom k y lam w₀ ≡ some (part (candidateLane (length y)) (length y - k) w₁)) (c : Certified k y lam (take l (drop (candidateTrend (length y)) w₁)) x primal dual) where
+  -- x is what the certificate leaves in the candidate's two lanes, d in the slice for the clamped candidate
+  module _ (big : searchArea (length y) ≤ length w₀) (l : ℕ) (width : l ≡ length y + (length y - k)) (x : List Float) (size : length x ≡ l) (primal dual : Float)
+      (p : polishFrom k y lam w₀ ≡ some (part (candidateLane (length y)) (length y - k) w₁)) (d : List Float) (c : Certified k y lam (take l (drop (candidateTrend (length y)) w₁)) x d₀ d primal dual) where
     abbrev n : ℕ
     n = length y
 
@@ -92,7 +94,7 @@ module _ (k : ℕ) (y : List Float) (lam : Float) {w₀ w₁ : List Float} {v₀
         let t : candidateTrend n + n ≡ candidateLane n = omega arith in
         rw (e, t) at (partOf-range nan n (n - k) (candidateTrend n) (candidateTrend n + l) w₁ (omega arith) (omega arith) (omega arith))
 
-    pub ended-some : (r : Candidate) → r .there ≡ true → r .gap ≡ primal ⊖ dual → r .primal ≡ primal → Polished k y lam w₀ (putBack (candidateTrend n) l w₁ x) v₀ v r
+    pub ended-some : (r : Candidate) → r .there ≡ true → r .gap ≡ primal ⊖ dual → r .primal ≡ primal → Polished k y lam w₀ (putBack (candidateTrend n) l w₁ x) d₀ d v₀ v r
     ended-some r e g h =
         let s = kept .size in
         record {
@@ -103,7 +105,10 @@ module _ (k : ℕ) (y : List Float) (lam : Float) {w₀ w₁ : List Float} {v₀
                 gap = g ∙ rw (c .primal-is, c .dual-is, is);
                 primal = h ∙ c .primal-is ∙ rw is;
                 trend = rw add-zero at (part-put (candidateTrend n) l w₁ x (omega arith) size nan 0 n (omega arith)) ∙ c .trend ∙ rw is;
+                dual = c .zc-is ∙ rw is;
               };
           kept = kept-then (settleLane n) (polishArea n) kept (kept-part (candidateTrend n) l l w₁ x (omega arith) size (omega arith)) (omega arith) (omega arith) (omega arith) (omega arith);
+          none-there = λ e. impossible cc;
+          dual = c .dual-kept;
           marks = marks-all (length y) k marks;
         }

@@ -36,8 +36,9 @@ pub record Made (k n : ℕ) (dy : List Float) (lam : Float) (v : List ℕ) (q : 
 
 -- ---- a polish for the series y, from a run w₀ = trend, z, mu1, mu2
 
-pub record Polishable (k : ℕ) (y dy : List Float) (places marks : ℕ) : Type 0 where
+pub record Polishable (k : ℕ) (y dy : List Float) (places dual marks : ℕ) : Type 0 where
   pub ready : Ready k y dy (searchArea (length y)) places
+  pub room : length y - k ≤ dual
   pub marked : 2 * length y ≤ marks
 
 abbrev pub polishFrom : ℕ → List Float → Float → List Float → Option (List Float)
@@ -47,17 +48,20 @@ abbrev pub isSome : Option (List Float) → Bool
 isSome none = false
 isSome (some z) = true
 
--- r has the gap and P of the certificate at z, and the run w its trend in the lane for it
-pub record Rated (k : ℕ) (y : List Float) (lam : Float) (w z : List Float) (r : Candidate) : Type 0 where
+-- r has the gap and P of the certificate at z, the run w its trend in the lane for it, and d the clamped z
+pub record Rated (k : ℕ) (y : List Float) (lam : Float) (w d z : List Float) (r : Candidate) : Type 0 where
   pub gap : r .gap ≡ gapOf (certify k y lam z)
   pub primal : r .primal ≡ certify k y lam z .primal
   pub trend : part (candidateTrend (length y)) (length y) w ≡ certify k y lam z .trend
+  pub dual : part 0 (length y - k) d ≡ certify k y lam z .zc
 
--- r says whether there is a candidate; if so its certificate is there. Only the polish's lanes and the first 2 n marks may have changed.
-pub record Polished (k : ℕ) (y : List Float) (lam : Float) (w₀ w : List Float) (v₀ v : List ℕ) (r : Candidate) : Type 0 where
+-- r says whether there is a candidate; if so its certificate is there, and else d is as found. Only the polish's lanes, the first m places of d and the first 2 n marks may have changed.
+pub record Polished (k : ℕ) (y : List Float) (lam : Float) (w₀ w d₀ d : List Float) (v₀ v : List ℕ) (r : Candidate) : Type 0 where
   pub there : r .there ≡ isSome (polishFrom k y lam w₀)
-  pub rated : (z : List Float) → polishFrom k y lam w₀ ≡ some z → Rated k y lam w z r
+  pub rated : (z : List Float) → polishFrom k y lam w₀ ≡ some z → Rated k y lam w d z r
   pub kept : Kept (settleLane (length y)) (polishArea (length y)) w₀ w
+  pub none-there : polishFrom k y lam w₀ ≡ none → d ≡ d₀
+  pub dual : Kept 0 (length y - k) d₀ d
   pub marks : KeptOf 0 0 (2 * length y) v₀ v
 
 -- there is a candidate, its gap is finite and strictly smaller

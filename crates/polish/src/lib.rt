@@ -80,17 +80,18 @@ fn none() -> Candidate
     }
 }
 
-// The polish of where the search ended: work holds the iterate's trend, z, mu1 and mu2, dy D y. The candidate and its trend are left in their lanes.
+// The polish of where the search ended: work holds the iterate's trend, z, mu1 and mu2, dy D y. The candidate and its trend are left in their lanes, and dual begins with the clamped candidate.
 pub fn polish_l1(
     work: &mut [f64],
+    dual: &mut [f64],
     marks: &mut [u32],
     y: &[f64],
     dy: &[f64],
     lam: f64,
     k: usize,
 ) -> Candidate
-    requires { ⌜ Polishable k (now y) (now dy) (length (now work)) (length (now marks)) ⌝ }
-    ensures { λ r. ⌜ Polished k (now (y .entry)) lam (now (work .entry)) (now (work .exit)) (now (marks .entry)) (now (marks .exit)) r ⌝ }
+    requires { ⌜ Polishable k (now y) (now dy) (length (now work)) (length (now dual)) (length (now marks)) ⌝ }
+    ensures { λ r. ⌜ Polished k (now (y .entry)) lam (now (work .entry)) (now (work .exit)) (now (dual .entry)) (now (dual .exit)) (now (marks .entry)) (now (marks .exit)) r ⌝ }
 {
     let n = y.len();
     let m = n - k;
@@ -100,7 +101,7 @@ pub fn polish_l1(
     }
     let a = 11 * n;
     let e = 12 * n + m;
-    let c = certificate::certify_l1(&mut work[a..e], y, dy, lam, k);
+    let c = certificate::certify_l1(&mut work[a..e], dual, y, dy, lam, k);
     Candidate {
         there: true,
         gap: c.primal - c.dual,

@@ -1,21 +1,22 @@
 -- A bad pivot of D D'; a path that was lost, and one whose trend was written out. Assumes nothing.
-use mathlib.Core.Path.{_≡_, sym, ap, subst, _∙_}
+use mathlib.Core.Path.{_≡_, refl, sym, ap, subst, _∙_}
 use mathlib.Core.Bool.{Bool, false, cond}
-use mathlib.Core.List.{List, _++_}
+use mathlib.Core.List.{List}
 use mathlib.Core.Option.{none, some}
-use Prim.Native.Nat.{ℕ, _+_, _≤_}
+use Prim.Native.Nat.{ℕ, _≤_}
 use native.Mathlib.Omega.{arith}
-use lib.ListN.{length, drop, length-drop}
-use lib.Seq.{ext-getD, getD-drop}
-use lib.Ieee.{Float, nan}
+use lib.ListN.{length}
+use lib.Ieee.{Float}
 use Rattle.vectors.specs.Vec.{put, KeptOf}
-use Rattle.vectors.specs.Parts.{Kept}
+use Rattle.vectors.specs.Parts.{Kept, part}
+use Rattle.vectors.proofs.Laws.{kept-then}
+use Rattle.vectors.proofs.Texts.{put-start, start-put}
 use Rattle.certificate.specs.Certificate.{minus}
 use Rattle.certificate.proofs.Laws.{length-minus}
-use Rattle.decomposition.specs.Outputs.{outputs}
-use Rattle.decomposition.specs.Written.{WroteOut}
+use Rattle.decomposition.specs.Written.{decomposed, WroteOut}
 use Rattle.questions.specs.Questions.{Asked, Lent, marksPlaces, question}
-use Rattle.fit.specs.Fit.{refused, path, written, outcome, fit, after}
+use Rattle.fit.specs.Outputs.{outputs}
+use Rattle.fit.specs.Fit.{refused, places, path, written, outcome, fit, after}
 use Rattle.fit.specs.Ways.{soundDD}
 use Rattle.fit.proofs.Passed.{fit-passed}
 use Rattle.closed_paths.specs.declared.Finding.{Finding}
@@ -35,42 +36,39 @@ pub reach-found : (r : Path) (f : Finding) (n w : ℕ) → r ≡ path.Done f →
 unfolding reached
 reach-found r f n w e h = subst (λ (p : Path). reached p n ≤ w) e h
 
-drop-kept : {n : ℕ} {s₀ s : List Float} → Kept 0 n s₀ s → drop n s ≡ drop n s₀
-drop-kept {n} {s₀} {s} w =
-    let size = w .size in
-    ext-getD nan (drop n s) (drop n s₀) (omega (arith, length-drop n s, length-drop n s₀))
-    (λ i l. getD-drop n s i nan ∙ w .above (n + i) (omega arith) ∙ sym (getD-drop n s₀ i nan))
-
 -- u over whatever stood in its places
-put-kept : (n : ℕ) (s₀ s u : List Float) → Kept 0 n s₀ s → length u ≡ n → put s 0 u ≡ put s₀ 0 u
-put-kept n s₀ s u w e =
-    let z : 0 + length u ≡ n = omega arith in
-    ap (λ (r : List Float). u ++ r) (ap (λ (q : ℕ). drop q s) z ∙ drop-kept w ∙ ap (λ (q : ℕ). drop q s₀) (sym z))
+put-kept : (n : ℕ) (s₀ s u : List Float) → Kept 0 n s₀ s → length u ≡ n → n ≤ length s₀ → put s 0 u ≡ put s₀ 0 u
+put-kept n s₀ s u w e fits =
+    let size = w .size in
+    let h = put-start n s u (put s 0 u) refl e (omega arith) in
+    start-put n s₀ u (put s 0 u) (h .0) (kept-then 0 n w (h .1) (omega arith) (omega arith) (omega arith) (omega arith)) fits
 
-module _ {a : Asked} {w₀ w c₀ c₁ : List Float} {r : Path} {marks₀ marks : List ℕ} (t : Took (path a) (a .y) w₀ w c₀ c₁ r) (m : KeptOf 0 0 (marksPlaces (length (a .y))) marks₀ marks) where
+module _ {a : Asked} {w₀ w c₀ c₁ d₀ d : List Float} {r : Path} {marks₀ marks : List ℕ} (t : Took (path a) (a .order) (a .y) w₀ w c₀ c₁ d₀ d r) (m : KeptOf 0 0 (marksPlaces (length (a .y))) marks₀ marks) where
   -- a path that was lost
-  pub fitted-lost : (x : List Float) (i : List ℕ) → r ≡ path.Lost → Fitted a Lost (outputs x c₀ i) (outputs x c₁ i) w₀ w marks₀ marks
+  pub fitted-lost : (x : List Float) (i : List ℕ) → r ≡ path.Lost → Fitted a Lost (outputs x c₀ i d₀) (outputs x c₁ i d) w₀ w marks₀ marks
   unfolding said tallied outcome after
   fitted-lost x i e =
-      let p : none ≡ path a = sym (ap (said (a .y) w) e) ∙ t .says in
+      let p : none ≡ path a = sym (ap (said (a .order) (a .y) w d) e) ∙ t .says in
+      let l = t .lost (sym p) in
       record {
         tally = ap (tallied a) p;
-        out = ap (λ (c : List Float). outputs x c i) (t .lost (sym p)) ∙ ap (λ o. after (outcome a o) (outputs x c₀ i)) p;
+        out = (λ j. outputs x (l .0 j) i (l .1 j)) ∙ ap (λ o. after (outcome a o) (outputs x c₀ i d₀)) p;
         work = t .changed .work;
         marked = m;
       }
 
-  -- the trend of what was found was written out, over whatever the path left in cycle
-  pub fitted-done : (f : Finding) (count : ℕ) (t₀ x c : List Float) (i₀ i : List ℕ) → r ≡ path.Done f
-      → WroteOut (a .order) (a .y) (trendOf (a .y) w (f .trend)) count (outputs t₀ c₁ i₀) (outputs x c i)
-      → Fitted a (Done (record { knots = count; numbers = f .numbers })) (outputs t₀ c₀ i₀) (outputs x c i) w₀ w marks₀ marks
+  -- the trend of what was found was written out, over whatever the path left in cycle; there is room in cycle and in dual
+  pub fitted-done : length (a .y) ≤ length c₀ → places a ≤ length d₀ → (f : Finding) (count : ℕ) (t₀ x c : List Float) (i₀ i : List ℕ) → r ≡ path.Done f
+      → WroteOut (a .order) (a .y) (trendOf (a .y) w (f .trend)) count (decomposed t₀ c₁ i₀) (decomposed x c i)
+      → Fitted a (Done (record { knots = count; numbers = f .numbers })) (outputs t₀ c₀ i₀ d₀) (outputs x c i d) w₀ w marks₀ marks
   unfolding said tallied outcome after written
-  fitted-done f count t₀ x c i₀ i e o =
-      let p : some (foundOf (a .y) w f) ≡ path a = sym (ap (said (a .y) w) e) ∙ t .says in
-      let cycle-is = o .cycle ∙ put-kept (length (a .y)) c₀ c₁ (minus (a .y) (trendOf (a .y) w (f .trend))) (t .changed .cycle) (length-minus (a .y) (trendOf (a .y) w (f .trend))) in
+  fitted-done long fits f count t₀ x c i₀ i e o =
+      let p : some (foundOf (a .order) (a .y) w d f) ≡ path a = sym (ap (said (a .order) (a .y) w d) e) ∙ t .says in
+      let cycle-is = o .cycle ∙ put-kept (length (a .y)) c₀ c₁ (minus (a .y) (trendOf (a .y) w (f .trend))) (t .changed .cycle) (length-minus (a .y) (trendOf (a .y) w (f .trend))) long in
+      let dual-is = start-put (places a) d₀ (part 0 (places a) d) d refl (t .changed .dual) fits in
       record {
         tally = ap (λ (q : ℕ). Done (record { knots = q; numbers = f .numbers })) (o .count-is) ∙ ap (tallied a) p;
-        out = (λ j. outputs (o .trend j) (cycle-is j) (o .knots j)) ∙ ap (λ q. after (outcome a q) (outputs t₀ c₀ i₀)) p;
+        out = (λ j. outputs (o .trend j) (cycle-is j) (o .knots j) (dual-is j)) ∙ ap (λ q. after (outcome a q) (outputs t₀ c₀ i₀ d₀)) p;
         work = t .changed .work;
         marked = m;
       }

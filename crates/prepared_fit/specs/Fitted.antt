@@ -10,8 +10,9 @@ use Rattle.vectors.specs.Parts.{Kept}
 use Rattle.differences.specs.Series.{Series}
 use Rattle.gram.specs.Prepared.{preparation}
 use Rattle.dual_point.specs.Lanes.{searchArea}
-use Rattle.decomposition.specs.Outputs.{Outputs}
+use Rattle.decomposition.specs.Written.{Decomposed}
 use Rattle.questions.specs.Questions.{Asked, marksPlaces}
+use Rattle.fit.specs.Outputs.{Outputs}
 use Rattle.fit.specs.Fit.{Found, path, written, outcome, after}
 use Rattle.closed_paths.specs.declared.Trend.{Trend}
 use Rattle.closed_paths.specs.Trends.{reach}
@@ -20,7 +21,7 @@ use Rattle.prepared_fit.specs.declared.Written.{Written}
 use Rattle.prepared_fit.specs.declared.Written.the-variants.{Lost, Done}
 
 -- a trend that stands in w, and room for what is written of it
-pub record AsksOut (k : ℕ) (y w : List Float) (t : Trend) (b : Outputs) : Type 0 where
+pub record AsksOut (k : ℕ) (y w : List Float) (t : Trend) (b : Decomposed) : Type 0 where
   pub series : Series k (length y)
   pub stands : reach t (length y) ≤ length w
   pub trend : length y ≤ length (b .trend)
@@ -29,7 +30,7 @@ pub record AsksOut (k : ℕ) (y w : List Float) (t : Trend) (b : Outputs) : Type
 
 -- the series is prepared, top is lam_max, and there is room in every buffer
 pub record AsksFit (k : ℕ) (y : List Float) (top : Float) (b : Outputs) (w : List Float) (marks : List ℕ) : Type 0 where
-  pub path : AsksPath k y top w (b .cycle) marks
+  pub path : AsksPath k y top w (b .cycle) (length (b .dual)) marks
   pub trend : length y ≤ length (b .trend)
   pub knots : length y ≤ length (b .knots)
 

@@ -3,9 +3,9 @@ use closed_paths::Path;
 use closed_paths::Trend;
 use fit::Numbers;
 ghost use lib.ListN.{length};
-ghost use Rattle.decomposition.specs.Outputs.{outputs};
-ghost use Rattle.decomposition.specs.Written.{WroteOut};
+ghost use Rattle.decomposition.specs.Written.{decomposed, WroteOut};
 ghost use Rattle.questions.specs.Asking.{asking, lending};
+ghost use Rattle.fit.specs.Outputs.{outputs};
 ghost use Rattle.closed_paths.specs.Trends.{trendOf};
 ghost use Rattle.prepared_fit.specs.Begun.{Begins};
 ghost use Rattle.prepared_fit.specs.Fitted.{AsksOut, AsksFit, Fitted};
@@ -16,7 +16,7 @@ pub enum Begun {
     Ready(f64),
 }
 
-// The questions, then the preparation at the start of work. trend, cycle, knots and marks are the lengths lent.
+// The questions, then the preparation at the start of work. trend, cycle, knots, dual and marks are the lengths lent.
 pub fn begin(
     work: &mut [f64],
     y: &[f64],
@@ -28,9 +28,10 @@ pub fn begin(
     trend: usize,
     cycle: usize,
     knots: usize,
+    dual: usize,
     marks: usize,
 ) -> Begun
-    ensures { λ r. ⌜ Begins (asking (now (y .entry)) lam tol «max_iter» order penalty) (lending trend cycle knots (length (now (work .entry))) marks)
+    ensures { λ r. ⌜ Begins (asking (now (y .entry)) lam tol «max_iter» order penalty) (lending trend cycle knots dual (length (now (work .entry))) marks)
         (now (work .entry)) (now (work .exit)) r ⌝ }
 {
     let q = questions::question(
@@ -43,6 +44,7 @@ pub fn begin(
         trend,
         cycle,
         knots,
+        dual,
         work.len(),
         marks,
     );
@@ -78,9 +80,9 @@ fn write_found<'a>(
     t: Trend,
     k: usize,
 ) -> usize
-    requires { ⌜ AsksOut k (now y) (now work) t (outputs (now trend) (now cycle) (now knots)) ⌝ }
+    requires { ⌜ AsksOut k (now y) (now work) t (decomposed (now trend) (now cycle) (now knots)) ⌝ }
     ensures { λ r. ⌜ WroteOut k (now (y .entry)) (trendOf (now (y .entry)) (now (work .entry)) t) r
-        (outputs (now (trend .entry)) (now (cycle .entry)) (now (knots .entry))) (outputs (now (trend .exit)) (now (cycle .exit)) (now (knots .exit))) ⌝ }
+        (decomposed (now (trend .entry)) (now (cycle .entry)) (now (knots .entry))) (decomposed (now (trend .exit)) (now (cycle .exit)) (now (knots .exit))) ⌝ }
 {
     let x = paths::trend_of(y, work, t);
     decomposition::write_out(trend, cycle, knots, y, x, k)
@@ -91,6 +93,7 @@ pub fn fit_prepared(
     trend: &mut [f64],
     cycle: &mut [f64],
     knots: &mut [u32],
+    dual: &mut [f64],
     work: &mut [f64],
     marks: &mut [u32],
     y: &[f64],
@@ -101,15 +104,16 @@ pub fn fit_prepared(
     penalty: u32,
     lam_max: f64,
 ) -> Written
-    requires { ⌜ AsksFit k (now y) «lam_max» (outputs (now trend) (now cycle) (now knots)) (now work) (now marks) ⌝ }
+    requires { ⌜ AsksFit k (now y) «lam_max» (outputs (now trend) (now cycle) (now knots) (now dual)) (now work) (now marks) ⌝ }
     ensures { λ r. ⌜ Fitted (asking (now (y .entry)) lam tol «max_iter» k penalty) r
-        (outputs (now (trend .entry)) (now (cycle .entry)) (now (knots .entry))) (outputs (now (trend .exit)) (now (cycle .exit)) (now (knots .exit)))
+        (outputs (now (trend .entry)) (now (cycle .entry)) (now (knots .entry)) (now (dual .entry))) (outputs (now (trend .exit)) (now (cycle .exit)) (now (knots .exit)) (now (dual .exit)))
         (now (work .entry)) (now (work .exit)) (now (marks .entry)) (now (marks .exit)) ⌝ }
 {
     let p = paths::take_path(
         work,
         marks,
         cycle,
+        dual,
         y,
         lam,
         tol,

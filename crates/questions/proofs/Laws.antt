@@ -70,6 +70,7 @@ pub record Passed (a : Asked) (l : Lent) : Type 0 where
   pub trend : length (a .y) ≤ l .trend
   pub cycle : length (a .y) ≤ l .cycle
   pub knots : length (a .y) ≤ l .knots
+  pub dual : length (a .y) ≤ l .dual
   pub work : workPlaces (length (a .y)) ≤ l .work
   pub marks : marksPlaces (length (a .y)) ≤ l .marks
 
@@ -89,8 +90,9 @@ passed a l e =
     let kinds = both (oneOrTwo (a .order)) (oneOrTwo (a .penalty)) (q1 .0) in
     let lam = both (isFinite (a .lam)) (not (lt (a .lam) c0)) (q5 .0) in
     let tol = both (isFinite (a .tol)) (lt c0 (a .tol)) (q6 .0) in
-    let answer = both (leb n (l .trend) && leb n (l .cycle)) (leb n (l .knots)) (q8 .0) in
-    let curves = both (leb n (l .trend)) (leb n (l .cycle)) (answer .0) in
+    let answer = both (leb n (l .trend) && leb n (l .cycle) && leb n (l .knots)) (leb n (l .dual)) (q8 .0) in
+    let parts = both (leb n (l .trend) && leb n (l .cycle)) (leb n (l .knots)) (answer .0) in
+    let curves = both (leb n (l .trend)) (leb n (l .cycle)) (parts .0) in
     let scratch = both (leb (workPlaces n) (l .work)) (leb (marksPlaces n) (l .marks)) (q9 .0) in
     record {
       series =
@@ -105,7 +107,8 @@ passed a l e =
       max-iter = leb-true 1 (a .max-iter) (q7 .0);
       trend = leb-true n (l .trend) (curves .0);
       cycle = leb-true n (l .cycle) (curves .1);
-      knots = leb-true n (l .knots) (answer .1);
+      knots = leb-true n (l .knots) (parts .1);
+      dual = leb-true n (l .dual) (answer .1);
       work = leb-true (workPlaces n) (l .work) (scratch .0);
       marks = leb-true (marksPlaces n) (l .marks) (scratch .1);
     }

@@ -9,5 +9,5 @@ abbrev pub asking : List Float → Float → Float → ℕ → ℕ → ℕ → A
 asking y lam tol max-iter order penalty = record { y = y; lam = lam; tol = tol; max-iter = max-iter; order = order; penalty = penalty }
 
 -- the lengths lent
-abbrev pub lending : ℕ → ℕ → ℕ → ℕ → ℕ → Lent
-lending trend cycle knots work marks = record { trend = trend; cycle = cycle; knots = knots; work = work; marks = marks }
+abbrev pub lending : ℕ → ℕ → ℕ → ℕ → ℕ → ℕ → Lent
+lending trend cycle knots dual work marks = record { trend = trend; cycle = cycle; knots = knots; dual = dual; work = work; marks = marks }

@@ -39,7 +39,7 @@ limitRight max-iter = leb 1 max-iter
 
 -- question 8, as our own functions ask it
 abbrev pub answerRoom : ℕ → Lent → Bool
-answerRoom n l = leb n (l .trend) && leb n (l .cycle) && leb n (l .knots)
+answerRoom n l = leb n (l .trend) && leb n (l .cycle) && leb n (l .knots) && leb n (l .dual)
 
 -- question 9, as our own functions ask it
 abbrev pub scratchRoom : ℕ → Lent → Bool

@@ -23,6 +23,7 @@ pub record Lent : Type 0 where
   pub trend : ℕ
   pub cycle : ℕ
   pub knots : ℕ
+  pub dual : ℕ
   pub work : ℕ
   pub marks : ℕ
 
@@ -47,10 +48,10 @@ marksPlaces n = 2 * n
 abbrev pub ask : ℕ → Bool → ℕ → ℕ
 ask number answer rest = cond answer rest number
 
--- 8. Have trend, cycle and knots each at least n places? 9. Has work at least 40·n places and marks at least 2·n?
+-- 8. Have trend, cycle, knots and dual each at least n places? 9. Has work at least 40·n places and marks at least 2·n?
 unfoldable pub room : ℕ → Lent → ℕ
 room n l =
-    ask 8 (leb n (l .trend) && leb n (l .cycle) && leb n (l .knots))
+    ask 8 (leb n (l .trend) && leb n (l .cycle) && leb n (l .knots) && leb n (l .dual))
     (ask 9 (leb (workPlaces n) (l .work) && leb (marksPlaces n) (l .marks)) 0)
 
 -- the first question answered no, and 0 where none is

@@ -53,10 +53,10 @@ fn tol_right(tol: f64) -> bool
     both(float64::is_finite(tol), 0.0 < tol)
 }
 
-fn answer_room(n: usize, trend: usize, cycle: usize, knots: usize) -> bool
-    ensures { λ r. ⌜ r ≡ leb n trend && leb n cycle && leb n knots ⌝ }
+fn answer_room(n: usize, trend: usize, cycle: usize, knots: usize, dual: usize) -> bool
+    ensures { λ r. ⌜ r ≡ leb n trend && leb n cycle && leb n knots && leb n dual ⌝ }
 {
-    both(both(n <= trend, n <= cycle), n <= knots)
+    both(both(both(n <= trend, n <= cycle), n <= knots), n <= dual)
 }
 
 fn scratch_room(n: usize, work: usize, marks: usize) -> bool
@@ -102,11 +102,19 @@ fn values(y: &[f64], lam: f64, tol: f64, max_iter: u64) -> u32
 }
 
 // Questions 8 and 9, for a series of n.
-fn room(n: usize, trend: usize, cycle: usize, knots: usize, work: usize, marks: usize) -> u32
+fn room(
+    n: usize,
+    trend: usize,
+    cycle: usize,
+    knots: usize,
+    dual: usize,
+    work: usize,
+    marks: usize,
+) -> u32
     requires { ⌜ n ≤ 65536 ⌝ }
-    ensures { λ r. ⌜ r ≡ room n (lending trend cycle knots work marks) ⌝ }
+    ensures { λ r. ⌜ r ≡ room n (lending trend cycle knots dual work marks) ⌝ }
 {
-    if !answer_room(n, trend, cycle, knots) {
+    if !answer_room(n, trend, cycle, knots, dual) {
         return 8;
     }
     if !scratch_room(n, work, marks) {
@@ -115,7 +123,7 @@ fn room(n: usize, trend: usize, cycle: usize, knots: usize, work: usize, marks: 
     0
 }
 
-// The first question of 1 to 9 that is answered no; 0 where none is. trend, cycle, knots, work and marks are the lengths lent.
+// The first question of 1 to 9 that is answered no; 0 where none is. trend, cycle, knots, dual, work and marks are the lengths lent.
 pub fn question(
     y: &[f64],
     lam: f64,
@@ -126,10 +134,11 @@ pub fn question(
     trend: usize,
     cycle: usize,
     knots: usize,
+    dual: usize,
     work: usize,
     marks: usize,
 ) -> u32
-    ensures { λ r. ⌜ r ≡ question (asking (now (y .entry)) lam tol «max_iter» order penalty) (lending trend cycle knots work marks) ⌝ }
+    ensures { λ r. ⌜ r ≡ question (asking (now (y .entry)) lam tol «max_iter» order penalty) (lending trend cycle knots dual work marks) ⌝ }
 {
     let n = y.len();
     let s = sizes(n, order, penalty);
@@ -140,5 +149,5 @@ pub fn question(
     if v != 0 {
         return v;
     }
-    room(n, trend, cycle, knots, work, marks)
+    room(n, trend, cycle, knots, dual, work, marks)
 }

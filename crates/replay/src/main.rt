@@ -8,7 +8,8 @@ fn past(s: &[u8; 131072], a: usize) -> usize
     ensures { λ r. ⌜ r ≤ 40000 ⌝ }
 {
     let n = stored::count_at(s, a + 3, 168);
-    stored::past(s, a + 12 + n, n)
+    let k = stored::count_at(s, a + 1, n);
+    stored::past(s, a + 13 + n, n, n - k)
 }
 
 // 1 for a case that is equal; else 0, and a line says that case i, of group g, differs.

@@ -17,8 +17,8 @@ use Rattle.compared.specs.Outcomes.{sameOutcome}
 use Rattle.rerun.specs.Cases.{optionAt, askedAt, lendingOf, equalAt}
 
 -- lengths lent
-pub lending-is : {t c k w m : ℕ} (l : Lengths) → t ≡ l .trend → c ≡ l .cycle → k ≡ l .knots → w ≡ l .work → m ≡ l .marks → lending t c k w m ≡ lendingOf l
-lending-is l et ec ek ew em = rw (et, ec, ek, ew, em)
+pub lending-is : {t c k d w m : ℕ} (l : Lengths) → t ≡ l .trend → c ≡ l .cycle → k ≡ l .knots → d ≡ l .dual → w ≡ l .work → m ≡ l .marks → lending t c k d w m ≡ lendingOf l
+lending-is l et ec ek ed ew em = rw (et, ec, ek, ed, ew, em)
 
 -- the first t places of an array of n
 pub first-long : {A : Type 0} (x : A) (n t : ℕ) → t ≤ n → length (take (t - 0) (replicate n x)) ≡ t
@@ -35,8 +35,8 @@ loaded-long s a n u v e = sym (ap length (loaded s a n u v e) ∙ length-list n 
 
 -- the whole case
 pub case-is : (s : List ℕ) (a : ℕ) {l : Lengths} {y : List Float} {lam tol : Float} {max-iter order penalty : ℕ} {r : Bool}
-    → l ≡ lentAt s a → y ≡ doublesAt s (a + 12) (l .n) → lam ≡ ofBits binary64 (wordAt s (a + 9)) → tol ≡ ofBits binary64 (wordAt s (a + 10)) → max-iter ≡ wordAt s (a + 11)
+    → l ≡ lentAt s a → y ≡ doublesAt s (a + 13) (l .n) → lam ≡ ofBits binary64 (wordAt s (a + 10)) → tol ≡ ofBits binary64 (wordAt s (a + 11)) → max-iter ≡ wordAt s (a + 12)
     → order ≡ optionAt s (a + 1) → penalty ≡ optionAt s (a + 2)
-    → r ≡ sameOutcome (fit (asking y lam tol max-iter order penalty) (lendingOf l)) s (a + 12 + l .n) → r ≡ equalAt s a
+    → r ≡ sameOutcome (fit (asking y lam tol max-iter order penalty) (lendingOf l)) s (a + 13 + l .n) → r ≡ equalAt s a
 unfolding equalAt askedAt
 case-is s a el ey ea et em eo ep h = h ∙ rw (ey, ea, et, em, eo, ep, el)

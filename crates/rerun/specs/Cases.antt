@@ -17,18 +17,18 @@ optionAt s i = wordAt s i % 4294967296
 -- what the case from word a on asks
 unfoldable pub askedAt : List ℕ → ℕ → Asked
 askedAt s a = record {
-  y = doublesAt s (a + 12) (lentAt s a .n);
-  lam = ofBits binary64 (wordAt s (a + 9));
-  tol = ofBits binary64 (wordAt s (a + 10));
-  max-iter = wordAt s (a + 11);
+  y = doublesAt s (a + 13) (lentAt s a .n);
+  lam = ofBits binary64 (wordAt s (a + 10));
+  tol = ofBits binary64 (wordAt s (a + 11));
+  max-iter = wordAt s (a + 12);
   order = optionAt s (a + 1);
   penalty = optionAt s (a + 2);
 }
 
 -- what it lends
 abbrev pub lendingOf : Lengths → Lent
-lendingOf l = lending (l .trend) (l .cycle) (l .knots) (l .work) (l .marks)
+lendingOf l = lending (l .trend) (l .cycle) (l .knots) (l .dual) (l .work) (l .marks)
 
 -- whether the outcome of its fit is the stored one
 unfoldable pub equalAt : List ℕ → ℕ → Bool
-equalAt s a = sameOutcome (fit (askedAt s a) (lendingOf (lentAt s a))) s (a + 12 + lentAt s a .n)
+equalAt s a = sameOutcome (fit (askedAt s a) (lendingOf (lentAt s a))) s (a + 13 + lentAt s a .n)

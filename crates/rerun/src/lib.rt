@@ -27,11 +27,13 @@ fn fit_at(
     let mut trend = [0.0f64; 168];
     let mut cycle = [0.0f64; 168];
     let mut knots = [0u32; 168];
+    let mut dual = [0.0f64; 168];
     let mut work = [0.0f64; 6720];
     let mut marks = [0u32; 336];
     let t = l.trend;
     let c = l.cycle;
     let k = l.knots;
+    let d = l.dual;
     let w = l.work;
     let m = l.marks;
     compared::same_outcome(
@@ -41,6 +43,7 @@ fn fit_at(
         &mut trend[0..t],
         &mut cycle[0..c],
         &mut knots[0..k],
+        &mut dual[0..d],
         &mut work[0..w],
         &mut marks[0..m],
         s,
@@ -70,13 +73,13 @@ pub fn equal_at(s: &[u8; 131072], a: usize) -> bool
     let mut y = [0.0f64; 168];
     let l = stored::lent_at(s, a);
     let n = l.n;
-    stored::load(&mut y, s, a + 12, n);
+    stored::load(&mut y, s, a + 13, n);
     let opts = TrendFilterOptions {
         order: option_at(s, a + 1),
         penalty: option_at(s, a + 2),
-        tol: double_at(s, a + 10),
-        max_iter: stored::word(s, a + 11),
+        tol: double_at(s, a + 11),
+        max_iter: stored::word(s, a + 12),
     };
-    let lam = double_at(s, a + 9);
-    fit_at(&y[..n], l, lam, opts, s, a + 12 + n)
+    let lam = double_at(s, a + 10);
+    fit_at(&y[..n], l, lam, opts, s, a + 13 + n)
 }

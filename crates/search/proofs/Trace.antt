@@ -145,6 +145,20 @@ module _ {S : Type 0} {L : Problem S} {tol : Float} where
   first-stays (gains t e f m w tr) = first-stays tr
   first-stays (stays t e f m w tr) = first-stays tr
 
+-- ---- what every iteration keeps
+abbrev pub Led : {S : Type 0} → (S → Type 0) → Turn S → Type 0
+Led I lost = T true
+Led I (moved t) = I t
+
+module _ {S : Type 0} {L : Problem S} {tol : Float} (I : S → Type 0) (keeps : (x : Float) (s : S) → I s → Led I (L .move x s)) where
+  pub kept-to-end : {r : ℕ} {p : Point S} {e : Ended S} → Trace L tol r p e → I (p .state) → I (e .state)
+  kept-to-end (closes r p e) h = h
+  kept-to-end (spends p e) h = h
+  kept-to-end (stalls r p e f) h = h
+  kept-to-end (loses r p e f m) h = h
+  kept-to-end (gains t e f m w tr) h = kept-to-end tr (subst (Led I) m (keeps _ _ h))
+  kept-to-end (stays t e f m w tr) h = kept-to-end tr (subst (Led I) m (keeps _ _ h))
+
 -- ---- ten idle iterations for each improvement, and ten more
 not-ten : (n : ℕ) → n ≤ 10 → eqb n 10 ≡ false → n ≤ 9
 not-ten n h f = le-of-le-suc-ne h (λ (e : n ≡ 10). T-not (eqb n 10) (subst (λ (x : Bool). T (not x)) (sym f) tt) (eq→eqb e))

@@ -17,7 +17,7 @@ use Rattle.closed_paths.specs.declared.Finding.{Finding}
 use Rattle.closed_paths.specs.Trends.{trendOf, foundOf}
 use Rattle.search_path.specs.Search.{Reached}
 
-module _ (a : Asked) (w x : List Float) (r : Finding) (fits : preparation (length (a .y)) + searchArea (length (a .y)) ≤ length w) (size : length x ≡ searchArea (length (a .y))) (h : Reached a x r) where
+module _ (a : Asked) (w x d : List Float) (r : Finding) (fits : preparation (length (a .y)) + searchArea (length (a .y)) ≤ length w) (size : length x ≡ searchArea (length (a .y))) (h : Reached a x d r) where
   abbrev after : List Float
   after = putBack (preparation (length (a .y))) (searchArea (length (a .y))) w x
 
@@ -32,6 +32,6 @@ module _ (a : Asked) (w x : List Float) (r : Finding) (fits : preparation (lengt
       ∙ (λ i. cond (h .second) (put-at (candidateTrend n) n (omega arith) i) (first i))
       ∙ h .trend
 
-  pub search-says : foundOf (a .y) after r ≡ pathEnd a (searchOf a)
+  pub search-says : foundOf (a .order) (a .y) after d r ≡ pathEnd a (searchOf a)
   unfolding pathEnd
-  search-says = λ i. record { trend = won-trend i; numbers = h .numbers i }
+  search-says = λ i. record { trend = won-trend i; dual = h .dual i; numbers = h .numbers i }

@@ -33,17 +33,17 @@ sameDoubles x s a = sameTo (λ i. toBits binary64 (at x i)) s a (length x)
 abbrev pub sameNumbers : List ℕ → List ℕ → ℕ → Bool
 sameNumbers x s a = sameTo (λ i. getD x i 0) s a (length x)
 
--- whether the places of a fit are the words from a on: its trend, its cycle, its knots
-unfoldable pub samePlaces : List Float → List Float → List ℕ → List ℕ → ℕ → Bool
-samePlaces t c k s a = sameDoubles t s a && (sameDoubles c s (a + length t) && sameNumbers k s (a + 2 * length t))
+-- whether the places of a fit are the words from a on: its trend, its cycle, its knots, its dual point
+unfoldable pub samePlaces : List Float → List Float → List ℕ → List Float → List ℕ → ℕ → Bool
+samePlaces t c k d s a = sameDoubles t s a && (sameDoubles c s (a + length t) && (sameNumbers k s (a + 2 * length t) && sameDoubles d s (a + 2 * length t + length k)))
 
--- the word past the answer that is stored from word a on, of a series of n: a refusal is its number; a fit is 0, its 10 numbers, trend, cycle and knots
-unfoldable pub pastAt : List ℕ → ℕ → ℕ → ℕ
-pastAt s a n = cond (eqb (wordAt s a) 0) (a + 11 + 2 * n + countAt s (a + 6) 168) (a + 1)
+-- the word past the answer that is stored from word a on, of a series of n with m differences: a refusal is its number; a fit is 0, its 10 numbers, trend, cycle, knots and dual point
+unfoldable pub pastAt : List ℕ → ℕ → ℕ → ℕ → ℕ
+pastAt s a n m = cond (eqb (wordAt s a) 0) (a + 11 + 2 * n + countAt s (a + 6) 168 + m) (a + 1)
 
 -- the lengths of the case that starts at word a, cut where the buffers of a week end
 unfoldable pub lentAt : List ℕ → ℕ → Lengths
-lentAt s a = record { n = countAt s (a + 3) 168; trend = countAt s (a + 4) 168; cycle = countAt s (a + 5) 168; knots = countAt s (a + 6) 168; work = countAt s (a + 7) 6720; marks = countAt s (a + 8) 336 }
+lentAt s a = record { n = countAt s (a + 3) 168; trend = countAt s (a + 4) 168; cycle = countAt s (a + 5) 168; knots = countAt s (a + 6) 168; dual = countAt s (a + 7) 168; work = countAt s (a + 8) 6720; marks = countAt s (a + 9) 336 }
 
 -- lengths that those buffers have
 pub record Within (l : Lengths) : Type 0 where
@@ -51,5 +51,6 @@ pub record Within (l : Lengths) : Type 0 where
   pub trend-in : l .trend ≤ 168
   pub cycle-in : l .cycle ≤ 168
   pub knots-in : l .knots ≤ 168
+  pub dual-in : l .dual ≤ 168
   pub work-in : l .work ≤ 6720
   pub marks-in : l .marks ≤ 336

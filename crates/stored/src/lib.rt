@@ -90,26 +90,34 @@ pub fn same_knots(x: &[u32], s: &[u8; 131072], a: usize) -> bool
     all
 }
 
-// Whether the places of a fit are the words from a on: its trend, its cycle, its knots.
-pub fn same_places(trend: &[f64], cycle: &[f64], knots: &[u32], s: &[u8; 131072], a: usize) -> bool
-    requires { ⌜ (length (now trend) ≤ 168) × (length (now cycle) ≤ 168) × (length (now knots) ≤ 168) ⌝ }
+// Whether the places of a fit are the words from a on: its trend, its cycle, its knots, its dual point.
+pub fn same_places(
+    trend: &[f64],
+    cycle: &[f64],
+    knots: &[u32],
+    dual: &[f64],
+    s: &[u8; 131072],
+    a: usize,
+) -> bool
+    requires { ⌜ (length (now trend) ≤ 168) × (length (now cycle) ≤ 168) × (length (now knots) ≤ 168) × (length (now dual) ≤ 168) ⌝ }
     requires { ⌜ a < 32768 ⌝ }
-    ensures { λ r. ⌜ r ≡ samePlaces (now (trend .entry)) (now (cycle .entry)) (now (knots .entry)) (now (s .entry)) a ⌝ }
+    ensures { λ r. ⌜ r ≡ samePlaces (now (trend .entry)) (now (cycle .entry)) (now (knots .entry)) (now (dual .entry)) (now (s .entry)) a ⌝ }
 {
     let n = trend.len();
     let t = same_doubles(trend, s, a);
     let c = same_doubles(cycle, s, a + n);
     let k = same_knots(knots, s, a + 2 * n);
-    both(t, both(c, k))
+    let d = same_doubles(dual, s, a + 2 * n + knots.len());
+    both(t, both(c, both(k, d)))
 }
 
-// The word past the answer that is stored from word a on, of a series of n.
-pub fn past(s: &[u8; 131072], a: usize, n: usize) -> usize
-    requires { ⌜ (n ≤ 168) × (a < 32768) ⌝ }
-    ensures { λ r. ⌜ (r ≡ pastAt (now (s .entry)) a n) × (r ≤ 40000) ⌝ }
+// The word past the answer that is stored from word a on, of a series of n with m differences.
+pub fn past(s: &[u8; 131072], a: usize, n: usize, m: usize) -> usize
+    requires { ⌜ (n ≤ 168) × (m ≤ 168) × (a < 32768) ⌝ }
+    ensures { λ r. ⌜ (r ≡ pastAt (now (s .entry)) a n m) × (r ≤ 40000) ⌝ }
 {
     if word(s, a) == 0 {
-        a + 11 + 2 * n + count_at(s, a + 6, 168)
+        a + 11 + 2 * n + count_at(s, a + 6, 168) + m
     } else {
         a + 1
     }
@@ -121,6 +129,7 @@ pub struct Lengths {
     pub trend: usize,
     pub cycle: usize,
     pub knots: usize,
+    pub dual: usize,
     pub work: usize,
     pub marks: usize,
 }
@@ -135,7 +144,8 @@ pub fn lent_at(s: &[u8; 131072], a: usize) -> Lengths
         trend: count_at(s, a + 4, 168),
         cycle: count_at(s, a + 5, 168),
         knots: count_at(s, a + 6, 168),
-        work: count_at(s, a + 7, 6720),
-        marks: count_at(s, a + 8, 336),
+        dual: count_at(s, a + 7, 168),
+        work: count_at(s, a + 8, 6720),
+        marks: count_at(s, a + 9, 336),
     }
 }

@@ -9,9 +9,9 @@ use lib.ListN.{length}
 use lib.Ieee.{Float}
 use Rattle.float64.proofs.Clash.{clash}
 use Rattle.vectors.proofs.Laws.{kept-none, kept-then}
-use Rattle.decomposition.specs.Outputs.{Outputs}
 use Rattle.questions.specs.Questions.{Asked, Lent, workPlaces, marksPlaces, question}
 use Rattle.questions.proofs.Laws.{passed}
+use Rattle.fit.specs.Outputs.{Outputs}
 use Rattle.fit.specs.Fit.{Found, Outcome, refused, lamMaxOf, path, written, outcome, fit, after}
 use Rattle.fit.specs.Ways.{soundDD}
 use Rattle.fit.proofs.Lengths.{lengths}
@@ -63,7 +63,7 @@ same-told a none = refl
 same-told a (some f) = refl
 
 module _ (a : Asked) (b : Buffers) (w : List Float) where
-  -- a refusal: trend, cycle and knots are as found
+  -- a refusal: trend, cycle, knots and dual are as found
   pub answered-refused : (q : ℕ) → Stops a (lent b) (b .work) w q → Answered a (Refused q) b (record { out = b .out; work = w; marks = b .marks })
   unfolding answerOf after early
   answered-refused q s = record {
@@ -84,6 +84,7 @@ module _ (a : Asked) (b : Buffers) (w : List Float) where
           path = record {
             search = record {
               l1 = record { room = record { series = q .series; work = omega arith }; cycle = q .cycle; star = h .star; differences = h .differences };
+              dual = omega (arith, q .dual);
               marked = q .marks;
             };
             top-is = h .top-is;

@@ -1,18 +1,18 @@
 -- Two calls alike but for max_iter and for the buffers agree, and what a reason tells of other limits. Assumes nothing.
 use mathlib.Core.Path.{_≡_, refl, sym, ap, subst, _∙_}
 use mathlib.Core.List.{List}
-use Prim.Native.Nat.{ℕ, _+_, _<_}
+use Prim.Native.Nat.{ℕ, _<_}
 use native.Mathlib.Omega.{arith}
-use lib.ListN.{length, take, drop}
-use lib.Seq.{take-at}
+use lib.ListN.{length, take}
 use Rattle.float64.proofs.Clash.{impossible}
 use Rattle.vectors.specs.Vec.{put}
-use Rattle.decomposition.specs.Outputs.{Outputs}
+use Rattle.vectors.proofs.Texts.{take-put}
 use Rattle.search.specs.declared.Reason.{Reason}
 use Rattle.search.specs.declared.Reason.the-variants.{LimitSpent}
 use Rattle.search.specs.Reasons.{atLimit}
 use Rattle.questions.specs.Questions.{Asked, Lent, room, question}
-use Rattle.fit.specs.Fit.{FitResult, Outcome, refused, fitted, Lengths, fit, after}
+use Rattle.fit.specs.Outputs.{Outputs}
+use Rattle.fit.specs.Fit.{places, FitResult, Outcome, refused, fitted, Lengths, fit, after}
 use Rattle.fit.specs.Reasons.{withReason}
 use Rattle.fit.specs.Demand3.{withMaxIter}
 use Rattle.fit.proofs.Demand3 as demand
@@ -52,16 +52,17 @@ reason-told : (f : FitResult) (x : Summary) → summaryOf f ≡ x → f .numbers
 unfolding summaryOf
 reason-told f x t = ap (λ (s : Summary). s .reason) t
 
--- the first places of what a fit wrote are the fit's
-first-places : {A : Type 0} (s t : List A) (n : ℕ) → length t ≡ n → take n (put s 0 t) ≡ t
-first-places s t n e = take-at t (drop (0 + length t) s) n e
+-- the first places of what a fit wrote are the fit's, so they are the same in two buffers
+same-first : {A : Type 0} (s s′ t : List A) {u v : List A} (n : ℕ) → length t ≡ n → u ≡ put s 0 t → v ≡ put s′ 0 t → take n v ≡ take n u
+same-first s s′ t n e p q = ap (take n) q ∙ take-put s′ t n e ∙ sym (ap (take n) p ∙ take-put s t n e)
 
-same-places : (a : Asked) (f : FitResult) (b d c e : Outputs) → Lengths a f → c ≡ after (fitted f) b → e ≡ after (fitted f) d → SamePlaces (length (a .y)) (length (f .knots)) c e
+same-places : (a : Asked) (f : FitResult) (b d c e : Outputs) → Lengths a f → c ≡ after (fitted f) b → e ≡ after (fitted f) d → SamePlaces (length (a .y)) (length (f .knots)) (places a) c e
 unfolding after
 same-places a f b d c e l p q = record {
-  trend = ap (λ (o : Outputs). take (length (a .y)) (o .trend)) q ∙ first-places (d .trend) (f .trend) _ (l .trend) ∙ sym (ap (λ (o : Outputs). take (length (a .y)) (o .trend)) p ∙ first-places (b .trend) (f .trend) _ (l .trend));
-  cycle = ap (λ (o : Outputs). take (length (a .y)) (o .cycle)) q ∙ first-places (d .cycle) (f .cycle) _ (l .cycle) ∙ sym (ap (λ (o : Outputs). take (length (a .y)) (o .cycle)) p ∙ first-places (b .cycle) (f .cycle) _ (l .cycle));
-  knots = ap (λ (o : Outputs). take (length (f .knots)) (o .knots)) q ∙ first-places (d .knots) (f .knots) _ refl ∙ sym (ap (λ (o : Outputs). take (length (f .knots)) (o .knots)) p ∙ first-places (b .knots) (f .knots) _ refl);
+  trend = same-first (b .trend) (d .trend) (f .trend) (length (a .y)) (l .trend) (ap (λ (o : Outputs). o .trend) p) (ap (λ (o : Outputs). o .trend) q);
+  cycle = same-first (b .cycle) (d .cycle) (f .cycle) (length (a .y)) (l .cycle) (ap (λ (o : Outputs). o .cycle) p) (ap (λ (o : Outputs). o .cycle) q);
+  knots = same-first (b .knots) (d .knots) (f .knots) (length (f .knots)) refl (ap (λ (o : Outputs). o .knots) p) (ap (λ (o : Outputs). o .knots) q);
+  dual = same-first (b .dual) (d .dual) (f .dual) (places a) (l .dual) (ap (λ (o : Outputs). o .dual) p) (ap (λ (o : Outputs). o .dual) q);
 }
 
 -- another reason: of the answer, and of what is written
@@ -85,7 +86,7 @@ module _ (a : Asked) (other : ℕ) (r s : Answer) (b c d e : Buffers) (h : TwoCa
   same o q = same-lent (withMaxIter other a) (lent d) (lent b) (h .same-room) ∙ q
 
   -- the places of two calls that write one fit
-  placed : (f : FitResult) (o : Outcome) → fit a (lent b) ≡ fitted f → fit (withMaxIter other a) (lent d) ≡ o → ((v : Outputs) → after o v ≡ after (fitted f) v) → SamePlaces (length (a .y)) (length (f .knots)) (c .out) (e .out)
+  placed : (f : FitResult) (o : Outcome) → fit a (lent b) ≡ fitted f → fit (withMaxIter other a) (lent d) ≡ o → ((v : Outputs) → after o v ≡ after (fitted f) v) → SamePlaces (length (a .y)) (length (f .knots)) (places a) (c .out) (e .out)
   placed f o p q w =
       same-places a f (b .out) (d .out) (c .out) (e .out) (h .first .sizes f p)
       (h .first .gives .out ∙ ap (λ (x : Outcome). after x (b .out)) p) (h .second .gives .out ∙ ap (λ (x : Outcome). after x (d .out)) q ∙ w (d .out))
@@ -96,7 +97,7 @@ module _ (a : Asked) (other : ℕ) (r s : Answer) (b c d e : Buffers) (h : TwoCa
     answers = h .second .gives .answer ∙ ap answerOf (same (fit a (lent b)) q) ∙ sym (h .first .gives .answer);
     places = λ x t.
         let g = fits x t in
-        subst (λ (k : ℕ). SamePlaces (length (a .y)) k (c .out) (e .out)) (knots-told (g .result) x (g .told))
+        subst (λ (k : ℕ). SamePlaces (length (a .y)) k (places a) (c .out) (e .out)) (knots-told (g .result) x (g .told))
         (placed (g .result) (fitted (g .result)) (g .is) (same (fit a (lent b)) q ∙ g .is) (λ v. refl));
   }
 
@@ -107,7 +108,7 @@ module _ (a : Asked) (other : ℕ) (r s : Answer) (b c d e : Buffers) (h : TwoCa
       record {
         answers = h .second .gives .answer ∙ ap answerOf o ∙ told-with q (g .result) ∙ ap (λ (z : Summary). Fit (reasoned q z)) (g .told);
         places = λ z t.
-            subst (λ (k : ℕ). SamePlaces (length (a .y)) k (c .out) (e .out)) (knots-told (g .result) x (g .told) ∙ fit-knots t)
+            subst (λ (k : ℕ). SamePlaces (length (a .y)) k (places a) (c .out) (e .out)) (knots-told (g .result) x (g .told) ∙ fit-knots t)
             (placed (g .result) (fitted (withReason q (g .result))) (g .is) o (after-with q (g .result)));
       }
 

@@ -7,29 +7,29 @@ use lib.Dec.{ltb}
 use lib.ListN.{length}
 use lib.Ieee.{Float, nan}
 use Rattle.vectors.specs.Vec.{KeptOf}
-use Rattle.decomposition.specs.Outputs.{Outputs, outputs}
 use Rattle.questions.specs.Questions.{Asked, Lent, workPlaces, marksPlaces}
 use Rattle.questions.specs.Asking.{lending}
 use Rattle.fit.specs.declared.Numbers.{Numbers}
+use Rattle.fit.specs.Outputs.{Outputs, outputs}
 use Rattle.fit.specs.Fit.{FitResult, Outcome, refused, fitted, fit, Lengths, after}
 use Rattle.fit.specs.Demand3.{Bounds}
 use Rattle.trend_filter.specs.declared.Summary.{Summary}
 use Rattle.trend_filter.specs.declared.Answer.{Answer}
 use Rattle.trend_filter.specs.declared.Answer.the-variants.{Fit, Refused}
 
--- what the buffers lent to a call hold: trend, cycle and knots, and work and marks, which are scratch
+-- what the buffers lent to a call hold: trend, cycle, knots and dual, and work and marks, which are scratch
 pub record Buffers : Type 0 where
   pub out : Outputs
   pub work : List Float
   pub marks : List ℕ
 
 -- from a function's arguments
-abbrev pub buffers : List Float → List Float → List ℕ → List Float → List ℕ → Buffers
-buffers trend cycle knots work marks = record { out = outputs trend cycle knots; work = work; marks = marks }
+abbrev pub buffers : List Float → List Float → List ℕ → List Float → List Float → List ℕ → Buffers
+buffers trend cycle knots dual work marks = record { out = outputs trend cycle knots dual; work = work; marks = marks }
 
 -- their lengths
 abbrev pub lent : Buffers → Lent
-lent b = lending (length (b .out .trend)) (length (b .out .cycle)) (length (b .out .knots)) (length (b .work)) (length (b .marks))
+lent b = lending (length (b .out .trend)) (length (b .out .cycle)) (length (b .out .knots)) (length (b .out .dual)) (length (b .work)) (length (b .marks))
 
 -- the numbers as a caller is told them, with how many knots there are and lam_max
 abbrev pub summed : Numbers → ℕ → Float → Summary
@@ -49,7 +49,7 @@ unfoldable pub early : Outcome → Bool
 early (refused q) = ltb q 10
 early (fitted f) = false
 
--- the answer r to an outcome o, with b before and c after in trend, cycle and knots
+-- the answer r to an outcome o, with b before and c after in trend, cycle, knots and dual
 pub record Gives (o : Outcome) (r : Answer) (b c : Outputs) : Type 0 where
   pub answer : r ≡ answerOf o
   pub out : c ≡ after o b

@@ -2,9 +2,10 @@
 use mathlib.Core.Path.{_≡_}
 use Prim.Native.Nat.{ℕ, _≤_, _<_}
 use lib.ListN.{length, take}
-use Rattle.decomposition.specs.Outputs.{Outputs}
+use Rattle.fit.specs.Outputs.{Outputs}
 use Rattle.search.specs.Reasons.{atLimit}
 use Rattle.questions.specs.Questions.{Asked, room}
+use Rattle.fit.specs.Fit.{places}
 use Rattle.fit.specs.Demand3.{withMaxIter}
 use Rattle.trend_filter.specs.declared.Summary.{Summary}
 use Rattle.trend_filter.specs.declared.Answer.{Answer}
@@ -19,16 +20,17 @@ pub record TwoCalls (a : Asked) (other : ℕ) (r s : Answer) (b c d e : Buffers)
   pub second : Answered (withMaxIter other a) s d e
   pub same-room : room (length (a .y)) (lent d) ≡ room (length (a .y)) (lent b)
 
--- the first places are equal: n of trend and of cycle, count of knots
-pub record SamePlaces (n count : ℕ) (c e : Outputs) : Type 0 where
+-- the first places are equal: n of trend and of cycle, count of knots, m of dual
+pub record SamePlaces (n count m : ℕ) (c e : Outputs) : Type 0 where
   pub trend : take n (e .trend) ≡ take n (c .trend)
   pub cycle : take n (e .cycle) ≡ take n (c .cycle)
   pub knots : take count (e .knots) ≡ take count (c .knots)
+  pub dual : take m (e .dual) ≡ take m (c .dual)
 
--- equal answers, and after a fit equal places of trend and cycle and equal knots
+-- equal answers, and after a fit equal places of trend, cycle and dual and equal knots
 pub record Agree (a : Asked) (r s : Answer) (c e : Buffers) : Type 0 where
   pub answers : s ≡ r
-  pub places : (x : Summary) → r ≡ Fit x → SamePlaces (length (a .y)) (x .knots) (c .out) (e .out)
+  pub places : (x : Summary) → r ≡ Fit x → SamePlaces (length (a .y)) (x .knots) (places a) (c .out) (e .out)
 
 -- when two calls agree
 pub record Agreement (a : Asked) (other : ℕ) (r s : Answer) (c e : Buffers) : Type 0 where

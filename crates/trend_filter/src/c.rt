@@ -42,14 +42,15 @@ pub extern "C" fn trend_filter_fit(
     trend: &mut [f64],
     cycle: &mut [f64],
     knots: &mut [u32],
+    dual: &mut [f64],
     work: &mut [f64],
     marks: &mut [u32],
     numbers: &mut [f64; 5],
     counts: &mut [u64; 5],
 ) -> u32
     ensures { λ r. ⌜ Called (asking (now (y .entry)) lam tol «max_iter» order penalty) r
-        (buffers (now (trend .entry)) (now (cycle .entry)) (now (knots .entry)) (now (work .entry)) (now (marks .entry)))
-        (buffers (now (trend .exit)) (now (cycle .exit)) (now (knots .exit)) (now (work .exit)) (now (marks .exit)))
+        (buffers (now (trend .entry)) (now (cycle .entry)) (now (knots .entry)) (now (dual .entry)) (now (work .entry)) (now (marks .entry)))
+        (buffers (now (trend .exit)) (now (cycle .exit)) (now (knots .exit)) (now (dual .exit)) (now (work .exit)) (now (marks .exit)))
         (now (numbers .entry)) (now (numbers .exit)) (now (counts .entry)) (now (counts .exit)) ⌝ }
 {
     let o = TrendFilterOptions {
@@ -58,6 +59,6 @@ pub extern "C" fn trend_filter_fit(
         tol: tol,
         max_iter: max_iter,
     };
-    let a = crate::l1_trend_filter(y, lam, o, trend, cycle, knots, work, marks);
+    let a = crate::l1_trend_filter(y, lam, o, trend, cycle, knots, dual, work, marks);
     tell(numbers, counts, a)
 }

@@ -61,7 +61,7 @@ fn told(w: Written, lam_max: f64) -> Answer
     }
 }
 
-// The trend, the cycle and the knots of y, and the numbers of the fit; or a refusal's number. work and marks are scratch.
+// The trend, the cycle, the knots and the dual point of y, and the numbers of the fit; or a refusal's number. work and marks are scratch.
 pub fn l1_trend_filter(
     y: &[f64],
     lam: f64,
@@ -69,12 +69,13 @@ pub fn l1_trend_filter(
     trend: &mut [f64],
     cycle: &mut [f64],
     knots: &mut [u32],
+    dual: &mut [f64],
     work: &mut [f64],
     marks: &mut [u32],
 ) -> Answer
     ensures { λ r. ⌜ Answered (asking (now (y .entry)) lam (opts .tol) (opts .«max_iter») (opts .order) (opts .penalty)) r
-        (buffers (now (trend .entry)) (now (cycle .entry)) (now (knots .entry)) (now (work .entry)) (now (marks .entry)))
-        (buffers (now (trend .exit)) (now (cycle .exit)) (now (knots .exit)) (now (work .exit)) (now (marks .exit))) ⌝ }
+        (buffers (now (trend .entry)) (now (cycle .entry)) (now (knots .entry)) (now (dual .entry)) (now (work .entry)) (now (marks .entry)))
+        (buffers (now (trend .exit)) (now (cycle .exit)) (now (knots .exit)) (now (dual .exit)) (now (work .exit)) (now (marks .exit))) ⌝ }
 {
     let b = prepared_fit::begin(
         work,
@@ -87,6 +88,7 @@ pub fn l1_trend_filter(
         trend.len(),
         cycle.len(),
         knots.len(),
+        dual.len(),
         marks.len(),
     );
     match b {
@@ -96,6 +98,7 @@ pub fn l1_trend_filter(
                 trend,
                 cycle,
                 knots,
+                dual,
                 work,
                 marks,
                 y,

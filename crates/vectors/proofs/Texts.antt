@@ -9,9 +9,13 @@ use lib.ListN.{length, getD, take, drop, set, length-append, length-drop, length
 use lib.Seq.{take-suc, take-all, set-split, set-append-left, set-out, append-snoc, length-take-le, take-at, drop-at, drop-drop}
 use lib.Dec.{ltb}
 use borrow.Author.Tests.{ltb-true, ltb-false}
-use native.Mathlib.Nat.{add-zero, add-assoc}
+use native.Mathlib.Nat.{zero-add, add-zero, add-assoc}
 use mathlib.Core.List.{append-nil}
-use Rattle.vectors.specs.Parts.{Wrote}
+use lib.Ieee.{Float, nan}
+use Rattle.vectors.specs.Vec.{at, put}
+use Rattle.vectors.specs.Parts.{Kept, part, Wrote}
+use Rattle.vectors.proofs.Laws.{written-put}
+use Rattle.vectors.proofs.Parts.{length-part, at-part, first-part, kept-drop}
 
 module _ {A : Type 0} where
   pub wrote-none : (d : List A) (at : ℕ) → at ≤ length d → Wrote d at [] d at
@@ -88,3 +92,20 @@ wrote-set {A} {d} {t} {e} {n} p x w = go (ltb p n) refl
       text = ap (λ (v : List A). set v p x) (w .text) ∙ set-append-left t (drop (0 + length t) d) p x (omega (arith, ltb-true p n h, w .next)) ∙ ap (λ (k : ℕ). set t p x ++ drop (0 + k) d) (sym l);
     }
     go false h = rw (set-out t p x (omega (arith, ltb-false p n h, w .next))) w
+
+-- ---- t put at the start of v₀: what the first n places hold, and what stayed; and back
+
+pub take-put : {A : Type 0} (v₀ t : List A) (n : ℕ) → length t ≡ n → take n (put v₀ 0 t) ≡ t
+take-put v₀ t n e = take-at t (drop (0 + length t) v₀) n e
+
+pub put-start : (n : ℕ) (v₀ t v : List Float) → v ≡ put v₀ 0 t → length t ≡ n → n ≤ length v₀ → (part 0 n v ≡ t) × Kept 0 n v₀ v
+put-start n v₀ t v e size fits =
+    let w : Wrote v₀ 0 t v n = record { next = omega arith; room = fits; text = e } in
+    let l = wrote-length w in
+    (sym (first-part n v (omega arith)) ∙ wrote-take w .0, kept-drop nan n v₀ v l (wrote-take w .1))
+
+pub start-put : (n : ℕ) (v₀ t v : List Float) → part 0 n v ≡ t → Kept 0 n v₀ v → n ≤ length v₀ → v ≡ put v₀ 0 t
+start-put n v₀ t v e k fits =
+    written-put t
+    (record { size = k .size; inside = λ j _ h. sym (at-part 0 n v j j h (zero-add j)) ∙ ap (λ (u : List Float). at u j) e; below = λ j h. absurd (omega arith); above = λ j h. k .above j (omega arith) })
+    (sym (ap length e) ∙ length-part 0 n v) fits (λ i h. refl)

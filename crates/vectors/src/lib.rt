@@ -6,7 +6,7 @@ ghost use lib.ListN.{length};
 ghost use lib.Ieee.{lt};
 ghost use Rattle.float64.specs.Helpers.{absOf};
 ghost use Rattle.vectors.specs.Vec.{put, apart};
-ghost use Rattle.vectors.specs.Parts.{Kept, part, Disjoint};
+ghost use Rattle.vectors.specs.Parts.{Kept, part, Written, Disjoint};
 ghost use Rattle.vectors.specs.Sums.{maxAbs, inside};
 
 // The greatest size, from 0; NaN is ignored.
@@ -44,6 +44,18 @@ pub fn inside(v: &[f64], lam: f64) -> bool
         i += 1;
     }
     all
+}
+
+// The places from a up to e become v.
+pub fn fill(s: &mut [f64], a: usize, e: usize, v: f64)
+    requires { ⌜ (a ≤ e) × (e ≤ length (now s)) ⌝ }
+    ensures { λ _. ⌜ Written a e (λ j. v) (now (s .entry)) (now (s .exit)) ⌝ }
+{
+    let mut i = a;
+    while i < e {
+        s[i] = v;
+        i += 1;
+    }
 }
 
 // The first places of t become those of x.

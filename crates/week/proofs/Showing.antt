@@ -6,7 +6,7 @@ use native.Mathlib.Omega.{arith}
 use mathlib.Core.List.{List, [], _∷_}
 use mathlib.Core.Option.{Option, none, some}
 use lib.ListN.{length, getD, take, drop, length-append, List·getD-append}
-use lib.Seq.{take-all, take-at, length-take-le}
+use lib.Seq.{take-all, length-take-le}
 use lib.Dec.{leb, ltb, eqb}
 use lib.Ieee.{Float}
 use borrow.Author.Tests.{leb-true}
@@ -14,7 +14,7 @@ use Rattle.float64.proofs.Clash.{impossible}
 use Rattle.io.specs.Counts.{Counts}
 use Rattle.vectors.specs.Vec.{put}
 use Rattle.vectors.specs.Parts.{Wrote}
-use Rattle.vectors.proofs.Texts.{wrote-length}
+use Rattle.vectors.proofs.Texts.{wrote-length, take-put}
 use Rattle.records.specs.Entries.{Slot, Entry, slot, frames, settings, correction, countSettings, hoursOf}
 use Rattle.records.specs.Corrections.{weekOf, named}
 use Rattle.records.specs.Rates.{rated}
@@ -28,9 +28,9 @@ use Rattle.series.specs.declared.Week.the-variants as week
 use Rattle.lines.specs.Lines.{refusedLine}
 use Rattle.listing.specs.Shown.{Below, shownLine, shownListing}
 use Rattle.questions.specs.Questions.{Asked, Lent}
+use Rattle.fit.specs.Outputs.{Outputs, outputs}
 use Rattle.fit.specs.Fit.{Outcome, refused, fitted, fit, after}
 use Rattle.fit.proofs.Lengths.{lengths, knot-places}
-use Rattle.decomposition.specs.Outputs.{Outputs, outputs}
 use Rattle.trend_filter.specs.Answers.{summaryOf, answerOf, Gives}
 use Rattle.trend_filter.specs.declared.Summary.{Summary}
 use Rattle.trend_filter.specs.declared.Answer.{Answer}
@@ -75,10 +75,6 @@ was-refused : (a : read.Reading) {k : ℕ} → week.Refused k ≡ answer a → a
 was-refused (read.unread j) e = ap read.unread (sym (let f : _ ≡ j = cc in f))
 was-refused (read.read st ws) e = impossible cc
 
--- only the first places of a buffer are shown: what lies past them does not matter
-front : {A : Type 0} (t s : List A) (n : ℕ) → length t ≡ n → take n (put s 0 t) ≡ t
-front t s n e = take-at t (drop (0 + length t) s) n e
-
 -- t stands in the first n places of z
 pub record Front {A : Type 0} (n : ℕ) (z t : List A) : Type 0 where
   pub is : take n z ≡ t
@@ -86,7 +82,7 @@ pub record Front {A : Type 0} (n : ℕ) (z t : List A) : Type 0 where
 
 fronted : {A : Type 0} {n : ℕ} {z : List A} (y t : List A) → z ≡ put y 0 t → n ≡ length t → Front n z t
 fronted {A} {n} {z} y t p e = record {
-  is = ap (take n) p ∙ front t y n (sym e);
+  is = ap (take n) p ∙ take-put y t n (sym e);
   room = omega (arith, ap length p, length-append t (drop (0 + length t) y));
 }
 
@@ -134,34 +130,35 @@ pub record Listed (st : Settings) (y : List Float) (ps : List ℕ) (s : Summary)
   pub few : s .knots ≤ length y
   pub below : Below k (s .knots) (length ps)
 
-was-fit : (st : Settings) (y : List Float) (ps : List ℕ) (o : Outcome) (before : Outputs) {r : Answer} {s : Summary} {t c : List Float} {k : List ℕ}
-    → length ps ≡ length y → fit (askedBy st y) weekLent ≡ o → r ≡ fits.Fit s → Gives o r before (outputs t c k) → Listed st y ps s t c k
+was-fit : (st : Settings) (y : List Float) (ps : List ℕ) (o : Outcome) (before : Outputs) {r : Answer} {s : Summary} {t c d : List Float} {k : List ℕ}
+    → length ps ≡ length y → fit (askedBy st y) weekLent ≡ o → r ≡ fits.Fit s → Gives o r before (outputs t c k d) → Listed st y ps s t c k
 unfolding fitText outcomeText listingOf shownLine shownListing summaryOf answerOf after
 was-fit st y ps (refused i) before {r} {s} n g e h =
     let p : fits.Fit s ≡ answerOf (refused i) = sym e ∙ h .answer in
     impossible cc
-was-fit st y ps (fitted f) before {r} {s} {t} {c} {k} n g e h =
+was-fit st y ps (fitted f) before {r} {s} {t} {c} {d} {k} n g e h =
     let p : fits.Fit s ≡ answerOf (fitted f) = sym e ∙ h .answer in
     let es : summaryOf f ≡ s = cc in
     let l = lengths (askedBy st y) weekLent f g in
     let trend-is = ap (λ (o : Outputs). o .trend) (h .out) in
     let cycle-is = ap (λ (o : Outputs). o .cycle) (h .out) in
     let knots-is = ap (λ (o : Outputs). o .knots) (h .out) in
-    let knot-at : (i : ℕ) → i < length (f .knots) → getD k i 0 ≡ getD (f .knots) i 0 = λ i d. ap (λ (v : List ℕ). getD v i 0) knots-is ∙ List·getD-append (f .knots) (drop (0 + length (f .knots)) (before .knots)) 0 i d in
+    let knot-at : (i : ℕ) → i < length (f .knots) → getD k i 0 ≡ getD (f .knots) i 0 = λ i j. ap (λ (v : List ℕ). getD v i 0) knots-is ∙ List·getD-append (f .knots) (drop (0 + length (f .knots)) (before .knots)) 0 i j in
     let r = knot-places (askedBy st y) weekLent f g in
     subst (λ (x : Summary). Listed st y ps x t c k) es (record {
-      text = ap (outcomeText (askedBy st y) ps) g ∙ rw (take-all (length y) ps (omega arith), trend-is, cycle-is, knots-is, front (f .trend) (before .trend) (length y) (l .trend), front (f .cycle) (before .cycle) (length y) (l .cycle), front (f .knots) (before .knots) (length (f .knots)) refl);
+      text = ap (outcomeText (askedBy st y) ps) g ∙ rw (take-all (length y) ps (omega arith), trend-is, cycle-is, knots-is, take-put (before .trend) (f .trend) (length y) (l .trend), take-put (before .cycle) (f .cycle) (length y) (l .cycle), take-put (before .knots) (f .knots) (length (f .knots)) refl);
       few = omega (arith, l .knots);
-      below = λ i d. omega (arith, knot-at i d, r .below i d);
+      below = λ i j. omega (arith, knot-at i j, r .below i j);
     })
 
 -- a call of the fit with what the program lends: its answer, and the places that it left
 pub record Fitted (st : Settings) (y : List Float) (r : Answer) (t c : List Float) (k : List ℕ) : Type 0 where
   before : Outputs
-  gives : Gives (fit (askedBy st y) weekLent) r before (outputs t c k)
+  dual : List Float
+  gives : Gives (fit (askedBy st y) weekLent) r before (outputs t c k dual)
 
-pub fits-lent : (st : Settings) (y : List Float) (l : Lent) {r : Answer} {b : Outputs} {t c : List Float} {k : List ℕ} → Gives (fit (askedBy st y) l) r b (outputs t c k) → weekLent ≡ l → Fitted st y r t c k
-fits-lent st y l {r} {b} {t} {c} {k} h g = record { before = b; gives = subst (λ (x : Lent). Gives (fit (askedBy st y) x) r b (outputs t c k)) (sym g) h }
+pub fits-lent : (st : Settings) (y : List Float) (l : Lent) {r : Answer} {b : Outputs} {t c d : List Float} {k : List ℕ} → Gives (fit (askedBy st y) l) r b (outputs t c k d) → weekLent ≡ l → Fitted st y r t c k
+fits-lent st y l {r} {b} {t} {c} {d} {k} h g = record { before = b; dual = d; gives = subst (λ (x : Lent). Gives (fit (askedBy st y) x) r b (outputs t c k d)) (sym g) h }
 
 module _ {st : Settings} {y : List Float} {r : Answer} {t c : List Float} {k : List ℕ} (f : Fitted st y r t c k) where
   pub fit-listed : {s : Summary} (ps : List ℕ) → length ps ≡ length y → r ≡ fits.Fit s → Listed st y ps s t c k
@@ -171,5 +168,5 @@ module _ {st : Settings} {y : List Float} {r : Answer} {t c : List Float} {k : L
   unfolding fitText
   fit-refused ps e = was-no-fit (askedBy st y) ps (fit (askedBy st y) weekLent) (sym e ∙ f .gives .answer)
 
-pub lent-is : {t c k w m : ℕ} → 168 ≡ t → 168 ≡ c → 168 ≡ k → 6720 ≡ w → 336 ≡ m → weekLent ≡ record { trend = t; cycle = c; knots = k; work = w; marks = m }
-lent-is et ec ek ew em = rw (sym et, sym ec, sym ek, sym ew, sym em)
+pub lent-is : {t c k d w m : ℕ} → 168 ≡ t → 168 ≡ c → 168 ≡ k → 168 ≡ d → 6720 ≡ w → 336 ≡ m → weekLent ≡ record { trend = t; cycle = c; knots = k; dual = d; work = w; marks = m }
+lent-is et ec ek ed ew em = rw (sym et, sym ec, sym ek, sym ed, sym ew, sym em)

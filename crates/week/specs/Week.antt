@@ -21,7 +21,7 @@ askedBy st y = record { y = y; lam = st .lam; tol = st .tol; max-iter = st .«ma
 
 -- the lengths lent to it: enough for 168 hours, so that questions 8 and 9 are always answered yes
 abbrev pub weekLent : Lent
-weekLent = record { trend = 168; cycle = 168; knots = 168; work = 6720; marks = 336 }
+weekLent = record { trend = 168; cycle = 168; knots = 168; dual = 168; work = 6720; marks = 336 }
 
 -- the listing of a fit whose hours have the numbers hs and whose knots have ks: n, order, penalty, n_iter, improvements, converged (0 or 1), reason (0 to 4); lam_max, gap, objective; each hour; each knot
 unfoldable pub listingOf : Asked → FitResult → List ℕ → List ℕ → List ℕ

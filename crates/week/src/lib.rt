@@ -41,6 +41,7 @@ fn fit_week(y: &[f64], positions: &[u32], st: Settings, out: &mut [u8; 16384]) -
     let mut trend = [0.0f64; 168];
     let mut cycle = [0.0f64; 168];
     let mut knots = [0u32; 168];
+    let mut dual = [0.0f64; 168];
     let mut work = [0.0f64; 6720];
     let mut marks = [0u32; 336];
     let opts = TrendFilterOptions {
@@ -56,6 +57,7 @@ fn fit_week(y: &[f64], positions: &[u32], st: Settings, out: &mut [u8; 16384]) -
         &mut trend,
         &mut cycle,
         &mut knots,
+        &mut dual,
         &mut work,
         &mut marks,
     ) {

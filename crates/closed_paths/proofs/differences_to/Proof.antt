@@ -1,13 +1,11 @@
 use borrow.Author.Needs.{needs}
-use mathlib.Core.Path.{_≡_, ap, _∙_}
+use mathlib.Core.Path.{ap, _∙_}
 use Prim.Native.Nat.{_+_, _-_, _*_, _≤_}
 use native.Mathlib.Omega.{arith}
 use lib.ListN.{length}
-use lib.Ieee.{nan}
 use Rattle.vectors.specs.Vec.{put}
-use Rattle.vectors.specs.Parts.{Wrote}
-use Rattle.vectors.proofs.Texts.{wrote-length, wrote-take}
-use Rattle.vectors.proofs.Parts.{range-part, kept-drop}
+use Rattle.vectors.proofs.Texts.{put-start}
+use Rattle.vectors.proofs.Parts.{first-part, range-part}
 use Rattle.differences.specs.Diff.{diffK}
 use Rattle.differences.proofs.Laws.{length-diffK}
 use Rattle.closed_paths.proofs.Areas.{kept-wide}
@@ -27,13 +25,9 @@ returns c = let cp = c .before .before in
     let room = p .room .work in
     let cycle = p .cycle in
     let fits : 4 * n + m ≤ length w = omega arith in
-    let size : length (diffK (a .k) y) ≡ m = length-diffK (a .k) y in
-    let wrote : Wrote c₀ 0 (diffK (a .k) y) _ m = record {
-      next = omega arith;
-      room = omega arith;
-      text = cp .copy .ensures ∙ ap (put c₀ 0) (range-part (4 * n) (4 * n + m) m w (omega arith) fits ∙ p .differences);
-    } in
-    record { known = wrote-take wrote .0; kept = kept-wide 0 n (kept-drop nan m c₀ _ (wrote-length wrote) (wrote-take wrote .1)) (omega arith) (omega arith) }
+    let put-at = cp .copy .ensures ∙ ap (put c₀ 0) (range-part (4 * n) (4 * n + m) m w (omega arith) fits ∙ p .differences) in
+    let h = put-start m c₀ (diffK (a .k) y) _ put-at (length-diffK (a .k) y) (omega arith) in
+    record { known = first-part m _ (omega (arith, h .1 .size)) ∙ h .0; kept = kept-wide 0 n (h .1) (omega arith) (omega arith) }
 
 pub differences-to-spec : {M : Type 1} → statement M
 differences-to-spec =

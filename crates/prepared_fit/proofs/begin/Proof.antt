@@ -24,7 +24,7 @@ abbrev ask : tie.Start → Asked
 ask s = let p = s .args in asking (p .y .now) (p .lam) (p .tol) (p .max-iter) (p .order) (p .penalty)
 
 abbrev lend : tie.Start → Lent
-lend s = let p = s .args in lending (p .trend) (p .cycle) (p .knots) (length (p .work .now)) (p .marks)
+lend s = let p = s .args in lending (p .trend) (p .cycle) (p .knots) (p .dual) (length (p .work .now)) (p .marks)
 
 zero : (e : tie.Else1) → let s = e .before .before .before .before in question (ask s) (lend s) ≡ 0
 zero e = sym (e .before .question .ensures) ∙ e .if1 .left

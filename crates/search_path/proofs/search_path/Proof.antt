@@ -19,10 +19,10 @@ area n = omega arith
 
 -- D y is in cycle
 abbrev begun : tie.After-differences-to → tie.Start
-begun d = d .before .before .before .before .before .before .before
+begun d = d .before .before .before .before .before .before .before .before
 
 search-polish-requires : tie.Need-search-polish-requires
-search-polish-requires c κs = let dt = c .before .before .before .before .before in
+search-polish-requires c κs = let dt = c .before .before .before .before .before .before in
     let st = begun dt in
     let a = st .args in
     let n = length (a .y .now) in
@@ -30,12 +30,12 @@ search-polish-requires c κs = let dt = c .before .before .before .before .befor
     let r = l1 .room in
     let w = a .work .now in
     let l : length (take (18 * n - 5 * n) (drop (5 * n) w)) ≡ 18 * n - 5 * n = part-size (5 * n) (18 * n - 5 * n) w (take (18 * n - 5 * n) (drop (5 * n) w)) (omega (arith, r .work)) refl in
-    record { ready = record { series = r .series; room = omega (arith, l); known = dt .differences-to .ensures .known }; marked = st .pre .marked }
+    record { ready = record { series = r .series; room = omega (arith, l); known = dt .differences-to .ensures .known }; room = st .pre .dual; marked = st .pre .marked }
 
 returns : tie.Need-returns
 unfolding reach
-returns c = let sp = c .before .before .before .before in
-    let dt = sp .before .before .before .before .before .before in
+returns c = let sp = c .before .before .before .before .before .before in
+    let dt = sp .before .before .before .before .before .before .before in
     let st = begun dt in
     let a = st .args in
     let y = a .y .now in
@@ -48,9 +48,9 @@ returns c = let sp = c .before .before .before .before in
     let made = kept-put (preparation n) (searchArea n) w x (r .work) size nan in
     rw (area n) (
       record {
-        says = λ i. search-says (asking y (a .lam) (a .tol) (a .max-iter) (a .k) i) w x (sp .search-polish .result) (r .work) size (e .reached i);
+        says = λ i. search-says (asking y (a .lam) (a .tol) (a .max-iter) (a .k) i) w x _ (sp .search-polish .result) (r .work) size (e .reached i);
         stands = rw (e .reached 1 .place) (omega (arith, r .work, made .size));
-        changed = record { work = made; cycle = dt .differences-to .ensures .kept };
+        changed = record { work = made; cycle = dt .differences-to .ensures .kept; dual = e .dual-kept };
       },
       e .marked,
     )
@@ -60,4 +60,4 @@ search-path-spec =
     tie.close
     (tie.spec (λ c κs. search needs) (λ c. search needs) (λ c. search needs) (λ c. search needs) (λ c. search needs)
     (λ c. search needs) (λ c. search needs) search-polish-requires (λ c. search needs) (λ c. search needs)
-    (λ c. search needs) returns)
+    (λ c. search needs) (λ c. search needs) returns)

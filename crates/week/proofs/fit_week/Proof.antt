@@ -20,12 +20,15 @@ slice-aggregate-l1-trend-filter-4 c = search needs
 slice-aggregate-l1-trend-filter-5 : tie.Need-slice-aggregate-l1-trend-filter-5
 slice-aggregate-l1-trend-filter-5 c = search needs
 
+slice-aggregate-l1-trend-filter-6 : tie.Need-slice-aggregate-l1-trend-filter-6
+slice-aggregate-l1-trend-filter-6 c = search needs
+
 -- the call of the fit, from where its buffers are at hand again
 abbrev called : tie.After-marks2 → tie.After-l1-trend-filter
-called m = let k = m .before .before in k .before .before .before
+called m = let k = m .before .before .before in k .before .before .before
 
 abbrev begun : tie.After-marks → tie.Start
-begun m = let k = m .before .before in k .before .before .before .before .before
+begun m = let k = m .before .before .before in k .before .before .before .before .before
 
 fitted : (m : tie.After-marks2) → let f = called m in let a = begun (f .before) .args in
     Fitted (a .st) (now (a .y)) (f .l1-trend-filter .result) (f .l1-trend-filter .last .1 .1 .1 .0) (f .l1-trend-filter .last .1 .1 .1 .1 .0) (f .l1-trend-filter .last .1 .1 .1 .1 .1 .0)
@@ -33,11 +36,12 @@ fitted m =
     let f = called m in
     let marks = f .before in
     let work = marks .before in
-    let knots = work .before in
+    let dual = work .before in
+    let knots = dual .before in
     let cycle = knots .before in
     let a = begun marks .args in
     fits-lent (a .st) (now (a .y)) _ (f .l1-trend-filter .ensures .gives)
-    (lent-is (slice-aggregate-l1-trend-filter (cycle .before)) (slice-aggregate-l1-trend-filter-2 cycle) (slice-aggregate-l1-trend-filter-3 knots) (slice-aggregate-l1-trend-filter-4 work) (slice-aggregate-l1-trend-filter-5 marks))
+    (lent-is (slice-aggregate-l1-trend-filter (cycle .before)) (slice-aggregate-l1-trend-filter-2 cycle) (slice-aggregate-l1-trend-filter-3 knots) (slice-aggregate-l1-trend-filter-4 dual) (slice-aggregate-l1-trend-filter-5 work) (slice-aggregate-l1-trend-filter-6 marks))
 
 put-listing-requires : tie.Need-put-listing-requires
 put-listing-requires c κs = let h = c .before .before .before .before in
@@ -63,5 +67,5 @@ pub fit-week-spec : {M : Type 1} → statement M
 fit-week-spec =
     tie.close
     (tie.spec slice-aggregate-l1-trend-filter slice-aggregate-l1-trend-filter-2 slice-aggregate-l1-trend-filter-3
-    slice-aggregate-l1-trend-filter-4 slice-aggregate-l1-trend-filter-5 (λ c κs. search needs) (λ c. search needs)
+    slice-aggregate-l1-trend-filter-4 slice-aggregate-l1-trend-filter-5 slice-aggregate-l1-trend-filter-6 (λ c κs. search needs) (λ c. search needs)
     (λ c κs. search needs) (λ c. search needs) (λ c κs. search needs) put-listing-requires returns returns-2)

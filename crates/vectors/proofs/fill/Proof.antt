@@ -2,10 +2,10 @@ use borrow.Author.Needs.{needs}
 use mathlib.Core.Path.{_≡_, refl}
 use Prim.Native.Nat.{_≤_, _-_}
 use native.Mathlib.Omega.{arith}
 use Rattle.vectors.specs.Parts.{Written}
 use Rattle.vectors.proofs.Laws.{none, up}
-use Rattle.interior_point.proofs.fill.Statement.{statement}
-use Rattle.interior_point.proofs.fill.Tie as tie
+use Rattle.vectors.proofs.fill.Statement.{statement}
+use Rattle.vectors.proofs.fill.Tie as tie
 
 abbrev Inv-loop : tie.InvT-loop
 Inv-loop s₀ a e v i₀ s i = (a ≤ i) × (i ≤ e) × Written a i (λ j. v) s₀ s

@@ -8,10 +8,10 @@ use Rattle.float64.specs.Ops.{_⊗_}
 use Rattle.vectors.specs.Vec.{at}
 use Rattle.vectors.specs.Sums.{sumTo, norm2Sq}
 use Rattle.vectors.proofs.Sums.{sum-more}
 use Rattle.differences.specs.Diff.{diffKT}
 use Rattle.differences.proofs.Laws.{length-diffKT}
-use Rattle.l2.proofs.sums.fall_squares.Statement.{statement}
-use Rattle.l2.proofs.sums.fall_squares.Tie as tie
+use Rattle.differences.proofs.fall_squares.Statement.{statement}
+use Rattle.differences.proofs.fall_squares.Tie as tie
 
 abbrev Inv-loop : tie.InvT-loop
 Inv-loop v k n sum₀ j₀ sum j = (j ≤ n) × (sum ≡ sumTo (λ i. at (diffKT k v) i ⊗ at (diffKT k v) i) j)
