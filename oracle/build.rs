@@ -1,6 +1,7 @@
 // Finds the two sides of the comparison:
 // - TREND_FILTER_RS: the path of the unchanged module trend_filter.rs. It is compiled where it stands, and once more as a copy
-//   with counters in its search (first gap, best gap, improvements and the reason it stopped), which the module doesn't return.
+//   with counters in its search (first gap, best gap, improvements and the reason it stopped) and with the dual point of the
+//   certificate that is kept, which the module doesn't return.
 // - TREND_FILTER_LIB: the path of the proved static library, ../target/staticlib/libtrend_filter.a unless given.
 use std::path::PathBuf;
 use std::{env, fs};
@@ -25,13 +26,34 @@ fn counted(text: &str) -> String {
         "stalled >= STALL_ITERS {\n            seen.reason = if gap <= tol * pobj { 1 } else if n_iter >= max_iter { 2 } else { 3 };\n            break;",
     );
     let t = replace_once(&t, "None => break,", "None => {\n                seen.reason = 4;\n                break;\n            }");
-    let t = replace_once(&t, "    (z, mu1, mu2, n_iter)\n}", "    SEEN.with(|s| s.set(seen));\n    (z, mu1, mu2, n_iter)\n}");
+    let t = replace_once(&t, "    (z, mu1, mu2, n_iter)\n}", "    SEEN.with(|s| s.replace(seen));\n    (z, mu1, mu2, n_iter)\n}");
+    let t = with_dual(&t);
     format!(
-        "{t}\n#[derive(Clone, Copy, Default, Debug)]\npub struct Seen {{ pub first: f64, pub best: f64, pub improvements: u64, pub reason: u32 }}\n\
-         thread_local! {{ static SEEN: std::cell::Cell<Seen> = std::cell::Cell::new(Seen::default()); }}\n\
-         /// What the last search on this thread counted; reset before each call.\n\
-         pub fn take_seen() -> Seen {{ SEEN.with(|s| s.replace(Seen::default())) }}\n"
+        "{t}\n#[derive(Clone, Default, Debug)]\npub struct Seen {{ pub first: f64, pub best: f64, pub improvements: u64, pub reason: u32, pub dual: Vec<f64> }}\n\
+         thread_local! {{ static SEEN: std::cell::RefCell<Seen> = std::cell::RefCell::default(); }}\n\
+         fn keep_dual(dual: Vec<f64>) {{ SEEN.with(|s| s.borrow_mut().dual = dual); }}\n\
+         /// What the last call on this thread noted; taken before each call.\n\
+         pub fn take_seen() -> Seen {{ SEEN.with(|s| s.take()) }}\n"
     )
+}
+
+/// The certificate also returns its clamped z, and each path keeps its dual point (document 02, A3): lam * D trend for L2, +0 for L1
+/// with lam 0 or -0, else the clamped z of the certificate that is kept.
+fn with_dual(text: &str) -> String {
+    let changes = [
+        (") -> (Vec<f64>, Vec<f64>, f64, f64) {", ") -> (Vec<f64>, Vec<f64>, f64, f64, Vec<f64>) {"),
+        ("    (x, dx, pobj, dobj)\n}", "    (x, dx, pobj, dobj, zc)\n}"),
+        ("let (_, _, mut pobj, mut dobj) =", "let (_, _, mut pobj, mut dobj, _) ="),
+        ("Ok(finish(trend, dx, gap, objective, 0, true))", "keep_dual(dx.iter().map(|d| lam * d).collect());\n            Ok(finish(trend, dx, gap, objective, 0, true))"),
+        ("return Ok(finish(trend, dx, 0.0, 0.0, 0, true));", "keep_dual(vec![0.0; m]);\n                return Ok(finish(trend, dx, 0.0, 0.0, 0, true));"),
+        ("let (x, dx, pobj, dobj) = certify_l1", "let (x, dx, pobj, dobj, dual) = certify_l1"),
+        ("return Ok(finish(x, dx, pobj - dobj, pobj, 0, true));", "keep_dual(dual);\n                return Ok(finish(x, dx, pobj - dobj, pobj, 0, true));"),
+        ("let (mut x, mut dx, mut pobj, mut dobj) =", "let (mut x, mut dx, mut pobj, mut dobj, mut dual) ="),
+        ("let (xp, dxp, pp, dp) =", "let (xp, dxp, pp, dp, dualp) ="),
+        ("gap = gp;", "gap = gp;\n                    dual = dualp;"),
+        ("Ok(finish(x, dx, gap, pobj, n_iter, converged))", "keep_dual(dual);\n            Ok(finish(x, dx, gap, pobj, n_iter, converged))"),
+    ];
+    changes.iter().fold(text.to_string(), |t, (old, new)| replace_once(&t, old, new))
 }
 
 fn main() {

@@ -13,6 +13,8 @@ Table 8 is how each reason comes about:
     8, 9    pivot lost in iteration 2, the limit above it; the same with the limit 2
     10      gap small enough, and the polish leaves converged 0
     11      gap small enough, limit spent and stalled at once: the first of them is the reason
+Where dual comes from: +0 in 1-1; z* in 1-2 (at lam) and 1-3 (NaN); lam times D trend in 1-4 to 1-7 (NaN, -0, beyond lam); the
+search's last point in 3-1 and 8-8, where the candidate lost; the candidate in 4-1 (at lam, as it was) and 5-2 (clamped).
 
 Without a word the file is written; with --check it is only compared, and another text, or no case, is an error.
 """
@@ -44,25 +46,26 @@ def row(path):
     """What a case asks in words, and the case as a record."""
     d = path.read_bytes()
     order, penalty, n = d[4], d[5], struct.unpack_from("<I", d, 8)[0]
-    lent = struct.unpack_from("<5I", d, 12)
-    lam, tol, max_iter = struct.unpack_from("<ddQ", d, 32)
-    y = struct.unpack_from(f"<{n}d", d, 56)
+    lent = dict(zip(["trend", "cycle", "knots", "work", "marks", "dual"], struct.unpack_from("<6I", d, 12)))
+    lam, tol, max_iter = struct.unpack_from("<ddQ", d, 40)
+    y = struct.unpack_from(f"<{n}d", d, 64)
     lines = path.with_suffix(".exp").read_text().splitlines()
     asked = fields([("y", vector(map(bits, y))), ("lam", bits(lam)), ("tol", bits(tol)), ("max-iter", max_iter), ("order", order), ("penalty", penalty)])
-    room = fields(zip(["trend", "cycle", "knots", "work", "marks"], lent))
+    room = fields((name, lent[name]) for name in ["trend", "cycle", "knots", "dual", "work", "marks"])
     end = lines[0]
     if not end.startswith("refused"):
         n_iter, improvements, converged, reason = end.split()[4:8]
         numbers = ["F 0x" + w for w in lines[1].split()[1:]]
         places = [line.split() for line in lines if line.startswith("h ")]
         knots = [line.split()[1] for line in lines if line.startswith("knot ")]
+        dual = [line.split()[2] for line in lines if line.startswith("dual ")]
         found = fields(
             list(zip(["gap", "«first_gap»", "«best_gap»", "objective"], numbers[1:]))
             + [("«n_iter»", n_iter), ("improvements", improvements), ("converged", "true" if converged == "1" else "false"), ("reason", REASONS[int(reason)])]
         )
         end = "fitted (" + fields(
             [("trend", vector("F 0x" + p[2] for p in places)), ("cycle", vector("F 0x" + p[3] for p in places)), ("knots", vector(knots))]
-            + [("lam-max", numbers[0]), ("numbers", found)]
+            + [("dual", vector("F 0x" + w for w in dual)), ("lam-max", numbers[0]), ("numbers", found)]
         ) + ")"
     say = f"-- order {order}, penalty {penalty}, y {y}, lam {lam!r}, tol {tol!r}, at most {max_iter} iterations: {lines[0]}"
     return say, fields([("asked", asked), ("lent", room), ("outcome", end)])

@@ -16,6 +16,7 @@ struct Buffers {
     trend: Vec<f64>,
     cycle: Vec<f64>,
     knots: Vec<u32>,
+    dual: Vec<f64>,
     work: Vec<f64>,
     marks: Vec<u32>,
     numbers: [f64; 5],
@@ -24,7 +25,8 @@ struct Buffers {
 
 impl Buffers {
     fn new(n: usize) -> Buffers {
-        Buffers { trend: vec![0.0; n], cycle: vec![0.0; n], knots: vec![0; n], work: vec![0.0; 40 * n], marks: vec![0; 2 * n], numbers: [0.0; 5], counts: [0; 5] }
+        let series = || vec![0.0; n];
+        Buffers { trend: series(), cycle: series(), knots: vec![0; n], dual: series(), work: vec![0.0; 40 * n], marks: vec![0; 2 * n], numbers: [0.0; 5], counts: [0; 5] }
     }
 
     fn fit(&mut self, y: &[f64], lam: f64, tol: f64, max_iter: u64, order: u32, penalty: u32) -> u64 {
@@ -33,7 +35,7 @@ impl Buffers {
         let refused = unsafe {
             trend_filter_fit(
                 y.as_ptr(), n, lam, tol, max_iter, order, penalty,
-                self.trend.as_mut_ptr(), n, self.cycle.as_mut_ptr(), n, self.knots.as_mut_ptr(), n,
+                self.trend.as_mut_ptr(), n, self.cycle.as_mut_ptr(), n, self.knots.as_mut_ptr(), n, self.dual.as_mut_ptr(), n,
                 self.work.as_mut_ptr(), self.work.len(), self.marks.as_mut_ptr(), self.marks.len(),
                 &mut self.numbers, &mut self.counts,
             )

@@ -1,4 +1,4 @@
-/* Document 01's listing by the C entry, after `rt staticlib trend_filter`:
+/* Document 01's listing by the C entry, and the dual point, after `rt staticlib trend_filter`:
  * cc example.c -L../../target/staticlib -ltrend_filter -o example */
 #include <inttypes.h>
 #include <stdio.h>
@@ -7,14 +7,15 @@
 #define N 2
 
 int main(void) {
-    double y[N] = {8000, 0}, trend[N], cycle[N], work[40 * N], numbers[5];
+    double y[N] = {8000, 0}, trend[N], cycle[N], dual[N], work[40 * N], numbers[5];
     uint32_t knots[N], marks[2 * N];
     uint64_t counts[5];
     if (!trend_filter_environment_ok()) {
         printf("the floating-point environment is not the one that the promises assume\n");
         return 1;
     }
-    uint32_t refused = trend_filter_fit(y, N, 4000, 1e-8, 100, 1, 1, trend, N, cycle, N, knots, N, work, 40 * N, marks, 2 * N, numbers, counts);
+    const uint32_t order = 1, penalty = 1;
+    uint32_t refused = trend_filter_fit(y, N, 4000, 1e-8, 100, order, penalty, trend, N, cycle, N, knots, N, dual, N, work, 40 * N, marks, 2 * N, numbers, counts);
     if (refused) {
         printf("refused %" PRIu32 "\n", refused);
         return 1;
@@ -23,5 +24,6 @@ int main(void) {
     printf("%" PRIu64 " steps (%s), %" PRIu64 " knots, ", counts[1], reasons[counts[4]], counts[0]);
     printf("gap %g, objective %g\n", numbers[1], numbers[4]);
     for (int i = 0; i < N; i++) printf("h %d %g %g\n", i, trend[i], cycle[i]);
+    for (uint32_t i = 0; i < N - order; i++) printf("dual %" PRIu32 " %g\n", i, dual[i]);
     return 0;
 }

@@ -10,18 +10,27 @@
  *   5  lam is finite and not below 0 (-0 passes)
  *   6  tol is finite and above 0
  *   7  max_iter is at least 1
- *   8  trend, cycle and knots have at least n places each
+ *   8  trend, cycle, knots and dual have at least n places each
  *   9  work has at least 40 n places, marks at least 2 n
  *  10  every pivot met is finite and above 0
  *
  * No check is owed before the call: whatever is passed, it ends, and nothing is read or written beyond the lengths given. The arrays
  * must not overlap, and each pointer must be to as many places as its length says; that is all that C owes.
  *
- * After a fit: the first n places of trend and cycle and the first counts[0] places of knots hold the answer; all later places are as found.
+ * After a fit: the first n places of trend and cycle, the first counts[0] places of knots and the first m = n - order places of dual hold
+ * the answer; all later places are as found.
  *   numbers: lam_max, gap, first gap, best gap, objective
  *   counts:  knots, n_iter, improvements, converged (0 or 1), reason (0 to 4)
- * After a refusal: trend, cycle, knots, numbers and counts are as found; after 1 to 9 work and marks are too.
+ * After a refusal: trend, cycle, knots, dual, numbers and counts are as found; after 1 to 9 work and marks are too.
  * After a fit or number 10 the first 40 n places of work and 2 n of marks are free (nothing is promised of them); later ones are as found.
+ *
+ * dual is the point z at which the dual objective G of the gap was worked out, for whoever rechecks a fit; D takes the order-th differences:
+ *   L2                   lam times each place of D trend, not clamped
+ *   L1 with lam 0 or -0  +0 in each place; gap and objective are 0
+ *   L1 otherwise         z of the certificate that was kept, clamped: a place below -lam is -lam, one above lam is lam, a NaN stays
+ * So each of the m places is within -lam and lam for L1, or a NaN. For lam above 0 the gap is objective - G to the bit, where for L1
+ * G = -0.5 * sum (D'z)^2 + sum z * Dy, for L2 less sum z^2 / (2 * lam), each sum from the first place on. Before dual was added the call
+ * took none: a program of that time has to lend it, after knots.
  *
  * Steps: n_iter is at most max_iter and at most 10 J + 10, where J, the improvements, is at most 144,763. A larger tol, all else alike,
  * never gives a greater n_iter.
@@ -53,8 +62,8 @@ extern "C" {
 
 uint32_t trend_filter_fit(const double *y, size_t y_len, double lam, double tol, uint64_t max_iter, uint32_t order,
                           uint32_t penalty, double *trend, size_t trend_len, double *cycle, size_t cycle_len,
-                          uint32_t *knots, size_t knots_len, double *work, size_t work_len, uint32_t *marks,
-                          size_t marks_len, double numbers[5], uint64_t counts[5]);
+                          uint32_t *knots, size_t knots_len, double *dual, size_t dual_len, double *work,
+                          size_t work_len, uint32_t *marks, size_t marks_len, double numbers[5], uint64_t counts[5]);
 
 /* The reasons, as counts[4] has them. */
 enum trend_filter_reason {

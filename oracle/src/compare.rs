@@ -48,6 +48,23 @@ fn number(e: &MlError) -> u32 {
     }
 }
 
+/// The duality gap from the objective and the dual point, as someone works it out who rechecks a fit.
+fn gap_of(c: &Case, objective: f64, dual: &[f64]) -> f64 {
+    if c.lam == 0.0 {
+        return 0.0;
+    }
+    let (mut dy, mut back) = (c.y.clone(), dual.to_vec());
+    for _ in 0..c.order {
+        dy = dy.windows(2).map(|w| w[1] - w[0]).collect();
+        let at = |i: usize| back.get(i).copied().unwrap_or(0.0);
+        back = (0..=back.len()).map(|j| at(j.wrapping_sub(1)) - at(j)).collect();
+    }
+    let sum = |v: &[f64], w: &[f64]| v.iter().zip(w).map(|(a, b)| a * b).sum::<f64>();
+    let below = -0.5 * sum(&back, &back) + sum(dual, &dy);
+    objective - if c.penalty == 1 { below } else { below - sum(dual, dual) / (2.0 * c.lam) }
+}
+
+/// The Rust's answer, and what its copy with counters noted: the search's numbers and the dual point.
 pub fn expected(c: &Case) -> Result<(TrendFilterFit, counted::Seen), u32> {
     let penalty = match c.penalty {
         1 => Penalty::L1,
@@ -63,8 +80,12 @@ pub fn expected(c: &Case) -> Result<(TrendFilterFit, counted::Seen), u32> {
     };
     let again = counted::l1_trend_filter(&c.y, c.lam, counted::TrendFilterOptions { order: o.order, penalty: p, tol: c.tol, max_iter: o.max_iter });
     let mut seen = counted::take_seen();
+    assert_eq!(fit.is_ok(), again.is_ok(), "the copy with counters differs from the module");
     if let (Ok(f), Ok(g)) = (&fit, &again) {
-        assert!(f.n_iter == g.n_iter && same(f.duality_gap, g.duality_gap), "the copy with counters differs from the module");
+        let trends = f.trend.iter().zip(&g.trend).all(|(&a, &b)| same(a, b));
+        assert!(trends && f.n_iter == g.n_iter && same(f.duality_gap, g.duality_gap), "the copy with counters differs from the module");
+        assert_eq!(seen.dual.len(), c.y.len() - o.order, "places of dual");
+        assert!(same(gap_of(c, f.objective, &seen.dual), f.duality_gap), "the dual point doesn't give the module's gap");
         // A search always leaves a reason above 0; none was made exactly where the module takes a path without one.
         let closed = c.penalty == 2 || c.lam == 0.0 || c.lam >= f.lam_max;
         assert!((seen.reason == 0) == closed && (!closed || f.n_iter == 0 && f.converged), "reason {} of a path that isn't its own", seen.reason);
@@ -94,7 +115,10 @@ fn same_fit(f: &TrendFilterFit, seen: &counted::Seen, a: &Answer) -> Result<(), 
     if a.refused != 0 {
         return Err(format!("refused with {} by the port only", a.refused));
     }
-    for (name, x, y) in [("trend", &f.trend, &a.trend), ("cycle", &f.cycle, &a.cycle)] {
+    for (name, x, y) in [("trend", &f.trend, &a.trend), ("cycle", &f.cycle, &a.cycle), ("dual", &seen.dual, &a.dual)] {
+        if x.len() != y.len() {
+            return Err(format!("{} places of {name} are right, {} by the port", x.len(), y.len()));
+        }
         if let Some(i) = (0..x.len()).find(|&i| !same(x[i], y[i])) {
             return Err(format!("{name} {i}: {:016x} by the Rust, {:016x} by the port", x[i].to_bits(), y[i].to_bits()));
         }
@@ -118,7 +142,7 @@ pub fn compare(port: &mut Port, c: &Case, l: &Lengths, t: &mut Tally) -> Result<
     let n = c.y.len();
     let a = port.fit(c, l)?;
     let e = Lengths::exact(n);
-    let more = l.trend > n || l.cycle > n || l.knots > n || l.work > e.work || l.marks > e.marks;
+    let more = l.trend > n || l.cycle > n || l.knots > n || l.dual > n || l.work > e.work || l.marks > e.marks;
     t.longer += (l.refused(n).is_none() && more) as u64;
     t.kept += a.kept;
     match answer(c, l) {

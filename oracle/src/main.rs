@@ -51,10 +51,10 @@ fn only_here(port: &mut Port) -> u64 {
     check(&asked(vec![f64::NAN; 65_537]), Lengths::exact(65_537), 3);
     check(&asked(vec![0.0; 65_536]), Lengths::exact(65_536), 0);
     let c = asked(vec![1.0, 2.0, 4.0, 8.0]);
-    for i in 0..5 {
+    for i in 0..Lengths::BUFFERS {
         let mut l = Lengths::exact(4);
         *l.buffer(i) -= 1;
-        check(&c, l, if i < 3 { 8 } else { 9 });
+        check(&c, l, if i < Lengths::ANSWERS { 8 } else { 9 });
     }
     // A bad pivot is found after a short buffer.
     let c = Case { y: vec![0.0; 3], lam: 1e308, penalty: 2, ..c };

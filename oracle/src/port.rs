@@ -11,6 +11,7 @@ extern "C" {
         trend: *mut f64, trend_len: usize,
         cycle: *mut f64, cycle_len: usize,
         knots: *mut u32, knots_len: usize,
+        dual: *mut f64, dual_len: usize,
         work: *mut f64, work_len: usize,
         marks: *mut u32, marks_len: usize,
         numbers: *mut [f64; 5], counts: *mut [u64; 5],
@@ -82,6 +83,7 @@ pub struct Lengths {
     pub trend: usize,
     pub cycle: usize,
     pub knots: usize,
+    pub dual: usize,
     pub work: usize,
     pub marks: usize,
 }
@@ -89,24 +91,29 @@ pub struct Lengths {
 impl Lengths {
     /// Exactly what a series of n needs.
     pub fn exact(n: usize) -> Lengths {
-        Lengths { trend: n, cycle: n, knots: n, work: 40 * n, marks: 2 * n }
+        Lengths { trend: n, cycle: n, knots: n, dual: n, work: 40 * n, marks: 2 * n }
     }
+
+    /// How many buffers there are.
+    pub const BUFFERS: usize = 6;
+    /// How many of them, the first, take the answer.
+    pub const ANSWERS: usize = 4;
 
     /// The buffer of number i, from 0.
     pub fn buffer(&mut self, i: usize) -> &mut usize {
-        [&mut self.trend, &mut self.cycle, &mut self.knots, &mut self.work, &mut self.marks].into_iter().nth(i).unwrap()
+        [&mut self.trend, &mut self.cycle, &mut self.knots, &mut self.dual, &mut self.work, &mut self.marks].into_iter().nth(i).unwrap()
     }
 
     /// What a series of n needs or more, each buffer by itself; in one of sixteen cases one or two are too short.
     pub fn any(r: &mut Random, n: usize) -> Lengths {
         let mut l = Lengths::exact(n);
-        for i in 0..5 {
+        for i in 0..Self::BUFFERS {
             let more = r.below(n + 9);
             *l.buffer(i) += r.pick(&[0, 1, 3, more, 2 * more]);
         }
         if r.below(16) == 0 {
             for _ in 0..1 + r.below(2) {
-                let i = r.below(5);
+                let i = r.below(Self::BUFFERS);
                 let needed = *Lengths::exact(n).buffer(i);
                 *l.buffer(i) = if r.below(2) == 0 { needed.saturating_sub(1) } else { r.below(needed + 1) };
             }
@@ -116,7 +123,7 @@ impl Lengths {
 
     /// The first of questions 8 and 9 that is answered no.
     pub fn refused(&self, n: usize) -> Option<u32> {
-        if self.trend < n || self.cycle < n || self.knots < n {
+        if self.trend < n || self.cycle < n || self.knots < n || self.dual < n {
             Some(8)
         } else if self.work < 40 * n || self.marks < 2 * n {
             Some(9)
@@ -134,6 +141,7 @@ pub struct Port {
     trend: Lent<u64>,
     cycle: Lent<u64>,
     knots: Lent<u32>,
+    dual: Lent<u64>,
     work: Lent<u64>,
     marks: Lent<u32>,
     numbers: Lent<u64>,
@@ -145,6 +153,8 @@ pub struct Answer {
     pub trend: Vec<f64>,
     pub cycle: Vec<f64>,
     pub knots: Vec<u32>,
+    /// the n - order places that a fit writes
+    pub dual: Vec<f64>,
     /// lam_max, gap, first gap, best gap, objective
     pub numbers: Vec<f64>,
     /// knots, n_iter, improvements, converged, reason
@@ -164,15 +174,16 @@ impl Port {
         let trend = self.trend.filled(l.trend, seed(0)) as *mut f64;
         let cycle = self.cycle.filled(l.cycle, seed(1)) as *mut f64;
         let knots = self.knots.filled(l.knots, seed(2));
-        let work = self.work.filled(l.work, seed(3)) as *mut f64;
-        let marks = self.marks.filled(l.marks, seed(4));
-        let numbers = self.numbers.filled(5, seed(5)) as *mut [f64; 5];
-        let counts = self.counts.filled(5, seed(6)) as *mut [u64; 5];
+        let dual = self.dual.filled(l.dual, seed(3)) as *mut f64;
+        let work = self.work.filled(l.work, seed(4)) as *mut f64;
+        let marks = self.marks.filled(l.marks, seed(5));
+        let numbers = self.numbers.filled(5, seed(6)) as *mut [f64; 5];
+        let counts = self.counts.filled(5, seed(7)) as *mut [u64; 5];
         // SAFETY: each pointer is to as many places as the length beside it says, and none overlap.
         let refused = unsafe {
             trend_filter_fit(
                 self.y.as_ptr() as *const f64, n, c.lam, c.tol, c.max_iter, c.order, c.penalty,
-                trend, l.trend, cycle, l.cycle, knots, l.knots, work, l.work, marks, l.marks, numbers, counts,
+                trend, l.trend, cycle, l.cycle, knots, l.knots, dual, l.dual, work, l.work, marks, l.marks, numbers, counts,
             )
         };
         let fit = refused == 0;
@@ -185,9 +196,11 @@ impl Port {
         if self.y.iter().zip(&c.y).any(|(&a, b)| a != b.to_bits()) {
             return Err("y changed".into());
         }
+        let m = if_fit(n.saturating_sub(c.order as usize));
         let kept = self.trend.kept("trend", if_fit(n))?
             + self.cycle.kept("cycle", if_fit(n))?
             + self.knots.kept("knots", count)?
+            + self.dual.kept("dual", m)?
             + self.work.kept("work", if_free(40 * n))?
             + self.marks.kept("marks", if_free(2 * n))?
             + self.numbers.kept("numbers", if_fit(5))?
@@ -198,6 +211,7 @@ impl Port {
             trend: doubles(&self.trend, if_fit(n)),
             cycle: doubles(&self.cycle, if_fit(n)),
             knots: self.knots.first(count).to_vec(),
+            dual: doubles(&self.dual, m),
             numbers: doubles(&self.numbers, if_fit(5)),
             counts: self.counts.first(if_fit(5)).to_vec(),
             kept,
@@ -213,7 +227,7 @@ pub fn nothing_lent(order: u32, penalty: u32) -> u32 {
     unsafe {
         trend_filter_fit(
             null(), 0, 1.0, 1e-8, 100, order, penalty,
-            null_mut(), 0, null_mut(), 0, null_mut(), 0, null_mut(), 0, null_mut(), 0, &mut numbers, &mut counts,
+            null_mut(), 0, null_mut(), 0, null_mut(), 0, null_mut(), 0, null_mut(), 0, null_mut(), 0, &mut numbers, &mut counts,
         )
     }
 }

@@ -1,8 +1,9 @@
 //! Writes the fixed list of the Rust's answers that the program `replay` reads: little-endian words of 8 bytes.
 //!
-//! The file is the number of cases and then the cases. A case is: group, order, penalty, n, the lengths lent of trend, cycle, knots, work
-//! and marks, lam, tol, max_iter, the n places of y; then the refusal's number, 0 for a fit; and for a fit lam_max, gap, first gap, best
-//! gap, objective, how many knots, n_iter, improvements, converged, reason, the n places of trend and of cycle, and the knots.
+//! The file is the number of cases and then the cases. A case is: group, order, penalty, n, the lengths lent of trend, cycle, knots, dual,
+//! work and marks, lam, tol, max_iter, the n places of y; then the refusal's number, 0 for a fit; and for a fit lam_max, gap, first gap,
+//! best gap, objective, how many knots, n_iter, improvements, converged, reason, the n places of trend and of cycle, the knots, and the
+//! n - order places of dual.
 //! A double is its bits, any NaN 7ff8000000000000.
 use crate::cases::{damaged, good, lam_max_of, Case};
 use crate::compare::{answer, bits, expected};
@@ -16,7 +17,7 @@ pub const GROUPS: [&str; 12] = [
 
 fn words(group: usize, c: &Case, l: &Lengths, out: &mut Vec<u64>) {
     let n = c.y.len();
-    let lent = [l.trend, l.cycle, l.knots, l.work, l.marks].map(|x| x as u64);
+    let lent = [l.trend, l.cycle, l.knots, l.dual, l.work, l.marks].map(|x| x as u64);
     out.extend([group as u64, c.order as u64, c.penalty as u64, n as u64]);
     out.extend(lent);
     out.extend([c.lam.to_bits(), c.tol.to_bits(), c.max_iter]);
@@ -29,6 +30,7 @@ fn words(group: usize, c: &Case, l: &Lengths, out: &mut Vec<u64>) {
             out.extend([f.knots.len() as u64, f.n_iter as u64, s.improvements, f.converged as u64, s.reason as u64]);
             out.extend(f.trend.iter().chain(&f.cycle).map(|&x| bits(x)));
             out.extend(f.knots.iter().map(|&k| k as u64));
+            out.extend(s.dual.iter().map(|&x| bits(x)));
         }
     }
 }
@@ -70,14 +72,14 @@ pub fn list(seed: u64, each: usize) -> Vec<u64> {
     for i in 0..each {
         let c = good(&mut r, 14);
         let mut l = Lengths::exact(c.y.len());
-        *l.buffer(i % 5) -= 1;
+        *l.buffer(i % Lengths::BUFFERS) -= 1;
         count += 1;
         words(1, &c, &l, &mut out);
     }
-    for i in 0..6u32 {
-        let order = 1 + i % 2;
+    for (i, part) in [0.3, 0.05, 0.01].into_iter().enumerate() {
+        let order = 1 + i as u32 % 2;
         let y: Vec<f64> = (0..168).map(|h| (h as f64 * 20.0 + if h > 90 { 2500.0 } else { 0.0 } + r.normal() * 400.0).round()).collect();
-        let lam = lam_max_of(&y, order) * [0.3, 0.05, 0.01][i as usize / 2];
+        let lam = lam_max_of(&y, order) * part;
         count += 1;
         words(11, &Case { y, lam, tol: 1e-8, max_iter: 100, order, penalty: 1 }, &Lengths::exact(168), &mut out);
     }

@@ -1,6 +1,7 @@
 // Runs every call of the fit that is stored in a folder (NAME.case, NAME.exp) through trend_filter_fit and compares
 // each number, place and refusal with the answer of the Rust. Before a call every place lent, and every place of the
 // guards around it, holds a NaN of its own payload; after it the bits of every place that must stay as found are compared.
+// A TFC1, from before dual was lent, is lent n places of it; its .exp doesn't have what a fit writes there.
 #include <dirent.h>
 #include <inttypes.h>
 #include <stdint.h>
@@ -90,20 +91,25 @@ static void say(const char *name, const char *what) {
     if (wrong++ < 40) printf("%s: %s\n", name, what);
 }
 
-// The text that the .exp has, from what the call returned.
-static char *listing(size_t n, uint32_t order, uint32_t penalty, const double *t, const double *c, const uint32_t *k,
+// The text that the .exp has, from what the call returned; dual, of which there are n - order places, is NULL for a TFC1.
+static char *listing(size_t n, uint32_t order, uint32_t penalty, const double *t, const double *c, const uint32_t *k, const double *dual,
                      const double num[5], const uint64_t cnt[5]) {
-    char *out = malloc(400 + (n <= 256 ? n * 80 : 0)), *p = out;
-    uint64_t h[3] = {HASH0, HASH0, HASH0};
+    char *out = malloc(400 + (n <= 256 ? n * 110 : 0)), *p = out;
+    uint64_t h[4] = {HASH0, HASH0, HASH0, HASH0};
+    size_t m = dual ? n - order : 0;
     for (size_t i = 0; i < n; i++) h[0] = hash_more(h[0], bits_of(t[i]), 8), h[1] = hash_more(h[1], bits_of(c[i]), 8);
     for (uint64_t i = 0; i < cnt[0]; i++) h[2] = hash_more(h[2], k[i], 4);
+    for (size_t i = 0; i < m; i++) h[3] = hash_more(h[3], bits_of(dual[i]), 8);
     p += sprintf(p, "fit %zu %u %u %" PRIu64 " %" PRIu64 " %" PRIu64, n, order, penalty, cnt[1], cnt[2], cnt[3]);
     p += sprintf(p, " %" PRIu64 " %" PRIu64 "\nnum", cnt[4], cnt[0]);
     for (int i = 0; i < 5; i++) p += sprintf(p, " %016" PRIx64, bits_of(num[i]));
-    p += sprintf(p, "\nhash %016" PRIx64 " %016" PRIx64 " %016" PRIx64 "\n", h[0], h[1], h[2]);
+    p += sprintf(p, "\nhash");
+    for (int i = 0; i < (dual ? 4 : 3); i++) p += sprintf(p, " %016" PRIx64, h[i]);
+    p += sprintf(p, "\n");
     if (n <= 256) {
         for (size_t i = 0; i < n; i++) p += sprintf(p, "h %zu %016" PRIx64 " %016" PRIx64 "\n", i, bits_of(t[i]), bits_of(c[i]));
         for (uint64_t i = 0; i < cnt[0]; i++) p += sprintf(p, "knot %u\n", k[i]);
+        for (size_t i = 0; i < m; i++) p += sprintf(p, "dual %zu %016" PRIx64 "\n", i, bits_of(dual[i]));
     }
     return out;
 }
@@ -112,23 +118,27 @@ static void run(const char *dir, const char *name) {
     size_t len, elen;
     unsigned char *d = read_file(dir, name, "case", &len);
     char *e = (char *)read_file(dir, name, "exp", &elen);
-    if (len < 56 || memcmp(d, "TFC1", 4) || len != 56 + 8 * (size_t)u32_at(d, 8)) { say(name, "no stored case"); free(d), free(e); return; }
+    int with_dual = len >= 64 && !memcmp(d, "TFC2", 4);
+    // where lam stands: after the lengths lent
+    const size_t at = with_dual ? 40 : 32, from = at + 24;
+    if (len < from || (!with_dual && memcmp(d, "TFC1", 4)) || len != from + 8 * (size_t)u32_at(d, 8)) { say(name, "no stored case"); free(d), free(e); return; }
     uint32_t order = d[4], penalty = d[5];
     size_t n = u32_at(d, 8), lt = u32_at(d, 12), lc = u32_at(d, 16), lk = u32_at(d, 20), lw = u32_at(d, 24), lm = u32_at(d, 28);
-    double lam = double_of(d + 32), tol = double_of(d + 40);
+    size_t ld = with_dual ? u32_at(d, 32) : n;
+    double lam = double_of(d + at), tol = double_of(d + at + 8);
     uint64_t max_iter;
-    memcpy(&max_iter, d + 48, 8);
-    Lent y = lend(8 * n), t = lend(8 * lt), c = lend(8 * lc), k = lend(4 * lk), w = lend(8 * lw), m = lend(4 * lm);
+    memcpy(&max_iter, d + at + 16, 8);
+    Lent y = lend(8 * n), t = lend(8 * lt), c = lend(8 * lc), k = lend(4 * lk), z = lend(8 * ld), w = lend(8 * lw), m = lend(4 * lm);
     Lent nu = lend(40), co = lend(40);
-    memcpy(y.at, d + 56, 8 * n);
+    memcpy(y.at, d + from, 8 * n);
     uint32_t got = trend_filter_fit((double *)y.at, n, lam, tol, max_iter, order, penalty, (double *)t.at, lt, (double *)c.at, lc,
-                                    (uint32_t *)k.at, lk, (double *)w.at, lw, (uint32_t *)m.at, lm, (double *)nu.at, (uint64_t *)co.at);
-    if (memcmp(y.at, d + 56, 8 * n) || !kept(y, 8 * n)) say(name, "y changed");
+                                    (uint32_t *)k.at, lk, (double *)z.at, ld, (double *)w.at, lw, (uint32_t *)m.at, lm, (double *)nu.at, (uint64_t *)co.at);
+    if (memcmp(y.at, d + from, 8 * n) || !kept(y, 8 * n)) say(name, "y changed");
     if (got) {
         char text[40];
         snprintf(text, sizeof text, "refused %u\n", got);
         if (strcmp(text, e)) say(name, "another refusal, or a refusal where a fit is due");
-        if (!kept(t, 0) || !kept(c, 0) || !kept(k, 0) || !kept(nu, 0) || !kept(co, 0)) say(name, "something was written before a refusal");
+        if (!kept(t, 0) || !kept(c, 0) || !kept(k, 0) || !kept(z, 0) || !kept(nu, 0) || !kept(co, 0)) say(name, "something was written before a refusal");
         if (!kept(w, got == 10 ? 8 * 40 * n : 0) || !kept(m, got == 10 ? 4 * 2 * n : 0)) say(name, "work or marks changed before a refusal");
     } else if (strncmp(e, "fit ", 4)) {
         say(name, "a fit where a refusal is due");
@@ -136,15 +146,15 @@ static void run(const char *dir, const char *name) {
         const uint64_t *cnt = (uint64_t *)co.at;
         if (cnt[0] > lk || cnt[0] > n) say(name, "more knots than places");
         else {
-            char *g = listing(n, order, penalty, (double *)t.at, (double *)c.at, (uint32_t *)k.at, (double *)nu.at, cnt);
+            char *g = listing(n, order, penalty, (double *)t.at, (double *)c.at, (uint32_t *)k.at, with_dual ? (double *)z.at : NULL, (double *)nu.at, cnt);
             if (strcmp(g, e)) say(name, "another answer");
             free(g);
-            if (!kept(t, 8 * n) || !kept(c, 8 * n) || !kept(k, 4 * cnt[0])) say(name, "a place past the answer changed");
+            if (!kept(t, 8 * n) || !kept(c, 8 * n) || !kept(k, 4 * cnt[0]) || !kept(z, 8 * (n - order))) say(name, "a place past the answer changed");
         }
         if (!kept(w, 8 * 40 * n) || !kept(m, 4 * 2 * n)) say(name, "work or marks changed past the free places");
         if (!kept(nu, 40) || !kept(co, 40)) say(name, "a guard of the numbers changed");
     }
-    free(d), free(e), free(y.all), free(t.all), free(c.all), free(k.all), free(w.all), free(m.all), free(nu.all), free(co.all);
+    free(d), free(e), free(y.all), free(t.all), free(c.all), free(k.all), free(z.all), free(w.all), free(m.all), free(nu.all), free(co.all);
 }
 
 int main(int argc, char **argv) {

@@ -18,7 +18,7 @@ import fuzz
 
 
 def case(series, settings):
-    """A stored case, as the head of oracle/src/stored.rs says."""
+    """A stored case, as the head of oracle/src/stored.rs says: a TFC1, since no listing has the dual point."""
     lam, tol, limit, order, penalty = settings
     n = len(series)
     head = struct.pack("<4sBBH6I", b"TFC1", order, penalty, 0, n, n, n, n, 40 * n, 2 * n)

@@ -2,8 +2,8 @@
 //! used `l1_trend_filter`, `TrendFilterOptions`, `Penalty` and `TrendFilterFit` of the source changes its `use` line only.
 //! `TrendFilterFit` has the source's fields and no other, so that a program which takes it apart or builds one compiles too.
 //!
-//! What the port knows beyond the source, how the search went and why it stopped, is [`Search`]; [`l1_trend_filter_with_search`]
-//! gives it beside the fit. The refusals are [`Refused`], which holds the question's number and says it in words.
+//! What the port knows beyond the source, how the search went, why it stopped and the dual point, is [`Search`];
+//! [`l1_trend_filter_with_search`] gives it beside the fit. The refusals are [`Refused`], which holds the question's number and says it in words.
 //!
 //! The floating-point environment is taken as a program starts: rounding to nearest, subnormal numbers kept, no exception that
 //! traps. Rust assumes the same of all its code. Where other code on the thread has changed it (C's `fesetround` or
@@ -54,8 +54,8 @@ pub struct TrendFilterFit {
     pub lam_max: f64,
 }
 
-/// How the search of a fit went: what the source's fit doesn't have.
-#[derive(Debug, Clone, Copy, PartialEq)]
+/// How the search of a fit went, and the dual point of its certificate: what the source's fit doesn't have.
+#[derive(Debug, Clone, PartialEq)]
 pub struct Search {
     /// The gap before the first step; on a closed path the gap.
     pub first_gap: f64,
@@ -65,6 +65,10 @@ pub struct Search {
     pub improvements: u64,
     /// Why it stopped.
     pub reason: Reason,
+    /// The point `z` at which the dual objective of the gap was worked out, `n - order` places: for L2 `lam` times each place of
+    /// `D trend`, not clamped; for L1 with `lam` 0 or -0 each place +0; otherwise `z` of the certificate that was kept, clamped to
+    /// `lam` (a place below `-lam` is `-lam`, one above `lam` is `lam`, a NaN stays).
+    pub dual: Vec<f64>,
 }
 
 /// Why the search stopped. Where more than one of `GapSmall`, `LimitSpent` and `Stalled` holds, it is the first of them.
@@ -127,7 +131,7 @@ impl Refused {
             5 => "is lam finite and not below 0?",
             6 => "is tol finite and above 0?",
             7 => "is max_iter at least 1?",
-            8 => "have trend, cycle and knots a place for each of the series?",
+            8 => "have trend, cycle, knots and dual a place for each of the series?",
             9 => "have work and marks the places that they need?",
             _ => "is every pivot met finite and above 0?",
         }
@@ -149,6 +153,7 @@ extern "C" {
         trend: *mut f64, trend_len: usize,
         cycle: *mut f64, cycle_len: usize,
         knots: *mut u32, knots_len: usize,
+        dual: *mut f64, dual_len: usize,
         work: *mut f64, work_len: usize,
         marks: *mut u32, marks_len: usize,
         numbers: *mut [f64; 5], counts: *mut [u64; 5],
@@ -163,7 +168,7 @@ pub fn l1_trend_filter(y: &[f64], lam: f64, opts: TrendFilterOptions) -> Result<
     l1_trend_filter_with_search(y, lam, opts).map(|(fit, _)| fit)
 }
 
-/// The trend of `y`, as [`l1_trend_filter`] gives it, and how its search went.
+/// The trend of `y`, as [`l1_trend_filter`] gives it, how its search went, and the dual point.
 ///
 /// # Errors
 /// [`Refused`] with the number of the first question answered no.
@@ -176,6 +181,7 @@ pub fn l1_trend_filter_with_search(y: &[f64], lam: f64, opts: TrendFilterOptions
     let mut trend = vec![0.0; n];
     let mut cycle = vec![0.0; n];
     let mut knots = vec![0u32; n];
+    let mut dual = vec![0.0; n];
     let mut work = vec![0.0; 40 * n];
     let mut marks = vec![0u32; 2 * n];
     let mut numbers = [0.0; 5];
@@ -189,14 +195,17 @@ pub fn l1_trend_filter_with_search(y: &[f64], lam: f64, opts: TrendFilterOptions
     let refused = unsafe {
         trend_filter_fit(
             y.as_ptr(), n, lam, opts.tol, opts.max_iter as u64, order, penalty,
-            trend.as_mut_ptr(), n, cycle.as_mut_ptr(), n, knots.as_mut_ptr(), n,
+            trend.as_mut_ptr(), n, cycle.as_mut_ptr(), n, knots.as_mut_ptr(), n, dual.as_mut_ptr(), n,
             work.as_mut_ptr(), work.len(), marks.as_mut_ptr(), marks.len(),
             &mut numbers, &mut counts,
         )
     };
+    // A library from before dual was lent takes it for work, which is then too short; otherwise question 9 is always answered yes.
+    assert!(refused != 9, "the static library is older than this crate: it takes no dual");
     if refused != 0 {
         return Err(Refused(refused));
     }
+    dual.truncate(n - opts.order);
     let [lam_max, duality_gap, first_gap, best_gap, objective] = numbers;
     let [count, n_iter, improvements, converged, reason] = counts;
     let fit = TrendFilterFit {
@@ -209,5 +218,5 @@ pub fn l1_trend_filter_with_search(y: &[f64], lam: f64, opts: TrendFilterOptions
         n_iter: n_iter as usize,
         lam_max,
     };
-    Ok((fit, Search { first_gap, best_gap, improvements, reason: Reason::of(reason) }))
+    Ok((fit, Search { first_gap, best_gap, improvements, reason: Reason::of(reason), dual }))
 }

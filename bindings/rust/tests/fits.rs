@@ -89,7 +89,55 @@ fn every_reason_arrives() {
         assert_eq!(got, right, "case {i}");
     }
     let l2 = l1_trend_filter_with_search(&[6.0, 0.0], 1.0, opts(1, Penalty::L2)).unwrap().1;
-    assert_eq!(l2, Search { first_gap: 0.0, best_gap: 0.0, improvements: 0, reason: Reason::ClosedPath });
+    assert_eq!(l2, Search { first_gap: 0.0, best_gap: 0.0, improvements: 0, reason: Reason::ClosedPath, dual: vec![-2.0] });
+}
+
+/// The dual point by its bits.
+fn dual(order: usize, penalty: Penalty, y: &[f64], lam: f64) -> Vec<u64> {
+    let (_, s) = l1_trend_filter_with_search(y, lam, opts(order, penalty)).unwrap();
+    s.dual.iter().map(|x| x.to_bits()).collect()
+}
+
+fn bits<const M: usize>(places: [f64; M]) -> Vec<u64> {
+    places.map(f64::to_bits).to_vec()
+}
+
+#[test]
+fn the_dual_point_of_every_path() {
+    let hours = [8000.0, 0.0];
+    // L2: lam times the differences, beyond lam too, and with the sign of a product with 0 or -0
+    assert_eq!(dual(1, Penalty::L2, &[600.0, 0.0], 1.0), bits([-200.0]));
+    assert_eq!(dual(1, Penalty::L2, &hours, 0.0), bits([-0.0]));
+    assert_eq!(dual(1, Penalty::L2, &hours, -0.0), bits([0.0]));
+    // L1: +0 for lam 0 and -0, z* from lam_max on, and the polish's z at the bounds below it
+    assert_eq!(dual(1, Penalty::L1, &hours, 0.0), bits([0.0]));
+    assert_eq!(dual(1, Penalty::L1, &hours, -0.0), bits([0.0]));
+    assert_eq!(dual(1, Penalty::L1, &hours, 4000.0), bits([-4000.0]));
+    assert_eq!(dual(1, Penalty::L1, &hours, 5000.0), bits([-4000.0]));
+    assert_eq!(dual(1, Penalty::L1, &[8000.0, 0.0, 100.0], 1000.0), bits([-1000.0, -450.0]));
+    assert_eq!(dual(2, Penalty::L1, &[0.0; 5], 1.0).len(), 3);
+}
+
+/// The gap, from the answer alone: the objective at the trend less the dual objective at the dual point.
+#[test]
+fn a_fit_can_be_rechecked() {
+    let y: Vec<f64> = (0..40).map(|i| f64::from(i * i % 23) - f64::from(i % 7) * 3.5).collect();
+    for (order, penalty, lam) in [(1, Penalty::L1, 2.0), (2, Penalty::L1, 3.0), (1, Penalty::L1, 1e4), (1, Penalty::L2, 5.0), (2, Penalty::L2, 9.0)] {
+        let (f, s) = l1_trend_filter_with_search(&y, lam, opts(order, penalty)).unwrap();
+        let down = |v: &[f64]| v.windows(2).map(|w| w[1] - w[0]).collect::<Vec<f64>>();
+        let (mut dy, mut back) = (y.clone(), s.dual.clone());
+        for _ in 0..order {
+            dy = down(&dy);
+            back = down(&[&[0.0], &back[..], &[0.0]].concat()).iter().map(|x| -x).collect();
+        }
+        let dot = |a: &[f64], b: &[f64]| a.iter().zip(b).map(|(x, y)| x * y).sum::<f64>();
+        let mut lower = dot(&s.dual, &dy) - 0.5 * dot(&back, &back);
+        match penalty {
+            Penalty::L1 => assert!(s.dual.iter().all(|z| z.abs() <= lam)),
+            Penalty::L2 => lower -= dot(&s.dual, &s.dual) / (2.0 * lam),
+        }
+        assert_eq!(f.objective - lower, f.duality_gap, "order {order}, {penalty:?}");
+    }
 }
 
 #[test]
