@@ -1,4 +1,4 @@
-// What a fit writes: its trend, its cycle and its knots.
+// What is written of a trend: itself, its cycle and its knots.
 ghost use mathlib.Core.Path.{_≡_};
 ghost use mathlib.Core.Bool.{cond};
 ghost use mathlib.Core.List.{[], _∷_};
