@@ -4,11 +4,11 @@ use Prim.Native.Nat.{ℕ, _+_, _-_, _≤_}
 use native.Mathlib.Omega.{arith}
 use mathlib.Core.Bool.{Bool}
 use mathlib.Core.List.{List}
-use lib.ListN.{length, take, drop, length-append}
-use lib.Seq.{take-at, length-take-le}
+use lib.ListN.{length, take}
+use lib.Seq.{length-take-le}
 use lib.Dec.{eqb}
 use Rattle.float64.proofs.Clash.{impossible}
-use Rattle.vectors.specs.Vec.{put}
+use Rattle.vectors.proofs.Texts.{take-put, put-fits}
 use Rattle.questions.specs.Questions.{Asked}
 use Rattle.fit.specs.Outputs.{Outputs}
 use Rattle.fit.specs.Fit.{FitResult, Outcome, refused, fitted, fit, after, places, Lengths}
@@ -28,13 +28,6 @@ refused-at s i (fitted f) e = impossible cc
 -- a refusal is compared by its number
 told-refused : (s : List ℕ) (i : ℕ) {a : Asked} {r : Answer} {b c : Buffers} {q : ℕ} → Answered a r b c → r ≡ answers.Refused q → eqb q (wordAt s i) ≡ sameOutcome (fit a (lent b)) s i
 told-refused s i {a} {r} {b} h e = refused-at s i (fit a (lent b)) (sym e ∙ h .gives .answer)
-
--- the first places of a buffer
-front : {A : Type 0} (t s : List A) (n : ℕ) {u : List A} → length t ≡ n → u ≡ put s 0 t → take n u ≡ t
-front t s n e p = ap (take n) p ∙ take-at t (drop (0 + length t) s) n e
-
-within : {A : Type 0} (t s : List A) {u : List A} → u ≡ put s 0 t → length t ≤ length u
-within t s p = omega (arith, ap length p, length-append t (drop (0 + length t) s))
 
 -- an answer with the numbers f: the fit, and where its places stand
 record Told (a : Asked) (b c : Buffers) (f : Summary) : Type 0 where
@@ -70,14 +63,14 @@ told-of a b c (fitted g) {r} {f} e p h z =
       whole = g;
       outcome = e;
       numbers = n;
-      trend = front (g .trend) (b .out .trend) (length (a .y)) (l .trend) trend-is;
-      cycle = front (g .cycle) (b .out .cycle) (length (a .y)) (l .cycle) cycle-is;
-      knots = front (g .knots) (b .out .knots) (f .knots) (sym k) knots-is;
-      dual = front (g .dual) (b .out .dual) (places a) (l .dual) dual-is;
-      trend-in = omega (arith, within (g .trend) (b .out .trend) trend-is, l .trend);
-      cycle-in = omega (arith, within (g .cycle) (b .out .cycle) cycle-is, l .cycle);
-      knots-in = omega (arith, within (g .knots) (b .out .knots) knots-is, k);
-      dual-in = omega (arith, within (g .dual) (b .out .dual) dual-is, l .dual);
+      trend = take-put (b .out .trend) (g .trend) (length (a .y)) trend-is (l .trend);
+      cycle = take-put (b .out .cycle) (g .cycle) (length (a .y)) cycle-is (l .cycle);
+      knots = take-put (b .out .knots) (g .knots) (f .knots) knots-is (sym k);
+      dual = take-put (b .out .dual) (g .dual) (places a) dual-is (l .dual);
+      trend-in = omega (arith, put-fits (b .out .trend) (g .trend) trend-is, l .trend);
+      cycle-in = omega (arith, put-fits (b .out .cycle) (g .cycle) cycle-is, l .cycle);
+      knots-in = omega (arith, put-fits (b .out .knots) (g .knots) knots-is, k);
+      dual-in = omega (arith, put-fits (b .out .dual) (g .dual) dual-is, l .dual);
       few = omega (arith, l .knots, k);
     }
 

@@ -5,10 +5,11 @@ use native.Mathlib.Omega.{arith}
 use mathlib.Core.Bool.{Bool}
 use mathlib.Core.List.{List}
 use lib.ListN.{length, take, replicate, length-replicate}
-use lib.Seq.{take-at, length-take-le}
+use lib.Seq.{length-take-le}
 use lib.Ieee.{Float, binary64, ofBits}
 use Rattle.vectors.specs.Vec.{put}
 use Rattle.vectors.proofs.Laws.{length-list}
+use Rattle.vectors.proofs.Texts.{take-put}
 use Rattle.questions.specs.Asking.{asking, lending}
 use Rattle.fit.specs.Fit.{fit}
 use Rattle.stored.specs.Words.{wordAt, doublesAt, lentAt}
@@ -27,7 +28,7 @@ first-long x n t h = let e : t - 0 ≡ t = omega arith in rw e (length-take-le t
 -- the first n places, after n doubles were loaded
 pub loaded : (s : List ℕ) (a n : ℕ) (u v : List Float) → v ≡ put u 0 (doublesAt s a n) → take n v ≡ doublesAt s a n
 unfolding doublesAt
-loaded s a n u v e = ap (take n) e ∙ take-at (doublesAt s a n) _ n (length-list n _)
+loaded s a n u v e = take-put u (doublesAt s a n) n e (length-list n _)
 
 pub loaded-long : (s : List ℕ) (a n : ℕ) (u v : List Float) → v ≡ put u 0 (doublesAt s a n) → n ≡ length (take n v)
 unfolding doublesAt

@@ -18,8 +18,7 @@ use Rattle.trend_filter.proofs.TwoCalls.{came}
 handed : (a : Asked) (r : Answer) (b c : Buffers) → Answered a r b c → (f : FitResult) → fit a (lent b) ≡ fitted f → take (places a) (c .out .dual) ≡ f .dual
 unfolding after
 handed a r b c h f e =
-    ap (λ (o : Outputs). take (places a) (o .dual)) (h .gives .out ∙ ap (λ (o : Outcome). after o (b .out)) e)
-    ∙ take-put (b .out .dual) (f .dual) (places a) (h .sizes f e .dual)
+    take-put (b .out .dual) (f .dual) (places a) (ap (λ (o : Outputs). o .dual) (h .gives .out ∙ ap (λ (o : Outcome). after o (b .out)) e)) (h .sizes f e .dual)
 
 pub dual-calls : DualCalls
 unfolding summaryOf

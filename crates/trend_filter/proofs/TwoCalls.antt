@@ -54,7 +54,7 @@ reason-told f x t = ap (λ (s : Summary). s .reason) t
 
 -- the first places of what a fit wrote are the fit's, so they are the same in two buffers
 same-first : {A : Type 0} (s s′ t : List A) {u v : List A} (n : ℕ) → length t ≡ n → u ≡ put s 0 t → v ≡ put s′ 0 t → take n v ≡ take n u
-same-first s s′ t n e p q = ap (take n) q ∙ take-put s′ t n e ∙ sym (ap (take n) p ∙ take-put s t n e)
+same-first s s′ t n e p q = take-put s′ t n q e ∙ sym (take-put s t n p e)
 
 same-places : (a : Asked) (f : FitResult) (b d c e : Outputs) → Lengths a f → c ≡ after (fitted f) b → e ≡ after (fitted f) d → SamePlaces (length (a .y)) (length (f .knots)) (places a) c e
 unfolding after

@@ -95,8 +95,11 @@ wrote-set {A} {d} {t} {e} {n} p x w = go (ltb p n) refl
 
 -- ---- t put at the start of v₀: what the first n places hold, and what stayed; and back
 
-pub take-put : {A : Type 0} (v₀ t : List A) (n : ℕ) → length t ≡ n → take n (put v₀ 0 t) ≡ t
-take-put v₀ t n e = take-at t (drop (0 + length t) v₀) n e
+pub take-put : {A : Type 0} (v₀ t : List A) {v : List A} (n : ℕ) → v ≡ put v₀ 0 t → length t ≡ n → take n v ≡ t
+take-put v₀ t n p e = ap (take n) p ∙ take-at t (drop (0 + length t) v₀) n e
+
+pub put-fits : {A : Type 0} (v₀ t : List A) {v : List A} → v ≡ put v₀ 0 t → length t ≤ length v
+put-fits v₀ t p = omega (arith, ap length p, length-append t (drop (0 + length t) v₀))
 
 pub put-start : (n : ℕ) (v₀ t v : List Float) → v ≡ put v₀ 0 t → length t ≡ n → n ≤ length v₀ → (part 0 n v ≡ t) × Kept 0 n v₀ v
 put-start n v₀ t v e size fits =

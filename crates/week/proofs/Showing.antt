@@ -5,7 +5,7 @@ use Prim.Native.Nat.{ℕ, _+_, _≤_, _<_}
 use native.Mathlib.Omega.{arith}
 use mathlib.Core.List.{List, [], _∷_}
 use mathlib.Core.Option.{Option, none, some}
-use lib.ListN.{length, getD, take, drop, length-append, List·getD-append}
+use lib.ListN.{length, getD, take, drop, List·getD-append}
 use lib.Seq.{take-all, length-take-le}
 use lib.Dec.{leb, ltb, eqb}
 use lib.Ieee.{Float}
@@ -14,7 +14,7 @@ use Rattle.float64.proofs.Clash.{impossible}
 use Rattle.io.specs.Counts.{Counts}
 use Rattle.vectors.specs.Vec.{put}
 use Rattle.vectors.specs.Parts.{Wrote}
-use Rattle.vectors.proofs.Texts.{wrote-length, take-put}
+use Rattle.vectors.proofs.Texts.{wrote-length, take-put, put-fits}
 use Rattle.records.specs.Entries.{Slot, Entry, slot, frames, settings, correction, countSettings, hoursOf}
 use Rattle.records.specs.Corrections.{weekOf, named}
 use Rattle.records.specs.Rates.{rated}
@@ -82,8 +82,8 @@ pub record Front {A : Type 0} (n : ℕ) (z t : List A) : Type 0 where
 
 fronted : {A : Type 0} {n : ℕ} {z : List A} (y t : List A) → z ≡ put y 0 t → n ≡ length t → Front n z t
 fronted {A} {n} {z} y t p e = record {
-  is = ap (take n) p ∙ take-put y t n (sym e);
-  room = omega (arith, ap length p, length-append t (drop (0 + length t) y));
+  is = take-put y t n p (sym e);
+  room = omega (arith, put-fits y t p);
 }
 
 pub record Taken (a : read.Reading) (st : Settings) (n : ℕ) (z : List Float) (q : List ℕ) : Type 0 where
@@ -146,7 +146,7 @@ was-fit st y ps (fitted f) before {r} {s} {t} {c} {d} {k} n g e h =
     let knot-at : (i : ℕ) → i < length (f .knots) → getD k i 0 ≡ getD (f .knots) i 0 = λ i j. ap (λ (v : List ℕ). getD v i 0) knots-is ∙ List·getD-append (f .knots) (drop (0 + length (f .knots)) (before .knots)) 0 i j in
     let r = knot-places (askedBy st y) weekLent f g in
     subst (λ (x : Summary). Listed st y ps x t c k) es (record {
-      text = ap (outcomeText (askedBy st y) ps) g ∙ rw (take-all (length y) ps (omega arith), trend-is, cycle-is, knots-is, take-put (before .trend) (f .trend) (length y) (l .trend), take-put (before .cycle) (f .cycle) (length y) (l .cycle), take-put (before .knots) (f .knots) (length (f .knots)) refl);
+      text = ap (outcomeText (askedBy st y) ps) g ∙ rw (take-all (length y) ps (omega arith), trend-is, cycle-is, knots-is, take-put (before .trend) (f .trend) (length y) refl (l .trend), take-put (before .cycle) (f .cycle) (length y) refl (l .cycle), take-put (before .knots) (f .knots) (length (f .knots)) refl refl);
       few = omega (arith, l .knots);
       below = λ i j. omega (arith, knot-at i j, r .below i j);
     })
