@@ -3,7 +3,7 @@
 
 The reading list: every file of it is there, the lines of document 01's part (imports with the blank line after them, and Known.antt, not counted) are
 below 1,300, no two definitions of it share a name, each has its comment, and what its files import is on it too, or a file of the kit that it names.
-The files under "Later requests" are counted apart, and so are the lines that a later request adds to those of document 01 (AMENDED).
+The files under "Later requests" are counted apart.
 The tables: every exported function of a crate stands in them.
 """
 import collections, os, re, sys
@@ -27,9 +27,7 @@ for item in re.findall(r"^\d+\. .*$", listed, re.M):
 DECLARED = re.compile(r"^(?:(?:abbrev|unfoldable|opaque|rec) )*pub (?:(?:abbrev|unfoldable|rec) )*(record |data |)([^\s:({]+)")
 # the four operations, which the file's head explains, and the constants, whose decimal stands beside them
 SELF_EVIDENT = {"_⊕_", "_⊖_", "_⊗_", "_⊘_", "c0", "c1", "c2", "half", "c0·99", "c0·01", "c0·2", "c1·2", "c1e-6", "c1e-10", "c1e-12", "infinity"}
-# how many lines a later request adds to document 01's definitions where it amends them: by fields and by names for what it cites
-AMENDED = {"A3": 12}
-total, added, blank, names, kit = -sum(AMENDED.values()), sum(AMENDED.values()), 0, collections.defaultdict(list), collections.defaultdict(set)
+total, added, blank, names, kit = 0, 0, 0, collections.defaultdict(list), collections.defaultdict(set)
 for crate, name in files:
     path = f"crates/{crate}/specs/{name}.antt"
     if not os.path.exists(path):

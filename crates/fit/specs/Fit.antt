@@ -99,16 +99,7 @@ pathEnd a e =
     record {
       trend = c .trend;
       dual = c .zc;
-      numbers = record {
-        gap = gapOf c;
-        «first_gap» = e .first;
-        «best_gap» = e .best;
-        objective = c .primal;
-        «n_iter» = e .n-iter;
-        improvements = e .improvements;
-        converged = le (gapOf c) (a .tol ⊗ c .primal);
-        reason = e .reason;
-      };
+      numbers = record { gap = gapOf c; «first_gap» = e .first; «best_gap» = e .best; objective = c .primal; «n_iter» = e .n-iter; improvements = e .improvements; converged = le (gapOf c) (a .tol ⊗ c .primal); reason = e .reason };
     }
 
 -- L1: lam 0 or -0, which is asked first; lam ≥ lam_max; the search
@@ -121,14 +112,7 @@ path a = cond (eqb (a .penalty) 2) (pathL2 a) (some (pathL1 a))
 
 -- what is written of a path: its trend, the cycle y - x, the knots of D x, its dual point, with lam_max and its numbers
 unfoldable pub written : Asked → Found → FitResult
-written a f = record {
-  trend = f .trend;
-  cycle = minus (a .y) (f .trend);
-  knots = knots (a .order) (a .y) (diffK (a .order) (f .trend));
-  dual = f .dual;
-  lam-max = lamMaxOf a;
-  numbers = f .numbers;
-}
+written a f = record { trend = f .trend; cycle = minus (a .y) (f .trend); knots = knots (a .order) (a .y) (diffK (a .order) (f .trend)); dual = f .dual; lam-max = lamMaxOf a; numbers = f .numbers }
 
 -- number 10 where the path met a bad pivot
 unfoldable pub outcome : Asked → Option Found → Outcome

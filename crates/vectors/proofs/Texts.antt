@@ -72,11 +72,15 @@ module _ {A : Type 0} where
   pub copied-all : (s : List A) {d e : List A} {at i : ℕ} → Wrote d at (take i s) e (at + i) → length s ≤ i → Wrote d at s e (at + i)
   copied-all s {d} {e} {at} {i} w h = rw (take-all i s h) at w
 
+-- the first n places of a list whose start was written over
+pub take-put : {A : Type 0} (v₀ t : List A) {v : List A} (n : ℕ) → v ≡ put v₀ 0 t → length t ≡ n → take n v ≡ t
+take-put v₀ t n p e = ap (take n) p ∙ take-at t (drop (0 + length t) v₀) n e
+
 -- what was written, and what lies past it, read off the slice
 pub wrote-take : {A : Type 0} {d t e : List A} {r : ℕ} → Wrote d 0 t e r → (take r e ≡ t) × (drop r e ≡ drop r d)
 wrote-take {A} {d} {t} {e} {r} w =
     let n : length t ≡ r = omega (arith, w .next) in
-    (ap (take r) (w .text) ∙ take-at t (drop (0 + length t) d) r n, ap (drop r) (w .text) ∙ drop-at t (drop (0 + length t) d) r n ∙ ap (λ (k : ℕ). drop k d) (sym (w .next)))
+    (take-put d t r (w .text) n, ap (drop r) (w .text) ∙ drop-at t (drop (0 + length t) d) r n ∙ ap (λ (k : ℕ). drop k d) (sym (w .next)))
 
 -- one place replaced of what stands at the start, if it has that place
 pub wrote-set : {A : Type 0} {d t e : List A} {n : ℕ} (p : ℕ) (x : A) → Wrote d 0 t e n → Wrote d 0 (set t p x) (cond (ltb p n) (set e p x) e) n
@@ -93,10 +97,7 @@ wrote-set {A} {d} {t} {e} {n} p x w = go (ltb p n) refl
     }
     go false h = rw (set-out t p x (omega (arith, ltb-false p n h, w .next))) w
 
--- ---- t put at the start of v₀: what the first n places hold, and what stayed; and back
-
-pub take-put : {A : Type 0} (v₀ t : List A) {v : List A} (n : ℕ) → v ≡ put v₀ 0 t → length t ≡ n → take n v ≡ t
-take-put v₀ t n p e = ap (take n) p ∙ take-at t (drop (0 + length t) v₀) n e
+-- ---- t put at the start of v₀: that it fits, what the first n places hold and what stayed; and back
 
 pub put-fits : {A : Type 0} (v₀ t : List A) {v : List A} → v ≡ put v₀ 0 t → length t ≤ length v
 put-fits v₀ t p = omega (arith, ap length p, length-append t (drop (0 + length t) v₀))
