@@ -6,7 +6,7 @@ mod flat;
 
 use flat::Ws;
 use oracle::cases::lam_max_of;
-use oracle::port::trend_filter_fit;
+use oracle::port::{trend_filter_fit, Lengths};
 use oracle::random::Random;
 use oracle::trend_filter::{l1_trend_filter, Penalty, TrendFilterOptions};
 use std::hint::black_box;
@@ -24,9 +24,11 @@ struct Buffers {
 }
 
 impl Buffers {
-    fn new(n: usize) -> Buffers {
+    /// What a fit of n places with this penalty needs, and no place more.
+    fn new(n: usize, penalty: u32) -> Buffers {
         let series = || vec![0.0; n];
-        Buffers { trend: series(), cycle: series(), knots: vec![0; n], dual: series(), work: vec![0.0; 40 * n], marks: vec![0; 2 * n], numbers: [0.0; 5], counts: [0; 5] }
+        let Lengths { work, marks, .. } = Lengths::exact(n, penalty);
+        Buffers { trend: series(), cycle: series(), knots: vec![0; n], dual: series(), work: vec![0.0; work], marks: vec![0; marks], numbers: [0.0; 5], counts: [0; 5] }
     }
 
     fn fit(&mut self, y: &[f64], lam: f64, tol: f64, max_iter: u64, order: u32, penalty: u32) -> u64 {
@@ -78,7 +80,7 @@ fn least(turns: usize, mut f: impl FnMut()) -> f64 {
 }
 
 fn fits(name: &str, ys: &[Vec<f64>], lams: &[f64], order: u32, penalty: u32, rounds: usize) {
-    let mut b = Buffers::new(ys[0].len());
+    let mut b = Buffers::new(ys[0].len(), penalty);
     let mut best = [f64::INFINITY; 2];
     let mut steps = 0;
     for _ in 0..rounds {
@@ -99,7 +101,7 @@ fn iteration(order: u32, n: usize, rounds: usize) -> f64 {
     let y = week(7, n);
     let lam = lam_max_of(&y, order) * 0.05;
     let (tol, few, many) = (1e-300, 5, 25);
-    let mut b = Buffers::new(n);
+    let mut b = Buffers::new(n, 1);
     let mut ws = Ws::new(n);
     let repeat = (200_000 / n).max(1);
     let mut best = [f64::INFINITY; 6];
@@ -143,7 +145,7 @@ fn main() {
         let (k, n): (u32, usize) = (k.parse().unwrap(), n.parse().unwrap());
         let y = week(7, n);
         let lam = lam_max_of(&y, k) * 0.05;
-        let mut b = Buffers::new(n);
+        let mut b = Buffers::new(n, 1);
         let mut ws = Ws::new(n);
         let steps: u64 = (0..20).map(|_| if who == "port" { b.fit(&y, lam, 1e-300, 25, k, 1) } else { flat_search(&y, lam, 1e-300, 25, k, &mut ws) }).sum();
         println!("{who} {k} {n}: {steps} iterations");

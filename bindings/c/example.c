@@ -1,4 +1,4 @@
-/* Document 01's listing by the C entry, and the dual point, after `rt staticlib trend_filter`:
+/* Document 01's listing by the C entry, what it needs and the dual point, after `rt staticlib trend_filter`:
  * cc example.c -L../../target/staticlib -ltrend_filter -o example */
 #include <inttypes.h>
 #include <stdio.h>
@@ -15,7 +15,13 @@ int main(void) {
         return 1;
     }
     const uint32_t order = 1, penalty = 1;
-    uint32_t refused = trend_filter_fit(y, N, 4000, 1e-8, 100, order, penalty, trend, N, cycle, N, knots, N, dual, N, work, 40 * N, marks, 2 * N, numbers, counts);
+    const uint64_t max_iter = 100;
+    uint64_t needs[3];
+    uint32_t refused = trend_filter_needs(N, max_iter, order, penalty, needs);
+    if (!refused) {
+        printf("needs %" PRIu64 " places of work and %" PRIu64 " of marks, at most %" PRIu64 " steps\n", needs[0], needs[1], needs[2]);
+        refused = trend_filter_fit(y, N, 4000, 1e-8, max_iter, order, penalty, trend, N, cycle, N, knots, N, dual, N, work, 40 * N, marks, 2 * N, numbers, counts);
+    }
     if (refused) {
         printf("refused %" PRIu32 "\n", refused);
         return 1;

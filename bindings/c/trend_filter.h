@@ -1,4 +1,4 @@
-/* The trend of a series, and when its search ends: the C entry of the proved static library.
+/* The trend of a series, when its search ends, and what it needs: the C entries of the proved static library.
  *
  * Link with libtrend_filter.a, which `rt staticlib trend_filter` writes.
  *
@@ -11,7 +11,7 @@
  *   6  tol is finite and above 0
  *   7  max_iter is at least 1
  *   8  trend, cycle, knots and dual have at least n places each
- *   9  work has at least 40 n places, marks at least 2 n
+ *   9  work and marks have the places that are needed: for L1 40 n and 2 n, for L2 16 n and none
  *  10  every pivot met is finite and above 0
  *
  * No check is owed before the call: whatever is passed, it ends, and nothing is read or written beyond the lengths given. The arrays
@@ -22,7 +22,15 @@
  *   numbers: lam_max, gap, first gap, best gap, objective
  *   counts:  knots, n_iter, improvements, converged (0 or 1), reason (0 to 4)
  * After a refusal: trend, cycle, knots, dual, numbers and counts are as found; after 1 to 9 work and marks are too.
- * After a fit or number 10 the first 40 n places of work and 2 n of marks are free (nothing is promised of them); later ones are as found.
+ * After a fit or number 10 the places of work and marks that are needed, the first 40 n and 2 n for L1, 16 n and none for L2, are free
+ * (nothing is promised of them); later ones are as found.
+ *
+ * trend_filter_needs tells this before the call, from n, max_iter, order and penalty alone. It asks questions 1, 2, 3 and 7 in this order,
+ * and answers 0 or the number of the first answered no. Any n and max_iter of 64 bits may be asked.
+ *   needs: places of work, places of marks, the most steps: for L1 the lesser of max_iter and 1,447,640, for L2 0
+ * After a refusal needs is as found. A call of trend_filter_fit for the same n, max_iter, order and penalty never reports an n_iter above
+ * the steps told, whatever the series, lam and tol; it isn't refused with 9 if it is lent the places told; and what trend_filter_needs
+ * refuses with 1, 2 or 3 it refuses with the same number, what that refuses with 7 it refuses with 4, 5, 6 or 7.
  *
  * dual is the point z at which the dual objective G of the gap was worked out, for whoever rechecks a fit; D takes the order-th differences:
  *   L2                   lam times each place of D trend, not clamped
@@ -64,6 +72,8 @@ uint32_t trend_filter_fit(const double *y, size_t y_len, double lam, double tol,
                           uint32_t penalty, double *trend, size_t trend_len, double *cycle, size_t cycle_len,
                           uint32_t *knots, size_t knots_len, double *dual, size_t dual_len, double *work,
                           size_t work_len, uint32_t *marks, size_t marks_len, double numbers[5], uint64_t counts[5]);
+
+uint32_t trend_filter_needs(uint64_t n, uint64_t max_iter, uint32_t order, uint32_t penalty, uint64_t needs[3]);
 
 /* The reasons, as counts[4] has them. */
 enum trend_filter_reason {

@@ -2,7 +2,7 @@
 use crate::cases::Case;
 use crate::counted;
 use crate::error::MlError;
-use crate::port::{Answer, Lengths, Port};
+use crate::port::{needed, Answer, Lengths, Port};
 use crate::trend_filter::{l1_trend_filter, Penalty, TrendFilterFit, TrendFilterOptions};
 
 /// How the cases of a run ended.
@@ -105,7 +105,7 @@ pub fn answer(c: &Case, l: &Lengths) -> Result<(TrendFilterFit, counted::Seen), 
     if known(c.order) && known(c.penalty) && n > 65_536 {
         return Err(3);
     }
-    match (expected(c), l.refused(n)) {
+    match (expected(c), l.refused(n, c.penalty)) {
         (Ok(_) | Err(10), Some(q)) => Err(q),
         (e, _) => e,
     }
@@ -137,13 +137,28 @@ fn same_fit(f: &TrendFilterFit, seen: &counted::Seen, a: &Answer) -> Result<(), 
     Ok(())
 }
 
+/// What a fit needs, asked before it: the port's answer is document 02's, and a fit takes no more steps than its ceiling.
+fn foretold(port: &mut Port, c: &Case, a: &Answer) -> Result<(), String> {
+    let n = c.y.len() as u64;
+    let (right, told) = (needed(n, c.max_iter, c.order, c.penalty), port.needs(n, c.max_iter, c.order, c.penalty)?);
+    if told != right {
+        return Err(format!("needs: {right:?} is right, {told:?} by the port"));
+    }
+    match told {
+        Ok([_, _, steps]) if a.refused == 0 && a.counts[1] > steps => Err(format!("{} steps, at most {steps} were foretold", a.counts[1])),
+        Err(q) if a.refused == 0 => Err(format!("a fit where needs was refused with {q}")),
+        _ => Ok(()),
+    }
+}
+
 /// Compares one case; an error says where the two differ.
 pub fn compare(port: &mut Port, c: &Case, l: &Lengths, t: &mut Tally) -> Result<(), String> {
     let n = c.y.len();
     let a = port.fit(c, l)?;
-    let e = Lengths::exact(n);
+    foretold(port, c, &a)?;
+    let e = Lengths::exact(n, c.penalty);
     let more = l.trend > n || l.cycle > n || l.knots > n || l.dual > n || l.work > e.work || l.marks > e.marks;
-    t.longer += (l.refused(n).is_none() && more) as u64;
+    t.longer += (l.refused(n, c.penalty).is_none() && more) as u64;
     t.kept += a.kept;
     match answer(c, l) {
         Err(q) if q == a.refused => {

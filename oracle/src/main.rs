@@ -4,7 +4,7 @@
 //! The first prints how the cases ended and 'N cases, 0 differences', or the first case that differs, and exits 1.
 use oracle::cases::{damaged, good, kinds, odd, short_ones, Case};
 use oracle::compare::{answer, compare, Tally};
-use oracle::port::{nothing_lent, Lengths, Port};
+use oracle::port::{needed, nothing_lent, Lengths, Port};
 use oracle::random::Random;
 use oracle::stored::answers;
 use std::process::exit;
@@ -27,7 +27,7 @@ fn run(port: &mut Port, name: &str, r: &mut Random, mut next: impl FnMut(&mut Ra
     while let Some(c) = next(r) {
         count += 1;
         let n = c.y.len();
-        let l = if count % 2 == 0 { Lengths::exact(n) } else { Lengths::any(r, n) };
+        let l = if count % 2 == 0 { Lengths::exact(n, c.penalty) } else { Lengths::any(r, n, c.penalty) };
         if let Err(e) = compare(port, &c, &l, &mut t) {
             println!("{name}: case {count} differs: {e}\n{c:?}\n{l:?}");
             exit(1);
@@ -47,26 +47,58 @@ fn only_here(port: &mut Port) -> u64 {
         assert_eq!((got, right), (want, want), "{c:?} {l:?}");
         count += 1;
     };
-    check(&asked(vec![0.0; 65_537]), Lengths::exact(65_537), 3);
-    check(&asked(vec![f64::NAN; 65_537]), Lengths::exact(65_537), 3);
-    check(&asked(vec![0.0; 65_536]), Lengths::exact(65_536), 0);
-    let c = asked(vec![1.0, 2.0, 4.0, 8.0]);
-    for i in 0..Lengths::BUFFERS {
-        let mut l = Lengths::exact(4);
-        *l.buffer(i) -= 1;
-        check(&c, l, if i < Lengths::ANSWERS { 8 } else { 9 });
+    check(&asked(vec![0.0; 65_537]), Lengths::exact(65_537, 1), 3);
+    check(&asked(vec![f64::NAN; 65_537]), Lengths::exact(65_537, 1), 3);
+    check(&asked(vec![0.0; 65_536]), Lengths::exact(65_536, 1), 0);
+    check(&Case { penalty: 2, ..asked(vec![0.0; 65_536]) }, Lengths::exact(65_536, 2), 0);
+    for penalty in [1, 2] {
+        let c = Case { penalty, ..asked(vec![1.0, 2.0, 4.0, 8.0]) };
+        for i in 0..Lengths::BUFFERS {
+            let mut l = Lengths::exact(4, penalty);
+            // L2 needs no marks, so that none can be too few
+            if *l.buffer(i) > 0 {
+                *l.buffer(i) -= 1;
+                check(&c, l, if i < Lengths::ANSWERS { 8 } else { 9 });
+            }
+        }
+        // What L2 needs is not enough for L1.
+        check(&c, Lengths::exact(4, 2), if penalty == 2 { 0 } else { 9 });
     }
     // A bad pivot is found after a short buffer.
-    let c = Case { y: vec![0.0; 3], lam: 1e308, penalty: 2, ..c };
-    let mut short = Lengths::exact(3);
-    short.marks -= 1;
+    let c = Case { lam: 1e308, penalty: 2, ..asked(vec![0.0; 3]) };
+    let mut short = Lengths::exact(3, 2);
+    short.work -= 1;
     check(&c, short, 9);
-    check(&c, Lengths::exact(3), 10);
+    check(&c, Lengths::exact(3, 2), 10);
     for (order, penalty, want) in [(0, 1, 1), (1, 0, 1), (1, 3, 1), (1, 1, 2), (2, 2, 2)] {
         assert_eq!(nothing_lent(order, penalty), want);
         count += 1;
     }
     println!("only here: {count} cases");
+    count
+}
+
+/// What a fit needs, by itself: every n and limit around an edge, and random ones, of all 64 bits.
+fn asked_first(port: &mut Port, r: &mut Random) -> u64 {
+    let edges: Vec<u64> = [0, 1 << 16, 1 << 32, 1 << 63, u64::MAX / 40, u64::MAX / 16, 1_447_640, 5 << 16].iter().flat_map(|&e: &u64| (0..9).map(move |i| e.wrapping_add(i).wrapping_sub(4))).collect();
+    let mut all = Vec::new();
+    for &n in &edges {
+        all.extend(edges.iter().map(|&max_iter| (n, max_iter)));
+    }
+    for _ in 0..2_000 {
+        let (a, b) = (r.below(64), r.below(64));
+        all.push((r.bits() >> a, r.bits() >> b));
+    }
+    let kinds = [0, 1, 2, 3, 255, 256, 257, 258, u32::MAX];
+    let mut count = 0;
+    for (n, max_iter) in all {
+        for (order, penalty) in kinds.iter().flat_map(|&o| kinds.iter().map(move |&p| (o, p))) {
+            let told = port.needs(n, max_iter, order, penalty).expect("a place outside what it may write");
+            assert_eq!(told, needed(n, max_iter, order, penalty), "needs of {n} {max_iter} {order} {penalty}");
+            count += 1;
+        }
+    }
+    println!("asked first: {count} cases");
     count
 }
 
@@ -94,6 +126,7 @@ fn main() {
     }
     let mut port = Port::default();
     let mut count = only_here(&mut port);
+    count += asked_first(&mut port, &mut Random::new(seed));
     let mut all = kinds().into_iter();
     count += run(&mut port, "orders and penalties", &mut Random::new(seed), |_| all.next());
     let mut all = short_ones().into_iter();

@@ -16,6 +16,21 @@ extern "C" {
         marks: *mut u32, marks_len: usize,
         numbers: *mut [f64; 5], counts: *mut [u64; 5],
     ) -> u32;
+
+    fn trend_filter_needs(n: u64, max_iter: u64, order: u32, penalty: u32, needs: *mut [u64; 3]) -> u32;
+}
+
+/// What document 02's A7 says that a fit needs: places of work and of marks, and the most steps; or the number of the first of
+/// questions 1, 2, 3 and 7 that is answered no.
+pub fn needed(n: u64, max_iter: u64, order: u32, penalty: u32) -> Result<[u64; 3], u32> {
+    match (order, penalty) {
+        (1 | 2, 1 | 2) if n <= order as u64 => Err(2),
+        (1 | 2, 1 | 2) if n > 65_536 => Err(3),
+        (1 | 2, 1 | 2) if max_iter == 0 => Err(7),
+        (1 | 2, 1) => Ok([40 * n, 2 * n, max_iter.min(1_447_640)]),
+        (1 | 2, 2) => Ok([16 * n, 0, 0]),
+        _ => Err(1),
+    }
 }
 
 const GUARD: usize = 8;
@@ -89,9 +104,10 @@ pub struct Lengths {
 }
 
 impl Lengths {
-    /// Exactly what a series of n needs.
-    pub fn exact(n: usize) -> Lengths {
-        Lengths { trend: n, cycle: n, knots: n, dual: n, work: 40 * n, marks: 2 * n }
+    /// Exactly what a series of n needs; where the penalty is neither 1 nor 2, what L1 would.
+    pub fn exact(n: usize, penalty: u32) -> Lengths {
+        let (work, marks) = if penalty == 2 { (16 * n, 0) } else { (40 * n, 2 * n) };
+        Lengths { trend: n, cycle: n, knots: n, dual: n, work, marks }
     }
 
     /// How many buffers there are.
@@ -105,8 +121,8 @@ impl Lengths {
     }
 
     /// What a series of n needs or more, each buffer by itself; in one of sixteen cases one or two are too short.
-    pub fn any(r: &mut Random, n: usize) -> Lengths {
-        let mut l = Lengths::exact(n);
+    pub fn any(r: &mut Random, n: usize, penalty: u32) -> Lengths {
+        let mut l = Lengths::exact(n, penalty);
         for i in 0..Self::BUFFERS {
             let more = r.below(n + 9);
             *l.buffer(i) += r.pick(&[0, 1, 3, more, 2 * more]);
@@ -114,7 +130,7 @@ impl Lengths {
         if r.below(16) == 0 {
             for _ in 0..1 + r.below(2) {
                 let i = r.below(Self::BUFFERS);
-                let needed = *Lengths::exact(n).buffer(i);
+                let needed = *Lengths::exact(n, penalty).buffer(i);
                 *l.buffer(i) = if r.below(2) == 0 { needed.saturating_sub(1) } else { r.below(needed + 1) };
             }
         }
@@ -122,10 +138,11 @@ impl Lengths {
     }
 
     /// The first of questions 8 and 9 that is answered no.
-    pub fn refused(&self, n: usize) -> Option<u32> {
+    pub fn refused(&self, n: usize, penalty: u32) -> Option<u32> {
+        let needed = Lengths::exact(n, penalty);
         if self.trend < n || self.cycle < n || self.knots < n || self.dual < n {
             Some(8)
-        } else if self.work < 40 * n || self.marks < 2 * n {
+        } else if self.work < needed.work || self.marks < needed.marks {
             Some(9)
         } else {
             None
@@ -146,6 +163,7 @@ pub struct Port {
     marks: Lent<u32>,
     numbers: Lent<u64>,
     counts: Lent<u64>,
+    needs: Lent<u64>,
 }
 
 pub struct Answer {
@@ -164,6 +182,17 @@ pub struct Answer {
 }
 
 impl Port {
+    /// What the port says that a fit needs, or its refusal; an error where a place changed that may not.
+    pub fn needs(&mut self, n: u64, max_iter: u64, order: u32, penalty: u32) -> Result<Result<[u64; 3], u32>, String> {
+        self.calls += 1;
+        let needs = self.needs.filled(3, mixed(self.calls << 3)) as *mut [u64; 3];
+        // SAFETY: needs is to three places.
+        let refused = unsafe { trend_filter_needs(n, max_iter, order, penalty, needs) };
+        self.needs.kept("needs", if refused == 0 { 3 } else { 0 })?;
+        let told = self.needs.first(3);
+        Ok(if refused == 0 { Ok([told[0], told[1], told[2]]) } else { Err(refused) })
+    }
+
     /// Calls the port; an error names a place outside what the contract lets it write.
     pub fn fit(&mut self, c: &Case, l: &Lengths) -> Result<Answer, String> {
         let n = c.y.len();
@@ -197,12 +226,13 @@ impl Port {
             return Err("y changed".into());
         }
         let m = if_fit(n.saturating_sub(c.order as usize));
+        let free = Lengths::exact(n, c.penalty);
         let kept = self.trend.kept("trend", if_fit(n))?
             + self.cycle.kept("cycle", if_fit(n))?
             + self.knots.kept("knots", count)?
             + self.dual.kept("dual", m)?
-            + self.work.kept("work", if_free(40 * n))?
-            + self.marks.kept("marks", if_free(2 * n))?
+            + self.work.kept("work", if_free(free.work))?
+            + self.marks.kept("marks", if_free(free.marks))?
             + self.numbers.kept("numbers", if_fit(5))?
             + self.counts.kept("counts", if_fit(5))?;
         let doubles = |v: &Lent<u64>, n: usize| v.first(n).iter().map(|&b| f64::from_bits(b)).collect();

@@ -66,12 +66,15 @@ pub fn list(seed: u64, each: usize) -> Vec<u64> {
         if have[g] < each {
             have[g] += 1;
             count += 1;
-            words(g, &c, &Lengths::exact(c.y.len()), &mut out);
+            words(g, &c, &Lengths::exact(c.y.len(), c.penalty), &mut out);
         }
     }
     for i in 0..each {
-        let c = good(&mut r, 14);
-        let mut l = Lengths::exact(c.y.len());
+        // L2 needs no marks, so that none can be too few
+        let (c, mut l) = std::iter::repeat_with(|| good(&mut r, 14))
+            .map(|c| (Lengths::exact(c.y.len(), c.penalty), c))
+            .find_map(|(mut l, c)| (*l.buffer(i % Lengths::BUFFERS) > 0).then_some((c, l)))
+            .unwrap();
         *l.buffer(i % Lengths::BUFFERS) -= 1;
         count += 1;
         words(1, &c, &l, &mut out);
@@ -81,7 +84,7 @@ pub fn list(seed: u64, each: usize) -> Vec<u64> {
         let y: Vec<f64> = (0..168).map(|h| (h as f64 * 20.0 + if h > 90 { 2500.0 } else { 0.0 } + r.normal() * 400.0).round()).collect();
         let lam = lam_max_of(&y, order) * part;
         count += 1;
-        words(11, &Case { y, lam, tol: 1e-8, max_iter: 100, order, penalty: 1 }, &Lengths::exact(168), &mut out);
+        words(11, &Case { y, lam, tol: 1e-8, max_iter: 100, order, penalty: 1 }, &Lengths::exact(168, 1), &mut out);
     }
     out[0] = count;
     out

@@ -2,6 +2,8 @@
 // each number, place and refusal with the answer of the Rust. Before a call every place lent, and every place of the
 // guards around it, holds a NaN of its own payload; after it the bits of every place that must stay as found are compared.
 // A TFC1, from before dual was lent, is lent n places of it; its .exp doesn't have what a fit writes there.
+// With --before-A7 the answers are from before L2 needed less than L1: where such a folder refuses an L2 call with 9 that
+// now has room, its answer is due that the same call gets with 40 n places of work and 2 n of marks.
 #include <dirent.h>
 #include <inttypes.h>
 #include <stdint.h>
@@ -85,7 +87,7 @@ static unsigned char *read_file(const char *dir, const char *name, const char *e
 
 static uint32_t u32_at(const unsigned char *d, size_t i) { uint32_t v; memcpy(&v, d + i, 4); return v; }
 
-static long wrong;
+static long wrong, changed;
 
 static void say(const char *name, const char *what) {
     if (wrong++ < 40) printf("%s: %s\n", name, what);
@@ -114,65 +116,112 @@ static char *listing(size_t n, uint32_t order, uint32_t penalty, const double *t
     return out;
 }
 
-static void run(const char *dir, const char *name) {
-    size_t len, elen;
-    unsigned char *d = read_file(dir, name, "case", &len);
-    char *e = (char *)read_file(dir, name, "exp", &elen);
+// A stored call: what is asked, and how many places are lent.
+typedef struct {
+    uint32_t order, penalty;
+    size_t n, trend, cycle, knots, work, marks, dual;
+    double lam, tol;
+    uint64_t max_iter;
+    const unsigned char *y;
+    int with_dual;
+} Call;
+
+// What a call answered, and what it was lent.
+typedef struct {
+    uint32_t refused;
+    Lent y, trend, cycle, knots, dual, work, marks, numbers, counts;
+} Answer;
+
+static Answer answer(Call c) {
+    Answer a = {0, lend(8 * c.n), lend(8 * c.trend), lend(8 * c.cycle), lend(4 * c.knots), lend(8 * c.dual), lend(8 * c.work), lend(4 * c.marks), lend(40), lend(40)};
+    memcpy(a.y.at, c.y, 8 * c.n);
+    a.refused = trend_filter_fit((double *)a.y.at, c.n, c.lam, c.tol, c.max_iter, c.order, c.penalty, (double *)a.trend.at, c.trend, (double *)a.cycle.at, c.cycle,
+                                 (uint32_t *)a.knots.at, c.knots, (double *)a.dual.at, c.dual, (double *)a.work.at, c.work, (uint32_t *)a.marks.at, c.marks,
+                                 (double *)a.numbers.at, (uint64_t *)a.counts.at);
+    return a;
+}
+
+static void give_back(Answer a) {
+    free(a.y.all), free(a.trend.all), free(a.cycle.all), free(a.knots.all), free(a.dual.all), free(a.work.all), free(a.marks.all), free(a.numbers.all), free(a.counts.all);
+}
+
+// The answer as an .exp has it.
+static char *text(Call c, Answer a) {
+    const uint64_t *counts = (uint64_t *)a.counts.at;
+    if (a.refused || counts[0] > c.knots || counts[0] > c.n) {
+        char *out = malloc(40);
+        if (a.refused) sprintf(out, "refused %u\n", a.refused);
+        else sprintf(out, "more knots than places\n");
+        return out;
+    }
+    return listing(c.n, c.order, c.penalty, (double *)a.trend.at, (double *)a.cycle.at, (uint32_t *)a.knots.at, c.with_dual ? (double *)a.dual.at : NULL, (double *)a.numbers.at, counts);
+}
+
+// Whether the call is a stored one, and which.
+static int read_call(const unsigned char *d, size_t len, Call *c) {
     int with_dual = len >= 64 && !memcmp(d, "TFC2", 4);
     // where lam stands: after the lengths lent
     const size_t at = with_dual ? 40 : 32, from = at + 24;
-    if (len < from || (!with_dual && memcmp(d, "TFC1", 4)) || len != from + 8 * (size_t)u32_at(d, 8)) { say(name, "no stored case"); free(d), free(e); return; }
-    uint32_t order = d[4], penalty = d[5];
-    size_t n = u32_at(d, 8), lt = u32_at(d, 12), lc = u32_at(d, 16), lk = u32_at(d, 20), lw = u32_at(d, 24), lm = u32_at(d, 28);
-    size_t ld = with_dual ? u32_at(d, 32) : n;
-    double lam = double_of(d + at), tol = double_of(d + at + 8);
-    uint64_t max_iter;
-    memcpy(&max_iter, d + at + 16, 8);
-    Lent y = lend(8 * n), t = lend(8 * lt), c = lend(8 * lc), k = lend(4 * lk), z = lend(8 * ld), w = lend(8 * lw), m = lend(4 * lm);
-    Lent nu = lend(40), co = lend(40);
-    memcpy(y.at, d + from, 8 * n);
-    uint32_t got = trend_filter_fit((double *)y.at, n, lam, tol, max_iter, order, penalty, (double *)t.at, lt, (double *)c.at, lc,
-                                    (uint32_t *)k.at, lk, (double *)z.at, ld, (double *)w.at, lw, (uint32_t *)m.at, lm, (double *)nu.at, (uint64_t *)co.at);
-    if (memcmp(y.at, d + from, 8 * n) || !kept(y, 8 * n)) say(name, "y changed");
-    if (got) {
-        char text[40];
-        snprintf(text, sizeof text, "refused %u\n", got);
-        if (strcmp(text, e)) say(name, "another refusal, or a refusal where a fit is due");
-        if (!kept(t, 0) || !kept(c, 0) || !kept(k, 0) || !kept(z, 0) || !kept(nu, 0) || !kept(co, 0)) say(name, "something was written before a refusal");
-        if (!kept(w, got == 10 ? 8 * 40 * n : 0) || !kept(m, got == 10 ? 4 * 2 * n : 0)) say(name, "work or marks changed before a refusal");
-    } else if (strncmp(e, "fit ", 4)) {
-        say(name, "a fit where a refusal is due");
-    } else {
-        const uint64_t *cnt = (uint64_t *)co.at;
-        if (cnt[0] > lk || cnt[0] > n) say(name, "more knots than places");
-        else {
-            char *g = listing(n, order, penalty, (double *)t.at, (double *)c.at, (uint32_t *)k.at, with_dual ? (double *)z.at : NULL, (double *)nu.at, cnt);
-            if (strcmp(g, e)) say(name, "another answer");
-            free(g);
-            if (!kept(t, 8 * n) || !kept(c, 8 * n) || !kept(k, 4 * cnt[0]) || !kept(z, 8 * (n - order))) say(name, "a place past the answer changed");
-        }
-        if (!kept(w, 8 * 40 * n) || !kept(m, 4 * 2 * n)) say(name, "work or marks changed past the free places");
-        if (!kept(nu, 40) || !kept(co, 40)) say(name, "a guard of the numbers changed");
+    if (len < from || (!with_dual && memcmp(d, "TFC1", 4)) || len != from + 8 * (size_t)u32_at(d, 8)) return 0;
+    *c = (Call){d[4], d[5], u32_at(d, 8), u32_at(d, 12), u32_at(d, 16), u32_at(d, 20), u32_at(d, 24), u32_at(d, 28), 0, double_of(d + at), double_of(d + at + 8), 0, d + from, with_dual};
+    c->dual = with_dual ? u32_at(d, 32) : c->n;
+    memcpy(&c->max_iter, d + at + 16, 8);
+    return 1;
+}
+
+static void run(const char *dir, const char *name, int before_a7) {
+    size_t len, elen;
+    unsigned char *d = read_file(dir, name, "case", &len);
+    char *e = (char *)read_file(dir, name, "exp", &elen);
+    Call c;
+    if (!read_call(d, len, &c)) { say(name, "no stored case"); free(d), free(e); return; }
+    // what the call needs, by document 02's A7
+    const size_t work = (c.penalty == 2 ? 16 : 40) * c.n, marks = c.penalty == 2 ? 0 : 2 * c.n;
+    if (before_a7 && c.penalty == 2 && !strcmp(e, "refused 9\n") && c.work >= work) {
+        Call longer = c;
+        longer.work = 40 * c.n, longer.marks = 2 * c.n;
+        Answer a = answer(longer);
+        free(e), e = text(longer, a), changed++;
+        if (a.refused == 9) say(name, "refused with 9 where 40 n and 2 n are lent");
+        give_back(a);
     }
-    free(d), free(e), free(y.all), free(t.all), free(c.all), free(k.all), free(z.all), free(w.all), free(m.all), free(nu.all), free(co.all);
+    Answer a = answer(c);
+    char *g = text(c, a);
+    if (strcmp(g, e)) say(name, a.refused ? "another refusal, or a refusal where a fit is due" : "another answer, or a fit where a refusal is due");
+    const int fit = !a.refused, free_scratch = fit || a.refused == 10;
+    const uint64_t *counts = (uint64_t *)a.counts.at;
+    const size_t count = fit && counts[0] <= c.knots ? counts[0] : 0;
+    if (memcmp(a.y.at, c.y, 8 * c.n) || !kept(a.y, 8 * c.n)) say(name, "y changed");
+    if (!kept(a.trend, fit ? 8 * c.n : 0) || !kept(a.cycle, fit ? 8 * c.n : 0) || !kept(a.knots, 4 * count) || !kept(a.dual, fit ? 8 * (c.n - c.order) : 0))
+        say(name, fit ? "a place past the answer changed" : "something was written before a refusal");
+    if (!kept(a.numbers, fit ? 40 : 0) || !kept(a.counts, fit ? 40 : 0)) say(name, "numbers or counts changed, or a guard of theirs");
+    if (!kept(a.work, free_scratch ? 8 * work : 0) || !kept(a.marks, free_scratch ? 4 * marks : 0)) say(name, "work or marks changed past the free places");
+    uint64_t needs[3];
+    uint32_t unneeded = trend_filter_needs(c.n, c.max_iter, c.order, c.penalty, needs);
+    if (fit && (unneeded || needs[0] != work || needs[1] != marks || needs[2] < counts[1])) say(name, "needs told something else than the fit kept to");
+    free(d), free(e), free(g);
+    give_back(a);
 }
 
 int main(int argc, char **argv) {
     long cases = 0;
-    if (argc != 2) { fprintf(stderr, "usage: run FOLDER, which holds NAME.case and NAME.exp\n"); return 2; }
+    const int before_a7 = argc == 3 && !strcmp(argv[1], "--before-A7");
+    if (argc != 2 + before_a7) { fprintf(stderr, "usage: run [--before-A7] FOLDER, which holds NAME.case and NAME.exp\n"); return 2; }
+    const char *folder = argv[1 + before_a7];
     struct dirent **names;
-    int all = scandir(argv[1], &names, NULL, alphasort);
-    if (all < 0) { perror(argv[1]); return 2; }
+    int all = scandir(folder, &names, NULL, alphasort);
+    if (all < 0) { perror(folder); return 2; }
     for (int i = 0; i < all; i++) {
         char *end = strstr(names[i]->d_name, ".case");
         if (end && !end[5]) {
             *end = 0;
-            run(argv[1], names[i]->d_name);
+            run(folder, names[i]->d_name, before_a7);
             cases++;
         }
         free(names[i]);
     }
     free(names);
+    if (changed) printf("%ld of them are refused with 9 in the folder and not from A7 on\n", changed);
     printf("%ld cases, %ld differences\n", cases, wrong);
     return wrong != 0 || cases == 0;
 }

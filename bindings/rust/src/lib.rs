@@ -4,6 +4,7 @@
 //!
 //! What the port knows beyond the source, how the search went, why it stopped and the dual point, is [`Search`];
 //! [`l1_trend_filter_with_search`] gives it beside the fit. The refusals are [`Refused`], which holds the question's number and says it in words.
+//! [`TrendFilterOptions::needs`] tells before a fit how much memory it will take and how many steps at most.
 //!
 //! The floating-point environment is taken as a program starts: rounding to nearest, subnormal numbers kept, no exception that
 //! traps. Rust assumes the same of all its code. Where other code on the thread has changed it (C's `fesetround` or
@@ -36,6 +37,43 @@ pub struct TrendFilterOptions {
 impl Default for TrendFilterOptions {
     fn default() -> Self {
         Self { order: 2, penalty: Penalty::L1, tol: 1e-8, max_iter: 10_000 }
+    }
+}
+
+/// What a fit needs, known before it runs: see [`TrendFilterOptions::needs`].
+#[derive(Debug, Clone, Copy, PartialEq, Eq)]
+pub struct Needs {
+    /// Places of `f64` that it works in: 40 n for L1, 16 n for L2.
+    pub work: usize,
+    /// Places of `u32` that it marks: 2 n for L1, none for L2.
+    pub marks: usize,
+    /// The most steps: `n_iter` of the fit is never above this. For L1 the lesser of `max_iter` and 1,447,640, for L2 0.
+    pub steps: usize,
+}
+
+impl TrendFilterOptions {
+    /// What the fit of a series of `n` places with these options needs, whatever the series, its `lam` and `tol` are. The fit takes
+    /// `8 * work + 4 * marks` bytes to work in, given back when it ends, and at most `36 * n` for its answer.
+    ///
+    /// # Errors
+    /// [`Refused`] with the number of the first of questions 1, 2, 3 and 7 answered no.
+    pub fn needs(&self, n: usize) -> Result<Needs, Refused> {
+        let mut needs = [0; 3];
+        // SAFETY: needs has three places, and the entry asks nothing more.
+        let refused = unsafe { trend_filter_needs(n as u64, self.max_iter as u64, self.order_number(), self.penalty_number(), &mut needs) };
+        let [work, marks, steps] = needs.map(|x| x as usize);
+        if refused == 0 { Ok(Needs { work, marks, steps }) } else { Err(Refused(refused)) }
+    }
+
+    fn order_number(&self) -> u32 {
+        u32::try_from(self.order).unwrap_or(u32::MAX)
+    }
+
+    fn penalty_number(&self) -> u32 {
+        match self.penalty {
+            Penalty::L1 => 1,
+            Penalty::L2 => 2,
+        }
     }
 }
 
@@ -99,7 +137,7 @@ impl Reason {
             2 => Reason::LimitSpent,
             3 => Reason::Stalled,
             4 => Reason::PivotLost,
-            _ => panic!("the static library is older than this crate: it returns no reason"),
+            _ => panic!("the static library is not this crate's: it returns the reason {number}"),
         }
     }
 }
@@ -158,6 +196,8 @@ extern "C" {
         marks: *mut u32, marks_len: usize,
         numbers: *mut [f64; 5], counts: *mut [u64; 5],
     ) -> u32;
+
+    fn trend_filter_needs(n: u64, max_iter: u64, order: u32, penalty: u32, needs: *mut [u64; 3]) -> u32;
 }
 
 /// The trend of `y` with the penalty weight `lam`.
@@ -174,34 +214,30 @@ pub fn l1_trend_filter(y: &[f64], lam: f64, opts: TrendFilterOptions) -> Result<
 /// [`Refused`] with the number of the first question answered no.
 pub fn l1_trend_filter_with_search(y: &[f64], lam: f64, opts: TrendFilterOptions) -> Result<(TrendFilterFit, Search), Refused> {
     let n = y.len();
-    if n > 65_536 {
-        // Asked here so that no memory is taken for a series that is refused anyway; the earlier questions are the order's.
-        return Err(Refused(if opts.order == 1 || opts.order == 2 { 3 } else { 1 }));
-    }
+    // Asked first, so that no memory is taken for a series that is refused anyway, and none that isn't needed.
+    let need = match opts.needs(n) {
+        Ok(need) => need,
+        // The fit asks 4 to 6 before it asks this; it doesn't come to its work and marks.
+        Err(Refused(7)) => Needs { work: 0, marks: 0, steps: 0 },
+        Err(refused) => return Err(refused),
+    };
     let mut trend = vec![0.0; n];
     let mut cycle = vec![0.0; n];
     let mut knots = vec![0u32; n];
     let mut dual = vec![0.0; n];
-    let mut work = vec![0.0; 40 * n];
-    let mut marks = vec![0u32; 2 * n];
+    let mut work = vec![0.0; need.work];
+    let mut marks = vec![0u32; need.marks];
     let mut numbers = [0.0; 5];
     let mut counts = [u64::MAX; 5]; // no reason has this number
-    let penalty = match opts.penalty {
-        Penalty::L1 => 1,
-        Penalty::L2 => 2,
-    };
-    let order = u32::try_from(opts.order).unwrap_or(u32::MAX);
     // SAFETY: each pointer is to as many places as the length beside it, none overlap, and the entry asks nothing more.
     let refused = unsafe {
         trend_filter_fit(
-            y.as_ptr(), n, lam, opts.tol, opts.max_iter as u64, order, penalty,
+            y.as_ptr(), n, lam, opts.tol, opts.max_iter as u64, opts.order_number(), opts.penalty_number(),
             trend.as_mut_ptr(), n, cycle.as_mut_ptr(), n, knots.as_mut_ptr(), n, dual.as_mut_ptr(), n,
             work.as_mut_ptr(), work.len(), marks.as_mut_ptr(), marks.len(),
             &mut numbers, &mut counts,
         )
     };
-    // A library from before dual was lent takes it for work, which is then too short; otherwise question 9 is always answered yes.
-    assert!(refused != 9, "the static library is older than this crate: it takes no dual");
     if refused != 0 {
         return Err(Refused(refused));
     }

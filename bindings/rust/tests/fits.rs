@@ -1,4 +1,4 @@
-use trend_filter::{l1_trend_filter, l1_trend_filter_with_search, Penalty, Reason, Refused, Search, TrendFilterFit, TrendFilterOptions};
+use trend_filter::{l1_trend_filter, l1_trend_filter_with_search, Needs, Penalty, Reason, Refused, Search, TrendFilterFit, TrendFilterOptions};
 
 fn opts(order: usize, penalty: Penalty) -> TrendFilterOptions {
     TrendFilterOptions { order, penalty, tol: 1e-8, max_iter: 100 }
@@ -145,6 +145,27 @@ fn reasons_in_numbers_and_words() {
     let all = [Reason::ClosedPath, Reason::GapSmall, Reason::LimitSpent, Reason::Stalled, Reason::PivotLost];
     assert_eq!(all.map(|r| r as u8), [0, 1, 2, 3, 4]);
     assert_eq!(all.map(|r| r.to_string()), ["closed path", "gap small enough", "limit spent", "stalled", "pivot lost"]);
+}
+
+#[test]
+fn what_a_fit_needs() {
+    let limit = |penalty, max_iter| TrendFilterOptions { max_iter, ..opts(2, penalty) };
+    assert_eq!(limit(Penalty::L1, 100).needs(168), Ok(Needs { work: 6720, marks: 336, steps: 100 }));
+    assert_eq!(limit(Penalty::L2, 100).needs(168), Ok(Needs { work: 2688, marks: 0, steps: 0 }));
+    assert_eq!(limit(Penalty::L1, usize::MAX).needs(65_536), Ok(Needs { work: 2_621_440, marks: 131_072, steps: 1_447_640 }));
+    assert_eq!(limit(Penalty::L1, 1_447_639).needs(3).unwrap().steps, 1_447_639);
+    // in this order: 1, 2, 3 and 7
+    assert_eq!(TrendFilterOptions { order: 3, ..limit(Penalty::L1, 0) }.needs(0), Err(Refused(1)));
+    assert_eq!(limit(Penalty::L1, 0).needs(2), Err(Refused(2)));
+    assert_eq!(limit(Penalty::L2, 0).needs(usize::MAX), Err(Refused(3)));
+    assert_eq!(limit(Penalty::L2, 0).needs(65_536), Err(Refused(7)));
+    // a fit asks 4 before 7
+    assert_eq!(l1_trend_filter(&[0.0, f64::NAN, 1.0], 1.0, limit(Penalty::L1, 0)), Err(Refused(4)));
+    for (penalty, lam) in [(Penalty::L1, 1000.0), (Penalty::L1, 0.0), (Penalty::L2, 1600.0)] {
+        let o = TrendFilterOptions { order: 1, ..limit(penalty, 7) };
+        let f = l1_trend_filter(&[8000.0, 0.0, 100.0], lam, o).unwrap();
+        assert!(f.n_iter <= o.needs(3).unwrap().steps);
+    }
 }
 
 #[test]

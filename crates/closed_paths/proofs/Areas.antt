@@ -1,12 +1,12 @@
 -- Calls on an area of work: the certificate at z*, L2's system, and what each leaves. Assumes nothing.
 use mathlib.Core.Path.{_≡_, refl, sym, ap, subst, _∙_}
-use mathlib.Core.Bool.{Bool, true, false}
+use mathlib.Core.Bool.{Bool, true, false, cond}
 use mathlib.Core.List.{List}
 use mathlib.Core.Option.{Option, none, some}
 use Prim.Native.Nat.{ℕ, _+_, _-_, _*_, _≤_}
 use native.Mathlib.Nat.{add-zero, mul-le-mul-left}
 use native.Mathlib.Omega.{arith}
-use lib.Dec.{T}
+use lib.Dec.{T, eqb}
 use lib.ListN.{length, take, drop}
 use lib.Ieee.{Float, nan}
 use Rattle.float64.specs.Ops.{_⊖_}
@@ -16,21 +16,29 @@ use Rattle.vectors.proofs.Parts.{length-part, putBack, partOf-range, part-put}
 use Rattle.differences.specs.Diff.{gramRow}
 use Rattle.certificate.specs.Certificate.{gapOf}
 use Rattle.certificate.specs.Run.{Certified}
-use Rattle.dual_point.specs.Lanes.{candidateTrend}
+use Rattle.dual_point.specs.Lanes.{candidateTrend, searchArea}
 use Rattle.gram.specs.Gram.{zstar}
 use Rattle.gram.specs.Prepared.{preparation}
 use Rattle.l2.specs.L2.{soundL2, trendL2, gapL2, objectiveL2}
 use Rattle.l2.specs.Solved.{SolvedL2}
-use Rattle.questions.specs.Questions.{Asked}
+use Rattle.questions.specs.Questions.{Asked, needsFor}
 use Rattle.fit.proofs.Passed.{foundL2}
 use Rattle.fit.specs.Fit.{Found, places, certificateAt, closed, pathFlat, pathL2}
 use Rattle.closed_paths.specs.declared.Trend.{Trend}
 use Rattle.closed_paths.specs.declared.Trend.the-variants.{Series, Solution, Won}
-use Rattle.closed_paths.specs.Trends.{solutionLane, trendOf, foundOf}
+use Rattle.closed_paths.specs.Trends.{solutionLane, ridgeArea, pathArea, trendOf, foundOf}
 
 -- a change within a wider stretch
 pub kept-wide : {a n : ℕ} {s₀ s : List Float} (b k : ℕ) → Kept a n s₀ s → b ≤ a → a + n ≤ b + k → Kept b k s₀ s
 kept-wide {a} {n} {s₀} {s} b k w h l = kept-then b k w (kept-none b 0 s) h (omega arith) l (omega arith)
+
+-- the preparation and a path's area behind it are within the places of work that a fit needs
+pub work-fits : (a : Asked) → preparation (length (a .y)) + pathArea (a .penalty) (length (a .y)) ≤ needsFor a .work
+work-fits a = go (eqb (a .penalty) 2)
+  where
+    go : (p : Bool) → preparation (length (a .y)) + cond p (ridgeArea (length (a .y))) (searchArea (length (a .y))) ≤ cond p (16 * length (a .y)) (40 * length (a .y))
+    go true = omega arith
+    go false = omega arith
 
 -- something was found, or nothing
 abbrev isFound : Option Found → Type 0

@@ -3,6 +3,7 @@ use mathlib.Core.Bool.{cond}
 use mathlib.Core.List.{List}
 use mathlib.Core.Option.{Option, none, some}
 use Prim.Native.Nat.{ℕ, _+_, _-_, _*_}
+use lib.Dec.{eqb}
 use lib.ListN.{length}
 use lib.Ieee.{Float}
 use Rattle.vectors.specs.Parts.{part}
@@ -18,6 +19,22 @@ use Rattle.closed_paths.specs.declared.Path.the-variants.{Lost, Done}
 -- L2's trend: the rows of its system end there
 abbrev pub solutionLane : ℕ → ℕ
 solutionLane n = 8 * n
+
+-- the area of L2 behind the preparation: the rows, at most 3·n places, and the trend
+abbrev pub ridgeArea : ℕ → ℕ
+ridgeArea n = 4 * n
+
+-- the area of a path behind the preparation, by the penalty
+abbrev pub pathArea : ℕ → ℕ → ℕ
+pathArea penalty n = cond (eqb penalty 2) (ridgeArea n) (searchArea n)
+
+-- the marks that a search's polish takes
+abbrev pub searchMarks : ℕ → ℕ
+searchMarks n = 2 * n
+
+-- the marks that a path takes
+abbrev pub pathMarks : ℕ → ℕ → ℕ
+pathMarks penalty n = cond (eqb penalty 2) 0 (searchMarks n)
 
 -- the trend in the run w
 unfoldable pub trendOf : List Float → List Float → Trend → List Float

@@ -10,6 +10,8 @@ ghost use lib.ListN.{length};
 ghost use Rattle.differences.specs.Series.{Series};
 ghost use Rattle.fit.specs.Fit.{closed, pathZero, pathFlat, pathL2};
 ghost use Rattle.questions.specs.Asking.{asking};
+ghost use Rattle.dual_point.specs.Lanes.{searchArea};
+ghost use Rattle.closed_paths.specs.Trends.{ridgeArea};
 ghost use Rattle.closed_paths.specs.Taken.{AsksL1, AsksL2, Differences, Finds, Took};
 
 // Where a trend stands: the series is the trend; after the system of L2; or in the search's area, the candidate's if it won and else the iterate's.
@@ -33,7 +35,7 @@ pub enum Path {
 
 // The first places of cycle become D y, which stands in the preparation.
 pub fn differences_to(cycle: &mut [f64], work: &[f64], y: &[f64], k: usize)
-    requires { ⌜ AsksL1 k (now y) (now work) (now cycle) ⌝ }
+    requires { ⌜ AsksL1 k (searchArea (length (now y))) (now y) (now work) (now cycle) ⌝ }
     ensures { λ _. ⌜ Differences k (now (y .entry)) (now (cycle .entry)) (now (cycle .exit)) ⌝ }
 {
     let n = y.len();
@@ -61,7 +63,7 @@ pub fn closed(gap: f64, objective: f64) -> Numbers
 // L1 with lam 0: the series is the trend, and the dual point is 0.
 pub fn zero_path(dual: &mut [f64], y: &[f64], k: usize) -> Finding
     requires { ⌜ Series k (length (now y)) × (length (now y) - k ≤ length (now dual)) ⌝ }
-    ensures { λ r. ⌜ ((w c : List Float) → Finds (λ (i : (Float × Float) × (ℕ × ℕ)). pathZero (asking (now (y .entry)) (i .0 .0) (i .0 .1) (i .1 .0) k (i .1 .1))) k (now (y .entry))
+    ensures { λ r. ⌜ ((l : ℕ) (w c : List Float) → Finds (λ (i : (Float × Float) × (ℕ × ℕ)). pathZero (asking (now (y .entry)) (i .0 .0) (i .0 .1) (i .1 .0) k (i .1 .1))) k l (now (y .entry))
         w w c c (now (dual .entry)) (now (dual .exit)) r) ⌝ }
 {
     let m = y.len() - k;
@@ -82,8 +84,8 @@ pub fn flat_path(
     lam: f64,
     k: usize,
 ) -> Finding
-    requires { ⌜ AsksL1 k (now y) (now work) (now cycle) × (length (now y) - k ≤ length (now dual)) ⌝ }
-    ensures { λ r. ⌜ Finds (λ (i : Float × (ℕ × ℕ)). pathFlat (asking (now (y .entry)) lam (i .0) (i .1 .0) k (i .1 .1))) k (now (y .entry))
+    requires { ⌜ AsksL1 k (searchArea (length (now y))) (now y) (now work) (now cycle) × (length (now y) - k ≤ length (now dual)) ⌝ }
+    ensures { λ r. ⌜ Finds (λ (i : Float × (ℕ × ℕ)). pathFlat (asking (now (y .entry)) lam (i .0) (i .1 .0) k (i .1 .1))) k (searchArea (length (now (y .entry)))) (now (y .entry))
         (now (work .entry)) (now (work .exit)) (now (cycle .entry)) (now (cycle .exit)) (now (dual .entry)) (now (dual .exit)) r ⌝ }
 {
     differences_to(cycle, work, y, k);
@@ -103,8 +105,8 @@ pub fn flat_path(
 
 // L2: lost where a pivot of its system is bad. The system's rows end where the trend is to stand.
 pub fn l2_path(work: &mut [f64], dual: &mut [f64], y: &[f64], lam: f64, k: usize) -> Path
-    requires { ⌜ AsksL2 k (length (now y)) (length (now work)) × (length (now y) - k ≤ length (now dual)) ⌝ }
-    ensures { λ r. ⌜ ((tol : Float) (max-iter penalty : ℕ) (c : List Float) → Took (pathL2 (asking (now (y .entry)) lam tol max-iter k penalty)) k (now (y .entry))
+    requires { ⌜ AsksL2 k (ridgeArea (length (now y))) (length (now y)) (length (now work)) × (length (now y) - k ≤ length (now dual)) ⌝ }
+    ensures { λ r. ⌜ ((tol : Float) (max-iter penalty : ℕ) (c : List Float) → Took (pathL2 (asking (now (y .entry)) lam tol max-iter k penalty)) k (ridgeArea (length (now (y .entry)))) (now (y .entry))
         (now (work .entry)) (now (work .exit)) c c (now (dual .entry)) (now (dual .exit)) r) ⌝ }
 {
     let n = y.len();

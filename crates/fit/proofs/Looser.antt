@@ -17,7 +17,7 @@ use Rattle.fit.proofs.Passed.{passed}
 use Rattle.fit.proofs.Demand3.{problemOf, tol-passed, sign-passed, iterations, onPath, path-steps}
 
 -- ---- n_iter of a fit
-steps : (a : Asked) (l : Lent) (f : FitResult) → fit a l ≡ fitted f → f .numbers .«n_iter» ≡ onPath a (searchOf a .n-iter)
+pub steps : (a : Asked) (l : Lent) (f : FitResult) → fit a l ≡ fitted f → f .numbers .«n_iter» ≡ onPath a (searchOf a .n-iter)
 unfolding written
 steps a l f e = let p = passed a l f e in ap (λ (x : FitResult). x .numbers .«n_iter») (p .made) ∙ ap iterations (sym (p .path-is)) ∙ path-steps a
 

@@ -56,22 +56,23 @@ abbrev refusal : Outcome → ℕ
 refusal (refused n) = n
 refusal (fitted f) = 0
 
-refusal-path : (a : Asked) (o : Option Found) → refusal (outcome a o) ≡ 3 → ⊥
+refusal-path : (a : Asked) (o : Option Found) (q : ℕ) → 1 ≤ q → q < 10 → refusal (outcome a o) ≡ q → ⊥
 unfolding outcome
-refusal-path a none e = omega arith
-refusal-path a (some f) e = omega arith
+refusal-path a none q low high e = omega arith
+refusal-path a (some f) q low high e = omega arith
 
-refusal-fit : (a : Asked) (l : Lent) → length (a .y) ≤ 65536 → refusal (fit a l) ≡ 3 → ⊥
+-- a refusal with a number of 1 to 9 comes from that question
+pub refused-by : (a : Asked) (l : Lent) (q : ℕ) → 1 ≤ q → q < 10 → fit a l ≡ refused q → question a l ≡ q
 unfolding fit
-refusal-fit a l h = go (eqb (question a l) 0) (soundDD a)
+refused-by a l q low high r = go (eqb (question a l) 0) (soundDD a) (ap refusal r)
   where
-    go : (b c : Bool) → refusal (cond b (cond c (outcome a (path a)) (refused 10)) (refused (question a l))) ≡ 3 → ⊥
-    go true true e = refusal-path a (path a) e
-    go true false e = omega arith
-    go false c e = not-too-long a l h e
+    go : (b c : Bool) → refusal (cond b (cond c (outcome a (path a)) (refused 10)) (refused (question a l))) ≡ q → question a l ≡ q
+    go true true e = absurd (refusal-path a (path a) q low high e)
+    go true false e = absurd (let h : 10 ≡ q = e in omega arith)
+    go false c e = e
 
 pub size-passes : (a : Asked) (l : Lent) → length (a .y) ≤ 65536 → fit a l ≡ refused 3 → ⊥
-size-passes a l h e = refusal-fit a l h (ap refusal e)
+size-passes a l h e = not-too-long a l h (refused-by a l 3 (omega arith) (omega arith) e)
 
 pub outcome-some : (a : Asked) (f : Found) → outcome a (some f) ≡ fitted (written a f)
 unfolding outcome

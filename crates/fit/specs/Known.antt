@@ -9,7 +9,8 @@ use lib.ListN.{length}
 use lib.Ieee.{Float, binary64, neg, nan, ofBits, ofInt}
 use Rattle.square_root.specs.Sqrt.{sqrtOf}
 use Rattle.search.specs.declared.Reason.the-variants.{ClosedPath}
-use Rattle.questions.specs.Questions.{Asked, Lent, oneOrTwo, workPlaces, marksPlaces}
+use Rattle.questions.specs.Needs.{needsOf}
+use Rattle.questions.specs.Questions.{Asked, Lent, oneOrTwo}
 use Rattle.fit.specs.Fit.{Outcome, refused, fitted, fit}
 
 -- what is asked and lent, and what comes of it
@@ -36,9 +37,9 @@ whole n = ofInt binary64 (pos n)
 abbrev pub usual : ℕ → ℕ → Float → List Float → Asked
 usual order penalty lam y = record { y = y; lam = lam; tol = ofBits binary64 0x3e45_798e_e230_8c3a; max-iter = 100; order = order; penalty = penalty }
 
--- what a series of n asks for
-abbrev pub roomFor : ℕ → Lent
-roomFor n = record { trend = n; cycle = n; knots = n; dual = n; work = workPlaces n; marks = marksPlaces n }
+-- what such a fit of n places needs, and no place more
+abbrev pub roomFor : ℕ → ℕ → Lent
+roomFor penalty n = let need = needsOf n 100 penalty in record { trend = n; cycle = n; knots = n; dual = n; work = need .work; marks = need .marks }
 
 -- the outcome of a closed path whose three gaps are 0: no iteration and no improvement
 abbrev pub flat : List Float → List Float → List ℕ → List Float → Float → Float → Outcome
@@ -56,22 +57,22 @@ hours = whole 8000 ∷ whole 0 ∷ []
 abbrev pub table : List Case
 table =
     -- the listing
-    record { asked = usual 1 1 (whole 4000) hours; lent = roomFor 2; outcome = flat (whole 4000 ∷ whole 4000 ∷ []) (whole 4000 ∷ neg (whole 4000) ∷ []) [] (neg (whole 4000) ∷ []) (whole 4000) (whole 16000000) }
+    record { asked = usual 1 1 (whole 4000) hours; lent = roomFor 1 2; outcome = flat (whole 4000 ∷ whole 4000 ∷ []) (whole 4000 ∷ neg (whole 4000) ∷ []) [] (neg (whole 4000) ∷ []) (whole 4000) (whole 16000000) }
     -- the same with lam 0 and -0
-    ∷ record { asked = usual 1 1 (whole 0) hours; lent = roomFor 2; outcome = flat hours (whole 0 ∷ whole 0 ∷ []) (0 ∷ []) (whole 0 ∷ []) (whole 4000) (whole 0) }
-    ∷ record { asked = usual 1 1 (neg (whole 0)) hours; lent = roomFor 2; outcome = flat hours (whole 0 ∷ whole 0 ∷ []) (0 ∷ []) (whole 0 ∷ []) (whole 4000) (whole 0) }
+    ∷ record { asked = usual 1 1 (whole 0) hours; lent = roomFor 1 2; outcome = flat hours (whole 0 ∷ whole 0 ∷ []) (0 ∷ []) (whole 0 ∷ []) (whole 4000) (whole 0) }
+    ∷ record { asked = usual 1 1 (neg (whole 0)) hours; lent = roomFor 1 2; outcome = flat hours (whole 0 ∷ whole 0 ∷ []) (0 ∷ []) (whole 0 ∷ []) (whole 4000) (whole 0) }
     -- L2 with lam 1
-    ∷ record { asked = usual 1 2 (whole 1) (whole 6 ∷ whole 0 ∷ []); lent = roomFor 2; outcome = flat (whole 4 ∷ whole 2 ∷ []) (whole 2 ∷ neg (whole 2) ∷ []) (0 ∷ []) (neg (whole 2) ∷ []) (whole 3) (whole 6) }
-    ∷ record { asked = usual 1 2 (whole 1) (whole 4 ∷ whole 4 ∷ []); lent = roomFor 2; outcome = flat (whole 4 ∷ whole 4 ∷ []) (whole 0 ∷ whole 0 ∷ []) [] (whole 0 ∷ []) (whole 0) (whole 0) }
+    ∷ record { asked = usual 1 2 (whole 1) (whole 6 ∷ whole 0 ∷ []); lent = roomFor 2 2; outcome = flat (whole 4 ∷ whole 2 ∷ []) (whole 2 ∷ neg (whole 2) ∷ []) (0 ∷ []) (neg (whole 2) ∷ []) (whole 3) (whole 6) }
+    ∷ record { asked = usual 1 2 (whole 1) (whole 4 ∷ whole 4 ∷ []); lent = roomFor 2 2; outcome = flat (whole 4 ∷ whole 4 ∷ []) (whole 0 ∷ whole 0 ∷ []) [] (whole 0 ∷ []) (whole 0) (whole 0) }
     -- order 2 with n 2, and with n 3
-    ∷ record { asked = usual 2 1 (whole 1) hours; lent = roomFor 2; outcome = refused 2 }
-    ∷ record { asked = usual 2 1 (whole 1) zeros; lent = roomFor 3; outcome = flat zeros zeros [] (whole 0 ∷ []) (whole 0) (whole 0) }
+    ∷ record { asked = usual 2 1 (whole 1) hours; lent = roomFor 1 2; outcome = refused 2 }
+    ∷ record { asked = usual 2 1 (whole 1) zeros; lent = roomFor 1 3; outcome = flat zeros zeros [] (whole 0 ∷ []) (whole 0) (whole 0) }
     -- a NaN in y and lam -1
-    ∷ record { asked = usual 1 1 (neg (whole 1)) (whole 8000 ∷ nan ∷ []); lent = roomFor 2; outcome = refused 4 }
+    ∷ record { asked = usual 1 1 (neg (whole 1)) (whole 8000 ∷ nan ∷ []); lent = roomFor 1 2; outcome = refused 4 }
     -- lam -5e-324
-    ∷ record { asked = usual 1 1 (ofBits binary64 0x8000_0000_0000_0001) hours; lent = roomFor 2; outcome = refused 5 }
+    ∷ record { asked = usual 1 1 (ofBits binary64 0x8000_0000_0000_0001) hours; lent = roomFor 1 2; outcome = refused 5 }
     -- L2, order 2, lam 1e308
-    ∷ record { asked = usual 2 2 (ofBits binary64 0x7fe1_ccf3_85eb_c8a0) zeros; lent = roomFor 3; outcome = refused 10 }
+    ∷ record { asked = usual 2 2 (ofBits binary64 0x7fe1_ccf3_85eb_c8a0) zeros; lent = roomFor 2 3; outcome = refused 10 }
     ∷ []
 
 -- 4, 2^-1074 and 1 + 2^-52

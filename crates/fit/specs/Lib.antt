@@ -9,3 +9,4 @@ pub mod Lasting
 pub mod Looser
 pub mod KnotPlaces
 pub mod Duals
+pub mod Needs

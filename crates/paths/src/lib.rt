@@ -7,9 +7,8 @@ ghost use Prim.Native.Nat.{_≤_};
 ghost use lib.ListN.{length};
 ghost use Rattle.vectors.specs.Vec.{KeptOf};
 ghost use Rattle.fit.specs.Fit.{path};
-ghost use Rattle.questions.specs.Questions.{marksPlaces};
 ghost use Rattle.questions.specs.Asking.{asking};
-ghost use Rattle.closed_paths.specs.Trends.{trendOf, reach};
+ghost use Rattle.closed_paths.specs.Trends.{pathArea, pathMarks, trendOf, reach};
 ghost use Rattle.closed_paths.specs.Taken.{AsksPath, Took};
 
 // The trend, where it stands.
@@ -47,10 +46,10 @@ pub fn take_path(
     penalty: u32,
     lam_max: f64,
 ) -> Path
-    requires { ⌜ AsksPath k (now y) «lam_max» (now work) (now cycle) (length (now dual)) (now marks) ⌝ }
-    ensures { λ r. ⌜ Took (path (asking (now (y .entry)) lam tol «max_iter» k penalty)) k (now (y .entry))
+    requires { ⌜ AsksPath k penalty (now y) «lam_max» (now work) (now cycle) (length (now dual)) (now marks) ⌝ }
+    ensures { λ r. ⌜ Took (path (asking (now (y .entry)) lam tol «max_iter» k penalty)) k (pathArea penalty (length (now (y .entry)))) (now (y .entry))
         (now (work .entry)) (now (work .exit)) (now (cycle .entry)) (now (cycle .exit)) (now (dual .entry)) (now (dual .exit)) r
-        × KeptOf 0 0 (marksPlaces (length (now (y .entry)))) (now (marks .entry)) (now (marks .exit)) ⌝ }
+        × KeptOf 0 0 (pathMarks penalty (length (now (y .entry)))) (now (marks .entry)) (now (marks .exit)) ⌝ }
 {
     if penalty == 2 {
         return closed_paths::l2_path(work, dual, y, lam, k);

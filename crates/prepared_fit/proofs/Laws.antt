@@ -14,7 +14,7 @@ use Rattle.vectors.proofs.Texts.{put-start, start-put}
 use Rattle.certificate.specs.Certificate.{minus}
 use Rattle.certificate.proofs.Laws.{length-minus}
 use Rattle.decomposition.specs.Written.{decomposed, WroteOut}
-use Rattle.questions.specs.Questions.{Asked, Lent, marksPlaces, question}
+use Rattle.questions.specs.Questions.{Asked, Lent, question}
 use Rattle.fit.specs.Outputs.{outputs}
 use Rattle.fit.specs.Fit.{refused, places, path, written, outcome, fit, after}
 use Rattle.fit.specs.Ways.{soundDD}
@@ -22,7 +22,7 @@ use Rattle.fit.proofs.Passed.{fit-passed}
 use Rattle.closed_paths.specs.declared.Finding.{Finding}
 use Rattle.closed_paths.specs.declared.Path.{Path}
 use Rattle.closed_paths.specs.declared.Path.the-variants as path
-use Rattle.closed_paths.specs.Trends.{trendOf, foundOf, reach, said, reached}
+use Rattle.closed_paths.specs.Trends.{pathArea, pathMarks, trendOf, foundOf, reach, said, reached}
 use Rattle.closed_paths.specs.Taken.{Took}
 use Rattle.prepared_fit.specs.declared.Written.the-variants.{Lost, Done}
 use Rattle.prepared_fit.specs.Fitted.{tallied, Fitted}
@@ -43,7 +43,7 @@ put-kept n s₀ s u w e fits =
     let h = put-start n s u (put s 0 u) refl e (omega arith) in
     start-put n s₀ u (put s 0 u) (h .0) (kept-then 0 n w (h .1) (omega arith) (omega arith) (omega arith) (omega arith)) fits
 
-module _ {a : Asked} {w₀ w c₀ c₁ d₀ d : List Float} {r : Path} {marks₀ marks : List ℕ} (t : Took (path a) (a .order) (a .y) w₀ w c₀ c₁ d₀ d r) (m : KeptOf 0 0 (marksPlaces (length (a .y))) marks₀ marks) where
+module _ {a : Asked} {w₀ w c₀ c₁ d₀ d : List Float} {r : Path} {marks₀ marks : List ℕ} (t : Took (path a) (a .order) (pathArea (a .penalty) (length (a .y))) (a .y) w₀ w c₀ c₁ d₀ d r) (m : KeptOf 0 0 (pathMarks (a .penalty) (length (a .y))) marks₀ marks) where
   -- a path that was lost
   pub fitted-lost : (x : List Float) (i : List ℕ) → r ≡ path.Lost → Fitted a Lost (outputs x c₀ i d₀) (outputs x c₁ i d) w₀ w marks₀ marks
   unfolding said tallied outcome after

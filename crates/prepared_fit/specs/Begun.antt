@@ -10,17 +10,17 @@ use Rattle.vectors.specs.Parts.{Kept, part}
 use Rattle.differences.specs.Diff.{diffK, gramRow}
 use Rattle.gram.specs.Gram.{zstar}
 use Rattle.gram.specs.Prepared.{starLane, diffLane, preparation}
-use Rattle.questions.specs.Questions.{Asked, Lent, workPlaces, question}
+use Rattle.questions.specs.Questions.{Asked, Lent, question}
 use Rattle.fit.specs.Fit.{refused, places, lamMaxOf, fit}
 use Rattle.fit.specs.Ways.{soundDD}
 use Rattle.prepared_fit.specs.declared.Begun.{Begun}
 use Rattle.prepared_fit.specs.declared.Begun.the-variants.{Stopped, Ready}
 
--- the call is refused with q; questions 1 to 9 leave work unchanged
+-- the call is refused with q; questions 1 to 9 leave work unchanged, number 10 all of it behind the preparation
 pub record Stops (a : Asked) (l : Lent) (w₀ w : List Float) (q : ℕ) : Type 0 where
   pub refuses : fit a l ≡ refused q
   pub unused : ltb q 10 ≡ true → w ≡ w₀
-  pub kept : Kept 0 (workPlaces (length (a .y))) w₀ w
+  pub kept : Kept 0 (preparation (length (a .y))) w₀ w
 
 -- the questions are passed, the series is prepared at the start of w, and top is lam_max
 pub record Readies (a : Asked) (l : Lent) (w₀ w : List Float) (top : Float) : Type 0 where

@@ -9,13 +9,12 @@ use Rattle.vectors.specs.Vec.{KeptOf}
 use Rattle.vectors.specs.Parts.{Kept}
 use Rattle.differences.specs.Series.{Series}
 use Rattle.gram.specs.Prepared.{preparation}
-use Rattle.dual_point.specs.Lanes.{searchArea}
 use Rattle.decomposition.specs.Written.{Decomposed}
-use Rattle.questions.specs.Questions.{Asked, marksPlaces}
+use Rattle.questions.specs.Questions.{Asked}
 use Rattle.fit.specs.Outputs.{Outputs}
 use Rattle.fit.specs.Fit.{Found, path, written, outcome, after}
 use Rattle.closed_paths.specs.declared.Trend.{Trend}
-use Rattle.closed_paths.specs.Trends.{reach}
+use Rattle.closed_paths.specs.Trends.{pathArea, pathMarks, reach}
 use Rattle.closed_paths.specs.Taken.{AsksPath}
 use Rattle.prepared_fit.specs.declared.Written.{Written}
 use Rattle.prepared_fit.specs.declared.Written.the-variants.{Lost, Done}
@@ -29,8 +28,8 @@ pub record AsksOut (k : ℕ) (y w : List Float) (t : Trend) (b : Decomposed) : T
   pub knots : length y ≤ length (b .knots)
 
 -- the series is prepared, top is lam_max, and there is room in every buffer
-pub record AsksFit (k : ℕ) (y : List Float) (top : Float) (b : Outputs) (w : List Float) (marks : List ℕ) : Type 0 where
-  pub path : AsksPath k y top w (b .cycle) (length (b .dual)) marks
+pub record AsksFit (k penalty : ℕ) (y : List Float) (top : Float) (b : Outputs) (w : List Float) (marks : List ℕ) : Type 0 where
+  pub path : AsksPath k penalty y top w (b .cycle) (length (b .dual)) marks
   pub trend : length y ≤ length (b .trend)
   pub knots : length y ≤ length (b .knots)
 
@@ -39,9 +38,9 @@ unfoldable pub tallied : Asked → Option Found → Written
 tallied a none = Lost
 tallied a (some f) = Done (record { knots = length (written a f .knots); numbers = f .numbers })
 
--- the answer r, and the buffers before and after: work changed only behind the preparation, marks only in the first 2·n
+-- the answer r, and the buffers before and after: work changed only in the path's area behind the preparation, marks only in those that it takes
 pub record Fitted (a : Asked) (r : Written) (b c : Outputs) (w₀ w : List Float) (marks₀ marks : List ℕ) : Type 0 where
   pub tally : r ≡ tallied a (path a)
   pub out : c ≡ after (outcome a (path a)) b
-  pub work : Kept (preparation (length (a .y))) (searchArea (length (a .y))) w₀ w
-  pub marked : KeptOf 0 0 (marksPlaces (length (a .y))) marks₀ marks
+  pub work : Kept (preparation (length (a .y))) (pathArea (a .penalty) (length (a .y))) w₀ w
+  pub marked : KeptOf 0 0 (pathMarks (a .penalty) (length (a .y))) marks₀ marks

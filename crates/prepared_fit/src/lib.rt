@@ -104,7 +104,7 @@ pub fn fit_prepared(
     penalty: u32,
     lam_max: f64,
 ) -> Written
-    requires { ⌜ AsksFit k (now y) «lam_max» (outputs (now trend) (now cycle) (now knots) (now dual)) (now work) (now marks) ⌝ }
+    requires { ⌜ AsksFit k penalty (now y) «lam_max» (outputs (now trend) (now cycle) (now knots) (now dual)) (now work) (now marks) ⌝ }
     ensures { λ r. ⌜ Fitted (asking (now (y .entry)) lam tol «max_iter» k penalty) r
         (outputs (now (trend .entry)) (now (cycle .entry)) (now (knots .entry)) (now (dual .entry))) (outputs (now (trend .exit)) (now (cycle .exit)) (now (knots .exit)) (now (dual .exit)))
         (now (work .entry)) (now (work .exit)) (now (marks .entry)) (now (marks .exit)) ⌝ }

@@ -1,2 +1,3 @@
 -- The laws of questions.
 pub mod Laws
+pub mod Beforehand

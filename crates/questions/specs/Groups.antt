@@ -7,7 +7,8 @@ use lib.ListN.{length}
 use lib.Ieee.{Float, lt}
 use Rattle.float64.specs.Helpers.{isFinite}
 use Rattle.float64.specs.Ops.{c0}
-use Rattle.questions.specs.Questions.{Lent, oneOrTwo, finiteTo, workPlaces, marksPlaces, ask}
+use Rattle.questions.specs.declared.Figures.{Figures}
+use Rattle.questions.specs.Questions.{Lent, oneOrTwo, finiteTo, ask}
 
 -- question 1, as our own functions ask it
 abbrev pub kindsKnown : ℕ → ℕ → Bool
@@ -42,8 +43,8 @@ abbrev pub answerRoom : ℕ → Lent → Bool
 answerRoom n l = leb n (l .trend) && leb n (l .cycle) && leb n (l .knots) && leb n (l .dual)
 
 -- question 9, as our own functions ask it
-abbrev pub scratchRoom : ℕ → Lent → Bool
-scratchRoom n l = leb (workPlaces n) (l .work) && leb (marksPlaces n) (l .marks)
+abbrev pub scratchRoom : Figures → Lent → Bool
+scratchRoom need l = leb (need .work) (l .work) && leb (need .marks) (l .marks)
 
 -- 1 to 3
 unfoldable pub sizes : ℕ → ℕ → ℕ → ℕ

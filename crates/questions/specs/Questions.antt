@@ -1,13 +1,15 @@
 -- Document 01, "Questions before and during a fit": questions 1 to 9, each true where the answer is yes.
 use mathlib.Core.Bool.{Bool, true, cond, not, _&&_, _||_}
 use mathlib.Core.List.{List}
-use Prim.Native.Nat.{ℕ, zero, suc, _+_, _*_}
+use Prim.Native.Nat.{ℕ, zero, suc, _+_}
 use lib.Dec.{leb, eqb}
 use lib.ListN.{length}
 use lib.Ieee.{Float, lt}
 use Rattle.float64.specs.Helpers.{isFinite}
 use Rattle.float64.specs.Ops.{c0}
 use Rattle.vectors.specs.Vec.{at}
+use Rattle.questions.specs.declared.Figures.{Figures}
+use Rattle.questions.specs.Needs.{needsOf}
 
 -- what is asked for: a series, its penalty weight, a tolerance, the limit on iterations, an order and a penalty (1 is L1, 2 is L2)
 pub record Asked : Type 0 where
@@ -36,23 +38,19 @@ unfoldable pub finiteTo : List Float → ℕ → Bool
 finiteTo y zero = true
 finiteTo y (suc n) = finiteTo y n && isFinite (at y n)
 
--- the places of work that a series of n asks
-abbrev pub workPlaces : ℕ → ℕ
-workPlaces n = 40 * n
-
--- the places of marks that it asks
-abbrev pub marksPlaces : ℕ → ℕ
-marksPlaces n = 2 * n
+-- what the fit that is asked for needs (document 02, A7)
+abbrev pub needsFor : Asked → Figures
+needsFor a = needsOf (length (a .y)) (a .max-iter) (a .penalty)
 
 -- a question's number where its answer is no, and else what the rest gives
 abbrev pub ask : ℕ → Bool → ℕ → ℕ
 ask number answer rest = cond answer rest number
 
--- 8. Have trend, cycle, knots and dual each at least n places? 9. Has work at least 40·n places and marks at least 2·n?
-unfoldable pub room : ℕ → Lent → ℕ
-room n l =
+-- 8. Have trend, cycle, knots and dual each at least n places? 9. Have work and marks each the places that the fit needs?
+unfoldable pub room : ℕ → Figures → Lent → ℕ
+room n need l =
     ask 8 (leb n (l .trend) && leb n (l .cycle) && leb n (l .knots) && leb n (l .dual))
-    (ask 9 (leb (workPlaces n) (l .work) && leb (marksPlaces n) (l .marks)) 0)
+    (ask 9 (leb (need .work) (l .work) && leb (need .marks) (l .marks)) 0)
 
 -- the first question answered no, and 0 where none is
 unfoldable pub question : Asked → Lent → ℕ
@@ -72,4 +70,4 @@ question a l =
     (ask 6 (isFinite (a .tol) && lt c0 (a .tol))
     -- 7. Is max_iter at least 1?
     (ask 7 (leb 1 (a .max-iter))
-    (room n l)))))))
+    (room n (needsFor a) l)))))))

@@ -8,11 +8,12 @@ use lib.Ieee.{Float}
 use Rattle.vectors.specs.Vec.{KeptOf}
 use Rattle.vectors.specs.Parts.{Kept, part}
 use Rattle.dual_point.specs.Lanes.{candidateTrend, searchArea}
-use Rattle.questions.specs.Questions.{Asked, marksPlaces}
+use Rattle.questions.specs.Questions.{Asked}
 use Rattle.questions.specs.Asking.{asking}
 use Rattle.fit.specs.Fit.{places, searchOf, pathEnd}
 use Rattle.closed_paths.specs.declared.Trend.the-variants.{Won}
 use Rattle.closed_paths.specs.declared.Finding.{Finding}
+use Rattle.closed_paths.specs.Trends.{searchMarks}
 
 -- r has the numbers of the path, and says which of the two trends in the area s is its trend: the candidate's or the iterate's, at the start; d begins with its dual point
 pub record Reached (a : Asked) (s d : List Float) (r : Finding) : Type 0 where
@@ -27,4 +28,4 @@ pub record SearchedArea (y : List Float) (lam tol : Float) (max-iter k : ℕ) (s
   pub reached : (penalty : ℕ) → Reached (asking y lam tol max-iter k penalty) s d r
   pub kept : Kept 0 (searchArea (length y)) s₀ s
   pub dual-kept : Kept 0 (length y - k) d₀ d
-  pub marked : KeptOf 0 0 (marksPlaces (length y)) marks₀ marks
+  pub marked : KeptOf 0 0 (searchMarks (length y)) marks₀ marks

@@ -6,9 +6,10 @@ ghost use lib.ListN.{length};
 ghost use Rattle.vectors.specs.Vec.{put, KeptOf};
 ghost use Rattle.certificate.specs.Certificate.{clamped};
 ghost use Rattle.polish.specs.Places.{Polishable};
-ghost use Rattle.questions.specs.Questions.{marksPlaces};
+ghost use Rattle.dual_point.specs.Lanes.{searchArea};
 ghost use Rattle.questions.specs.Asking.{asking};
 ghost use Rattle.fit.specs.Fit.{searchOf, pathEnd};
+ghost use Rattle.closed_paths.specs.Trends.{searchMarks};
 ghost use Rattle.closed_paths.specs.Taken.{AsksSearch, Finds};
 ghost use Rattle.search_path.specs.Search.{SearchedArea};
 use closed_paths::Finding;
@@ -84,10 +85,10 @@ pub fn search_path(
     max_iter: u64,
     k: usize,
 ) -> Finding
-    requires { ⌜ AsksSearch k (now y) (now work) (now cycle) (length (now dual)) (now marks) ⌝ }
-    ensures { λ r. ⌜ Finds (λ (p : ℕ). pathEnd (asking (now (y .entry)) lam tol «max_iter» k p) (searchOf (asking (now (y .entry)) lam tol «max_iter» k p))) k (now (y .entry))
+    requires { ⌜ AsksSearch k (searchArea (length (now y))) (searchMarks (length (now y))) (now y) (now work) (now cycle) (length (now dual)) (now marks) ⌝ }
+    ensures { λ r. ⌜ Finds (λ (p : ℕ). pathEnd (asking (now (y .entry)) lam tol «max_iter» k p) (searchOf (asking (now (y .entry)) lam tol «max_iter» k p))) k (searchArea (length (now (y .entry)))) (now (y .entry))
         (now (work .entry)) (now (work .exit)) (now (cycle .entry)) (now (cycle .exit)) (now (dual .entry)) (now (dual .exit)) r
-        × KeptOf 0 0 (marksPlaces (length (now (y .entry)))) (now (marks .entry)) (now (marks .exit)) ⌝ }
+        × KeptOf 0 0 (searchMarks (length (now (y .entry)))) (now (marks .entry)) (now (marks .exit)) ⌝ }
 {
     closed_paths::differences_to(cycle, work, y, k);
     let n = y.len();

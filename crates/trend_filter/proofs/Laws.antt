@@ -5,11 +5,10 @@ use mathlib.Core.List.{List}
 use mathlib.Core.Option.{Option, none, some}
 use Prim.Native.Nat.{ℕ}
 use native.Mathlib.Omega.{arith}
-use lib.ListN.{length}
 use lib.Ieee.{Float}
 use Rattle.float64.proofs.Clash.{clash}
 use Rattle.vectors.proofs.Laws.{kept-none, kept-then}
-use Rattle.questions.specs.Questions.{Asked, Lent, workPlaces, marksPlaces, question}
+use Rattle.questions.specs.Questions.{Asked, Lent, needsFor, question}
 use Rattle.questions.proofs.Laws.{passed}
 use Rattle.fit.specs.Outputs.{Outputs}
 use Rattle.fit.specs.Fit.{Found, Outcome, refused, lamMaxOf, path, written, outcome, fit, after}
@@ -17,6 +16,7 @@ use Rattle.fit.specs.Ways.{soundDD}
 use Rattle.fit.proofs.Lengths.{lengths}
 use Rattle.fit.proofs.Demand3.{bounds}
 use Rattle.fit.proofs.Passed.{fit-passed}
+use Rattle.closed_paths.proofs.Areas.{kept-wide, work-fits}
 use Rattle.prepared_fit.specs.declared.Written.{Written}
 use Rattle.prepared_fit.specs.Begun.{Stops, Readies, Begins}
 use Rattle.prepared_fit.specs.Fitted.{AsksFit, tallied, Fitted}
@@ -69,13 +69,13 @@ module _ (a : Asked) (b : Buffers) (w : List Float) where
   answered-refused q s = record {
     gives = subst (λ (o : Outcome). Gives o (Refused q) (b .out) (b .out)) (sym (s .refuses)) (record { answer = refl; out = refl });
     unused = λ e. (s .unused (sym (ap early (s .refuses)) ∙ e), refl);
-    scratch = record { work = s .kept; marks = kept-none 0 (marksPlaces (length (a .y))) (b .marks) };
+    scratch = record { work = kept-wide 0 (needsFor a .work) (s .kept) (omega arith) (omega (arith, work-fits a)); marks = kept-none 0 (needsFor a .marks) (b .marks) };
     sizes = lengths a (lent b);
     bounds = bounds a (lent b);
   }
 
   module _ (top : Float) (h : Readies a (lent b) (b .work) w top) where
-    pub asks-fit : AsksFit (a .order) (a .y) top (b .out) w (b .marks)
+    pub asks-fit : AsksFit (a .order) (a .penalty) (a .y) top (b .out) w (b .marks)
     asks-fit =
         let q = passed a (lent b) (h .passes) in
         let room = q .work in
@@ -83,7 +83,7 @@ module _ (a : Asked) (b : Buffers) (w : List Float) where
         record {
           path = record {
             search = record {
-              l1 = record { room = record { series = q .series; work = omega arith }; cycle = q .cycle; star = h .star; differences = h .differences };
+              l1 = record { room = record { series = q .series; work = omega (arith, work-fits a) }; cycle = q .cycle; star = h .star; differences = h .differences };
               dual = omega (arith, q .dual);
               marked = q .marks;
             };
@@ -99,7 +99,7 @@ module _ (a : Asked) (b : Buffers) (w : List Float) where
           (record { answer = e ∙ ap₂ toldOf (h .top-is) (f .tally) ∙ same-told a (path a); out = f .out });
       unused = λ t. absurd (not-early a (lent b) (h .passes) t);
       scratch = record {
-        work = kept-then 0 (workPlaces (length (a .y))) (h .kept) (f .work) (omega arith) (omega arith) (omega arith) (omega arith);
+        work = kept-then 0 (needsFor a .work) (h .kept) (f .work) (omega arith) (omega arith) (omega (arith, work-fits a)) (omega (arith, work-fits a));
         marks = f .marked;
       };
       sizes = lengths a (lent b);

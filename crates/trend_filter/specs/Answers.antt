@@ -7,7 +7,8 @@ use lib.Dec.{ltb}
 use lib.ListN.{length}
 use lib.Ieee.{Float, nan}
 use Rattle.vectors.specs.Vec.{KeptOf}
-use Rattle.questions.specs.Questions.{Asked, Lent, workPlaces, marksPlaces}
+use Rattle.questions.specs.declared.Figures.{Figures}
+use Rattle.questions.specs.Questions.{Asked, Lent, needsFor}
 use Rattle.questions.specs.Asking.{lending}
 use Rattle.fit.specs.declared.Numbers.{Numbers}
 use Rattle.fit.specs.Outputs.{Outputs, outputs}
@@ -54,17 +55,17 @@ pub record Gives (o : Outcome) (r : Answer) (b c : Outputs) : Type 0 where
   pub answer : r ≡ answerOf o
   pub out : c ≡ after o b
 
--- only the first 40·n places of work and 2·n of marks may have changed
-pub record Scratch (n : ℕ) (b c : Buffers) : Type 0 where
-  pub work : KeptOf nan 0 (workPlaces n) (b .work) (c .work)
-  pub marks : KeptOf 0 0 (marksPlaces n) (b .marks) (c .marks)
+-- only as many places of work and of marks as are needed, from the first on, may have changed
+pub record Scratch (need : Figures) (b c : Buffers) : Type 0 where
+  pub work : KeptOf nan 0 (need .work) (b .work) (c .work)
+  pub marks : KeptOf 0 0 (need .marks) (b .marks) (c .marks)
 
 -- the whole of a call: a is what was asked, r the answer, b what the buffers held before and c after
 pub record Answered (a : Asked) (r : Answer) (b c : Buffers) : Type 0 where
   pub gives : Gives (fit a (lent b)) r (b .out) (c .out)
   -- questions 1 to 9 leave work and marks unchanged
   pub unused : early (fit a (lent b)) ≡ true → (c .work ≡ b .work) × (c .marks ≡ b .marks)
-  pub scratch : Scratch (length (a .y)) b c
+  pub scratch : Scratch (needsFor a) b c
   -- how many places a fit writes, and the bounds of demand 3 on its numbers
   pub sizes : (f : FitResult) → fit a (lent b) ≡ fitted f → Lengths a f
   pub bounds : (f : FitResult) → fit a (lent b) ≡ fitted f → Bounds (a .max-iter) f

@@ -1,9 +1,5 @@
--- The definitions that the contracts of trend_filter cite, and of calls: demand 3, what a reason tells, the looser tolerance and the dual point.
+-- The definitions that the contracts of trend_filter cite.
 pub mod Answers
 pub mod Calls
-pub mod Reasons
-pub mod TwoCalls
-pub mod Lasting
-pub mod Looser
-pub mod Duals
+pub mod Needs
 pub mod Inner

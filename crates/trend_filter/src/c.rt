@@ -1,11 +1,14 @@
-// The fit for callers in C: 0 for a fit, else the refusal's number.
+// The fit for callers in C, and what it needs: 0 for a fit or for figures, else the refusal's number.
 ghost use mathlib.Core.Path.{_≡_};
 ghost use Rattle.questions.specs.Asking.{asking};
 ghost use Rattle.trend_filter.specs.Calls.{Told, Called};
 ghost use Rattle.trend_filter.specs.Inner.{oneIf};
 ghost use Rattle.trend_filter.specs.Answers.{buffers};
+ghost use Rattle.questions.specs.Beforehand.{needed};
+ghost use Rattle.trend_filter.specs.Needs.{NeedsTold};
 use crate::Answer;
 use crate::TrendFilterOptions;
+use questions::Needed;
 
 fn one_if(b: bool) -> u64
     ensures { λ r. ⌜ r ≡ oneIf b ⌝ }
@@ -61,4 +64,24 @@ pub extern "C" fn trend_filter_fit(
     };
     let a = crate::l1_trend_filter(y, lam, o, trend, cycle, knots, dual, work, marks);
     tell(numbers, counts, a)
+}
+
+// What a fit of n places needs: work places, marks places and the most steps.
+#[no_mangle]
+pub extern "C" fn trend_filter_needs(
+    n: u64,
+    max_iter: u64,
+    order: u32,
+    penalty: u32,
+    needs: &mut [u64; 3],
+) -> u32
+    ensures { λ r. ⌜ NeedsTold (needed n «max_iter» order penalty) r (now (needs .entry)) (now (needs .exit)) ⌝ }
+{
+    match questions::needs(n, max_iter, order, penalty) {
+        Needed::Refused(q) => q,
+        Needed::Given(g) => {
+            *needs = [g.work, g.marks, g.steps];
+            0
+        }
+    }
 }

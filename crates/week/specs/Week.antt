@@ -5,6 +5,7 @@ use mathlib.Core.List.{List, _++_}
 use lib.ListN.{length}
 use lib.Ieee.{Float}
 use Rattle.search.specs.Reasons.{reasonNumber}
+use Rattle.questions.specs.Needs.{needsOf}
 use Rattle.questions.specs.Questions.{Asked, Lent}
 use Rattle.fit.specs.Fit.{FitResult, Outcome, refused, fitted, fit}
 use Rattle.records.specs.declared.Settings.{Settings}
@@ -19,9 +20,9 @@ use Rattle.lines.specs.Positions.{positionsAt}
 abbrev pub askedBy : Settings → List Float → Asked
 askedBy st y = record { y = y; lam = st .lam; tol = st .tol; max-iter = st .«max_iter»; order = st .order; penalty = st .penalty }
 
--- the lengths lent to it: enough for 168 hours, so that questions 8 and 9 are always answered yes
+-- the lengths lent to it: what L1 needs for 168 hours, so that questions 8 and 9 are always answered yes
 abbrev pub weekLent : Lent
-weekLent = record { trend = 168; cycle = 168; knots = 168; dual = 168; work = 6720; marks = 336 }
+weekLent = let need = needsOf 168 1 1 in record { trend = 168; cycle = 168; knots = 168; dual = 168; work = need .work; marks = need .marks }
 
 -- the listing of a fit whose hours have the numbers hs and whose knots have ks: n, order, penalty, n_iter, improvements, converged (0 or 1), reason (0 to 4); lam_max, gap, objective; each hour; each knot
 unfoldable pub listingOf : Asked → FitResult → List ℕ → List ℕ → List ℕ

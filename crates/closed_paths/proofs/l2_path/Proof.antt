@@ -12,14 +12,13 @@ use Rattle.vectors.proofs.Laws.{kept-none}
 use Rattle.vectors.proofs.Parts.{putBack, length-part, range-part, part-size, kept-put}
 use Rattle.vectors.proofs.Texts.{put-start}
 use Rattle.differences.specs.Diff.{diffK}
-use Rattle.dual_point.specs.Lanes.{searchArea}
 use Rattle.gram.specs.Prepared.{preparation}
 use Rattle.l2.specs.L2.{trendL2, scaled}
 use Rattle.l2.specs.Solved.{Ended}
 use Rattle.l2.proofs.Scaled.{length-scaled}
 use Rattle.questions.specs.Asking.{asking}
 use Rattle.fit.specs.Fit.{closed}
-use Rattle.closed_paths.specs.Trends.{trendOf, reach, said, reached}
+use Rattle.closed_paths.specs.Trends.{ridgeArea, trendOf, reach, said, reached}
 use Rattle.closed_paths.proofs.Areas.{kept-wide, rows-fit, solution-stands, goodL2, l2-sound, l2-unsound, some-none}
 use Rattle.closed_paths.proofs.l2_path.Statement.{statement}
 use Rattle.closed_paths.proofs.l2_path.Tie as tie
@@ -63,7 +62,7 @@ returns c = let sl = c .before .before .before in
       says = l2-unsound (asking y (g .lam) tol m k p) (sym (sl .solve-l2 .ensures .sound) ∙ not-true _ (c .if1 .taken));
       stands = omega arith;
       lost = λ e. (refl, refl);
-      changed = record { work = kept-wide (preparation n) (searchArea n) made (omega arith) (omega arith); cycle = kept-none 0 n c′; dual = kept-none 0 (n - k) (g .dual .now) };
+      changed = record { work = kept-wide (preparation n) (ridgeArea n) made (omega arith) (omega arith); cycle = kept-none 0 n c′; dual = kept-none 0 (n - k) (g .dual .now) };
     }
 
 returns-2 : tie.Need-returns-2
@@ -102,7 +101,7 @@ returns-2 c = let ob = c .before .before .before in
       says = (λ i. some (record { trend = held i; dual = dual .0 i; numbers = closed (ended .gap i) (ended .objective i) })) ∙ q;
       stands = omega (arith, made .size);
       lost = λ z. absurd (some-none (goodL2 a) (q ∙ z));
-      changed = record { work = kept-wide (preparation n) (searchArea n) made (omega arith) (omega arith); cycle = kept-none 0 n c′; dual = dual .1 };
+      changed = record { work = kept-wide (preparation n) (ridgeArea n) made (omega arith) (omega arith); cycle = kept-none 0 n c′; dual = dual .1 };
     })
 
 pub l2-path-spec : {M : Type 1} → statement M

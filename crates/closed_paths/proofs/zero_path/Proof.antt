@@ -10,7 +10,6 @@ use Rattle.vectors.specs.Parts.{Written}
 use Rattle.vectors.proofs.Laws.{kept-none, written-kept}
 use Rattle.vectors.proofs.Parts.{store-done}
 use Rattle.gram.specs.Prepared.{preparation}
-use Rattle.dual_point.specs.Lanes.{searchArea}
 use Rattle.fit.specs.Fit.{closed, pathZero}
 use Rattle.closed_paths.specs.Trends.{trendOf, reach}
 use Rattle.closed_paths.proofs.zero_path.Statement.{statement}
@@ -28,10 +27,10 @@ returns c = let fi = c .before .before .before in
     let d = fi .fill .last .0 in
     let made = subst (λ (q : ℕ). Written 0 q (λ j. c0) d₀ d) (sym (zero-add m)) (fi .fill .ensures) in
     rw (c .closed .ensures)
-    (λ w c′. record {
+    (λ l w c′. record {
       says = λ t i. record { trend = y; dual = store-done nan 0 m (λ j. c0) d₀ d made i; numbers = closed c0 c0 };
       stands = omega arith;
-      changed = record { work = kept-none (preparation n) (searchArea n) w; cycle = kept-none 0 n c′; dual = written-kept made };
+      changed = record { work = kept-none (preparation n) l w; cycle = kept-none 0 n c′; dual = written-kept made };
     })
 
 pub zero-path-spec : {M : Type 1} → statement M

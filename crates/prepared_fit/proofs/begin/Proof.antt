@@ -5,11 +5,12 @@ use native.Mathlib.Omega.{arith}
 use lib.ListN.{length}
 use Rattle.float64.proofs.Clash.{clash}
 use Rattle.vectors.proofs.Laws.{kept-none}
-use Rattle.questions.specs.Questions.{Asked, Lent, workPlaces, question}
+use Rattle.gram.specs.Prepared.{preparation}
+use Rattle.questions.specs.Questions.{Asked, Lent, question}
 use Rattle.questions.specs.Asking.{asking, lending}
 use Rattle.questions.proofs.Laws.{passed}
 use Rattle.fit.proofs.Passed.{fit-refused}
-use Rattle.closed_paths.proofs.Areas.{kept-wide}
+use Rattle.closed_paths.proofs.Areas.{work-fits}
 use Rattle.prepared_fit.specs.Begun.{Begins}
 use Rattle.prepared_fit.proofs.Laws.{unsound-fit}
 use Rattle.prepared_fit.proofs.begin.Statement.{statement}
@@ -38,15 +39,14 @@ returns c = let qu = c .before in
     record {
       refuses = fit-refused (ask st) (lend st) q (sym (qu .question .ensures)) (ne-eqb q 0 (c .if1 .taken));
       unused = λ e. refl;
-      kept = kept-none 0 (workPlaces (length (p .y .now))) (p .work .now);
+      kept = kept-none 0 (preparation (length (p .y .now))) (p .work .now);
     }
 
 prepare-requires : tie.Need-prepare-requires
 prepare-requires c κs = let el = asked c in
     let st = el .before .before .before .before in
     let q = passed (ask st) (lend st) (zero el) in
-    let w = q .work in
-    (q .series, omega arith)
+    (q .series, omega (arith, q .work, work-fits (ask st)))
 
 returns-2 : tie.Need-returns-2
 unfolding Begins
@@ -57,7 +57,7 @@ returns-2 c = let pr = c .before .before .before .before in
     record {
       refuses = unsound-fit (ask st) (lend st) (zero el) (sym (d .good) ∙ not-true _ (c .if2 .taken));
       unused = λ t. absurd (clash t refl);
-      kept = kept-wide 0 (workPlaces (length (st .args .y .now))) (d .kept) (omega arith) (omega arith);
+      kept = d .kept;
     }
 
 returns-3 : tie.Need-returns-3

@@ -10,22 +10,22 @@ use Rattle.vectors.proofs.Texts.{take-put}
 use Rattle.search.specs.declared.Reason.{Reason}
 use Rattle.search.specs.declared.Reason.the-variants.{LimitSpent}
 use Rattle.search.specs.Reasons.{atLimit}
-use Rattle.questions.specs.Questions.{Asked, Lent, room, question}
+use Rattle.questions.specs.Questions.{Asked, Lent, needsFor, room, question}
 use Rattle.fit.specs.Outputs.{Outputs}
 use Rattle.fit.specs.Fit.{places, FitResult, Outcome, refused, fitted, Lengths, fit, after}
 use Rattle.fit.specs.Reasons.{withReason}
 use Rattle.fit.specs.Demand3.{withMaxIter}
 use Rattle.fit.proofs.Demand3 as demand
 use Rattle.trend_filter.specs.declared.Summary.{Summary}
 use Rattle.trend_filter.specs.declared.Answer.{Answer}
 use Rattle.trend_filter.specs.declared.Answer.the-variants.{Fit}
 use Rattle.trend_filter.specs.Answers.{Buffers, lent, summaryOf, answerOf}
-use Rattle.trend_filter.specs.Reasons.{reasoned}
-use Rattle.trend_filter.specs.Lasting.{LastingCalls}
-use Rattle.trend_filter.specs.TwoCalls.{TwoCalls, SamePlaces, Agree, Agreement, TwoCallsAgree}
+use Rattle.calls.specs.Reasons.{reasoned}
+use Rattle.calls.specs.Lasting.{LastingCalls}
+use Rattle.calls.specs.TwoCalls.{TwoCalls, SamePlaces, Agree, Agreement, TwoCallsAgree}
 
 -- a fit reads the lengths lent in questions 8 and 9 alone
-same-lent : (a : Asked) (l k : Lent) → room (length (a .y)) l ≡ room (length (a .y)) k → fit a l ≡ fit a k
+same-lent : (a : Asked) (l k : Lent) → room (length (a .y)) (needsFor a) l ≡ room (length (a .y)) (needsFor a) k → fit a l ≡ fit a k
 unfolding fit question
 same-lent a l k e = rw e
 
@@ -82,8 +82,13 @@ module _ (a : Asked) (other : ℕ) (r s : Answer) (b c d e : Buffers) (h : TwoCa
   fits : (x : Summary) → r ≡ Fit x → Came (fit a (lent b)) x
   fits x t = came (fit a (lent b)) x (sym (h .first .gives .answer) ∙ t)
 
+  -- questions 8 and 9 don't read the limit
+  room-other : (l : Lent) → room (length (a .y)) (needsFor (withMaxIter other a)) l ≡ room (length (a .y)) (needsFor a) l
+  unfolding room
+  room-other l = refl
+
   same : (o : Outcome) → fit (withMaxIter other a) (lent b) ≡ o → fit (withMaxIter other a) (lent d) ≡ o
-  same o q = same-lent (withMaxIter other a) (lent d) (lent b) (h .same-room) ∙ q
+  same o q = same-lent (withMaxIter other a) (lent d) (lent b) (room-other (lent d) ∙ h .same-room ∙ sym (room-other (lent b))) ∙ q
 
   -- the places of two calls that write one fit
   placed : (f : FitResult) (o : Outcome) → fit a (lent b) ≡ fitted f → fit (withMaxIter other a) (lent d) ≡ o → ((v : Outputs) → after o v ≡ after (fitted f) v) → SamePlaces (length (a .y)) (length (f .knots)) (places a) (c .out) (e .out)

@@ -1,24 +1,24 @@
--- Demand 3, of two calls of the entry: calls alike but for max_iter and for the buffers agree (`Rattle.trend_filter.proofs.TwoCalls` proves it).
+-- Demand 3, of two calls of the entry: calls alike but for max_iter and for the buffers agree (`Rattle.calls.proofs.TwoCalls` proves it).
 use mathlib.Core.Path.{_≡_}
 use Prim.Native.Nat.{ℕ, _≤_, _<_}
 use lib.ListN.{length, take}
 use Rattle.fit.specs.Outputs.{Outputs}
 use Rattle.search.specs.Reasons.{atLimit}
-use Rattle.questions.specs.Questions.{Asked, room}
+use Rattle.questions.specs.Questions.{Asked, needsFor, room}
 use Rattle.fit.specs.Fit.{places}
 use Rattle.fit.specs.Demand3.{withMaxIter}
 use Rattle.trend_filter.specs.declared.Summary.{Summary}
 use Rattle.trend_filter.specs.declared.Answer.{Answer}
 use Rattle.trend_filter.specs.declared.Answer.the-variants.{Fit}
-use Rattle.trend_filter.specs.Reasons.{reasoned}
+use Rattle.calls.specs.Reasons.{reasoned}
 use Rattle.trend_filter.specs.Answers.{Buffers, lent, Answered}
 
 -- The first call asks a, answers r, finds b in the buffers and leaves c. The second asks the same with max_iter `other`, answers s, finds d and leaves e.
 -- What the buffers held before may differ, and so may their lengths, if questions 8 and 9 have one answer in both calls.
 pub record TwoCalls (a : Asked) (other : ℕ) (r s : Answer) (b c d e : Buffers) : Type 0 where
   pub first : Answered a r b c
   pub second : Answered (withMaxIter other a) s d e
-  pub same-room : room (length (a .y)) (lent d) ≡ room (length (a .y)) (lent b)
+  pub same-room : room (length (a .y)) (needsFor a) (lent d) ≡ room (length (a .y)) (needsFor a) (lent b)
 
 -- the first places are equal: n of trend and of cycle, count of knots, m of dual
 pub record SamePlaces (n count m : ℕ) (c e : Outputs) : Type 0 where

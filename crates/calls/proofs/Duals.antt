@@ -9,11 +9,11 @@ use Rattle.fit.specs.Outputs.{Outputs}
 use Rattle.fit.specs.Fit.{FitResult, Outcome, fitted, places, fit, after}
 use Rattle.fit.specs.Duals.{Rechecks}
 use Rattle.fit.proofs.Duals.{dual-point}
 use Rattle.trend_filter.specs.declared.Summary.{Summary}
 use Rattle.trend_filter.specs.declared.Answer.{Answer}
 use Rattle.trend_filter.specs.Answers.{Buffers, lent, summaryOf, Answered}
-use Rattle.trend_filter.specs.Duals.{DualCalls}
-use Rattle.trend_filter.proofs.TwoCalls.{came}
+use Rattle.calls.specs.Duals.{DualCalls}
+use Rattle.calls.proofs.TwoCalls.{came}
 
 handed : (a : Asked) (r : Answer) (b c : Buffers) → Answered a r b c → (f : FitResult) → fit a (lent b) ≡ fitted f → take (places a) (c .out .dual) ≡ f .dual
 unfolding after

@@ -1,13 +1,13 @@
--- Document 02, A11, of calls of the entry: what a reason tells of other limits (`Rattle.trend_filter.proofs.TwoCalls` proves it).
+-- Document 02, A11, of calls of the entry: what a reason tells of other limits (`Rattle.calls.proofs.TwoCalls` proves it).
 use mathlib.Core.Path.{_≡_}
 use Prim.Native.Nat.{ℕ, _<_}
 use Rattle.search.specs.declared.Reason.the-variants.{LimitSpent}
 use Rattle.questions.specs.Questions.{Asked}
 use Rattle.trend_filter.specs.declared.Summary.{Summary}
 use Rattle.trend_filter.specs.declared.Answer.{Answer}
 use Rattle.trend_filter.specs.declared.Answer.the-variants.{Fit}
 use Rattle.trend_filter.specs.Answers.{Buffers, Answered}
-use Rattle.trend_filter.specs.TwoCalls.{TwoCalls, Agree}
+use Rattle.calls.specs.TwoCalls.{TwoCalls, Agree}
 
 -- of any such calls
 pub record LastingCalls : Type 0 where

@@ -4,9 +4,9 @@ use native.Mathlib.Omega.{arith}
 use Rattle.fit.specs.Fit.{fit}
 use Rattle.fit.specs.Looser.{withTol}
 use Rattle.fit.proofs.Looser.{looser-fit}
 use Rattle.trend_filter.specs.Answers.{lent}
-use Rattle.trend_filter.specs.Looser.{LooserCalls}
-use Rattle.trend_filter.proofs.TwoCalls.{came, steps-told}
+use Rattle.calls.specs.Looser.{LooserCalls}
+use Rattle.calls.proofs.TwoCalls.{came, steps-told}
 
 pub looser-calls : LooserCalls
 looser-calls a looser r s b c d e first second t x z p q =
