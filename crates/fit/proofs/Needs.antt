@@ -37,5 +37,5 @@ foretold a l = record {
   given = λ f e. foretells a l .given (passed a l f e .asked);
   ceiling = λ f e g h. omega (arith, within a l f e, ap (λ (x : Figures). x .steps) (given-same a g h));
   refuses = λ q h. not-passed a l (λ z. given-refused (sym (foretells a l .given z) ∙ h));
-  enough = λ g h w m e. foretells a l .enough g h w m (refused-by a l 9 (omega arith) (omega arith) e);
+  enough = λ g h w m e. foretells a l .enough g h w m (refused-by a l 9 (omega arith) e .0);
 }

@@ -56,23 +56,22 @@ abbrev refusal : Outcome → ℕ
 refusal (refused n) = n
 refusal (fitted f) = 0
 
-refusal-path : (a : Asked) (o : Option Found) (q : ℕ) → 1 ≤ q → q < 10 → refusal (outcome a o) ≡ q → ⊥
-unfolding outcome
-refusal-path a none q low high e = omega arith
-refusal-path a (some f) q low high e = omega arith
+not-10 : (q : ℕ) → q < 10 → refused 10 ≡ refused q → ⊥
+not-10 q h e = let d : 10 ≡ q = ap refusal e in omega arith
 
--- a refusal with a number of 1 to 9 comes from that question
-pub refused-by : (a : Asked) (l : Lent) (q : ℕ) → 1 ≤ q → q < 10 → fit a l ≡ refused q → question a l ≡ q
-unfolding fit
-refused-by a l q low high r = go (eqb (question a l) 0) (soundDD a) (ap refusal r)
+-- a refusal with a number below 10 comes from that question, so it is not 0
+pub refused-by : (a : Asked) (l : Lent) (q : ℕ) → q < 10 → fit a l ≡ refused q → (question a l ≡ q) × (eqb q 0 ≡ false)
+unfolding fit outcome
+refused-by a l q h = go (eqb (question a l) 0) refl (soundDD a) (path a)
   where
-    go : (b c : Bool) → refusal (cond b (cond c (outcome a (path a)) (refused 10)) (refused (question a l))) ≡ q → question a l ≡ q
-    go true true e = absurd (refusal-path a (path a) q low high e)
-    go true false e = absurd (let h : 10 ≡ q = e in omega arith)
-    go false c e = e
+    go : (b : Bool) → eqb (question a l) 0 ≡ b → (c : Bool) (o : Option Found) → cond b (cond c (outcome a o) (refused 10)) (refused (question a l)) ≡ refused q → (question a l ≡ q) × (eqb q 0 ≡ false)
+    go true z true none e = absurd (not-10 q h e)
+    go true z true (some f) e = absurd (not-refused (sym e))
+    go true z false o e = absurd (not-10 q h e)
+    go false z c o e = let p : question a l ≡ q = ap refusal e in (p, rw p at z)
 
 pub size-passes : (a : Asked) (l : Lent) → length (a .y) ≤ 65536 → fit a l ≡ refused 3 → ⊥
-size-passes a l h e = not-too-long a l h (refused-by a l 3 (omega arith) (omega arith) e)
+size-passes a l h e = not-too-long a l h (refused-by a l 3 (omega arith) e .0)
 
 pub outcome-some : (a : Asked) (f : Found) → outcome a (some f) ≡ fitted (written a f)
 unfolding outcome

@@ -1,21 +1,22 @@
 -- Laws of answers: a refusal, and the fit of a prepared series; that past the questions nothing is refused early. Assumes nothing.
 use mathlib.Core.Path.{_≡_, refl, sym, ap, ap₂, subst, _∙_}
-use mathlib.Core.Bool.{Bool, true, false, cond}
+use mathlib.Core.Bool.{Bool, true, cond}
 use mathlib.Core.List.{List}
 use mathlib.Core.Option.{Option, none, some}
 use Prim.Native.Nat.{ℕ}
 use native.Mathlib.Omega.{arith}
+use borrow.Author.Tests.{ltb-true, eqb-false}
 use lib.Ieee.{Float}
 use Rattle.float64.proofs.Clash.{clash}
 use Rattle.vectors.proofs.Laws.{kept-none, kept-then}
 use Rattle.questions.specs.Questions.{Asked, Lent, needsFor, question}
 use Rattle.questions.proofs.Laws.{passed}
 use Rattle.fit.specs.Outputs.{Outputs}
-use Rattle.fit.specs.Fit.{Found, Outcome, refused, lamMaxOf, path, written, outcome, fit, after}
+use Rattle.fit.specs.Fit.{Found, Outcome, refused, fitted, lamMaxOf, path, written, outcome, fit, after}
 use Rattle.fit.specs.Ways.{soundDD}
 use Rattle.fit.proofs.Lengths.{lengths}
 use Rattle.fit.proofs.Demand3.{bounds}
-use Rattle.fit.proofs.Passed.{fit-passed}
+use Rattle.fit.proofs.Passed.{fit-passed, refused-by}
 use Rattle.closed_paths.proofs.Areas.{kept-wide, work-fits}
 use Rattle.prepared_fit.specs.declared.Written.{Written}
 use Rattle.prepared_fit.specs.Begun.{Stops, Readies, Begins}
@@ -29,18 +30,13 @@ use Rattle.trend_filter.specs.Inner.{toldOf}
 
 -- ---- past the questions
 
-late-outcome : (a : Asked) (o : Option Found) → early (outcome a o) ≡ false
-unfolding early outcome
-late-outcome a none = refl
-late-outcome a (some f) = refl
-
-pick-late : (b : Bool) (o p : Outcome) → early o ≡ false → early p ≡ false → early (cond b o p) ≡ false
-pick-late true o p x y = x
-pick-late false o p x y = y
-
 not-early : (a : Asked) (l : Lent) → question a l ≡ 0 → early (fit a l) ≡ true → ⊥
 unfolding early
-not-early a l e t = clash t (ap early (fit-passed a l e) ∙ pick-late (soundDD a) (outcome a (path a)) (refused 10) (late-outcome a (path a)) refl)
+not-early a l e = go (fit a l) refl
+  where
+    go : (o : Outcome) → fit a l ≡ o → early o ≡ true → ⊥
+    go (refused q) p t = let w = refused-by a l q (ltb-true q 10 t) p in eqb-false q 0 (w .1) (sym (w .0) ∙ e)
+    go (fitted f) p t = clash t refl
 
 -- the preparation
 sound-fit : (a : Asked) (l : Lent) → question a l ≡ 0 → soundDD a ≡ true → fit a l ≡ outcome a (path a)
