@@ -4,9 +4,12 @@
 week.py make FILE    writes the sample week: 168 hours, four of them silent and one in frames, and the correction of a mistyped one
 week.py show         reads a listing from standard input and prints it with plain numbers; hours are numbered from 0, silent
                      ones too: of the sample week hour 0 is Monday, 00:00, and hour 77 Thursday, 05:00
+week.py past MS      reads a listing from standard input and prints where its trend goes past so many milliseconds, and where it
+                     comes back
 
     python3 examples/week.py make examples/week.bin
     target/bin/weektrend < examples/week.bin | python3 examples/week.py show
+    target/bin/weektrend < examples/week.bin | python3 examples/week.py past 8000
 """
 import math
 import random
@@ -92,7 +95,31 @@ def show(lines):
             print(f"flat from lam {top:.6g} on; gap {gap:.3g}; objective {objective:.6g}")
 
 
+def past(lines, level):
+    """Document 02's A9: between two hours the trend passes the level if it is above at one of them, and at or below at the other."""
+    fields = [line.split() for line in lines]
+    for f in fields:
+        if f[:1] == ["refused"]:
+            print(f"refused: question {f[1]}")
+    hours = [(int(f[1]), number(f[2])) for f in fields if f[:1] == ["h"]]
+    for _, first in hours[:1]:
+        print(f"the week begins {'past' if first > level else 'at or below' if first <= level else 'on neither side of'} {level:g} ms")
+    for (here, a), (then, b) in zip(hours, hours[1:]):
+        if a <= level < b:
+            print(f"hour {then:4}  goes past: {b:.1f} ms, after {a:.1f} ms at hour {here}")
+        elif a > level >= b:
+            print(f"hour {then:4}  is back:   {b:.1f} ms, after {a:.1f} ms at hour {here}")
+
+
 if sys.argv[1:2] == ["make"]:
     open(sys.argv[2], "wb").write(make())
+elif sys.argv[1:2] == ["past"]:
+    try:
+        mark = float(sys.argv[2])
+    except (IndexError, ValueError):
+        mark = math.nan
+    if not math.isfinite(mark):
+        sys.exit("week.py past MS: how many milliseconds, as 8000")
+    past(sys.stdin, mark)
 else:
     show(sys.stdin)

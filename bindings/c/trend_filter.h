@@ -1,4 +1,5 @@
-/* The trend of a series, when its search ends, and what it needs: the C entries of the proved static library.
+/* The trend of a series, when its search ends and what it needs, where the trend passes a level, and the knot nearest a place: the C
+ * entries of the proved static library.
  *
  * Link with libtrend_filter.a, which `rt staticlib trend_filter` writes.
  *
@@ -31,6 +32,18 @@
  * After a refusal needs is as found. A call of trend_filter_fit for the same n, max_iter, order and penalty never reports an n_iter above
  * the steps told, whatever the series, lam and tol; it isn't refused with 9 if it is lent the places told; and what trend_filter_needs
  * refuses with 1, 2 or 3 it refuses with the same number, what that refuses with 7 it refuses with 4, 5, 6 or 7.
+ *
+ * trend_filter_crossings lists where a trend of n = trend_len places passes a level: the i, rising, with i + 1 below n where trend[i] is at or
+ * below the level and trend[i + 1] above it, or trend[i] above it and trend[i + 1] at or below. A NaN is neither, so there is no crossing
+ * beside it. It answers 0, and the first found[0] places of list are the crossings; later ones are as found. Or it refuses: with
+ *  18  where the level isn't finite, then with
+ *  19  where n is above 65,536 or list has fewer than n places
+ * and list and found are as found. With no NaN in the trend, upward and downward crossings take turns, and with no crossing the whole
+ * trend is at or below the level, or all of it above.
+ *
+ * trend_filter_nearest_knot answers 0 and in found 1 and the knot nearest the place, the lower of two that are as near, or 0 and 0 where
+ * knots_len is 0. Lend it exactly the knots: the first counts[0] places. It takes any numbers, in any order. It refuses with 19 where n =
+ * trend_len is above 65,536 or the place isn't below n, and found is as found. Neither call changes a place of trend or knots.
  *
  * dual is the point z at which the dual objective G of the gap was worked out, for whoever rechecks a fit; D takes the order-th differences:
  *   L2                   lam times each place of D trend, not clamped
@@ -74,6 +87,12 @@ uint32_t trend_filter_fit(const double *y, size_t y_len, double lam, double tol,
                           size_t work_len, uint32_t *marks, size_t marks_len, double numbers[5], uint64_t counts[5]);
 
 uint32_t trend_filter_needs(uint64_t n, uint64_t max_iter, uint32_t order, uint32_t penalty, uint64_t needs[3]);
+
+uint32_t trend_filter_crossings(double level, const double *trend, size_t trend_len, uint32_t *list, size_t list_len,
+                                uint64_t found[1]);
+
+uint32_t trend_filter_nearest_knot(uint64_t place, const double *trend, size_t trend_len, const uint32_t *knots,
+                                   size_t knots_len, uint64_t found[2]);
 
 /* The reasons, as counts[4] has them. */
 enum trend_filter_reason {

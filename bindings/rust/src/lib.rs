@@ -5,6 +5,8 @@
 //! What the port knows beyond the source, how the search went, why it stopped and the dual point, is [`Search`];
 //! [`l1_trend_filter_with_search`] gives it beside the fit. The refusals are [`Refused`], which holds the question's number and says it in words.
 //! [`TrendFilterOptions::needs`] tells before a fit how much memory it will take and how many steps at most.
+//! [`TrendFilterFit::crossings`] tells of a fit where its trend passes a level, [`TrendFilterFit::nearest_knot`] which of its knots is
+//! nearest a place; [`crossings`] and [`nearest_knot`] do so for any trend and any knots, in memory that is lent.
 //!
 //! The floating-point environment is taken as a program starts: rounding to nearest, subnormal numbers kept, no exception that
 //! traps. Rust assumes the same of all its code. Where other code on the thread has changed it (C's `fesetround` or
@@ -92,6 +94,31 @@ pub struct TrendFilterFit {
     pub lam_max: f64,
 }
 
+impl TrendFilterFit {
+    /// Where the trend passes `level`, rising: the `i` for which `trend[i]` is at or below it and `trend[i + 1]` above, or `trend[i]`
+    /// above it and `trend[i + 1]` at or below.
+    ///
+    /// # Errors
+    /// As of [`crossings`].
+    pub fn crossings(&self, level: f64) -> Result<Vec<usize>, Refused> {
+        let mut list = vec![0; self.trend.len()];
+        let count = crossings(level, &self.trend, &mut list)?;
+        Ok(list[..count].iter().map(|&i| i as usize).collect())
+    }
+
+    /// The knot nearest a place of the trend, the lower of two that are as near; `None` where the fit has no knot.
+    ///
+    /// # Errors
+    /// As of [`nearest_knot`].
+    pub fn nearest_knot(&self, place: usize) -> Result<Option<usize>, Refused> {
+        // A fit's knots are below 65,536. Of one that was built by hand those beyond u32 are farthest, and the lowest of them is nearest.
+        let short = |k: usize| u32::try_from(k).unwrap_or(u32::MAX);
+        let knots: Vec<u32> = self.knots.iter().map(|&k| short(k)).collect();
+        let found = nearest_knot(place as u64, &self.trend, &knots)?;
+        Ok(found.and_then(|f| self.knots.iter().copied().filter(|&k| short(k) == f).min()))
+    }
+}
+
 /// How the search of a fit went, and the dual point of its certificate: what the source's fit doesn't have.
 #[derive(Debug, Clone, PartialEq)]
 pub struct Search {
@@ -171,6 +198,8 @@ impl Refused {
             7 => "is max_iter at least 1?",
             8 => "have trend, cycle, knots and dual a place for each of the series?",
             9 => "have work and marks the places that they need?",
+            18 => "is the level finite?",
+            19 => "is the trend at most 65,536 long, has the list as many places, is the place asked about one of them?",
             _ => "is every pivot met finite and above 0?",
         }
     }
@@ -198,6 +227,14 @@ extern "C" {
     ) -> u32;
 
     fn trend_filter_needs(n: u64, max_iter: u64, order: u32, penalty: u32, needs: *mut [u64; 3]) -> u32;
+
+    fn trend_filter_crossings(
+        level: f64, trend: *const f64, trend_len: usize, list: *mut u32, list_len: usize, found: *mut [u64; 1],
+    ) -> u32;
+
+    fn trend_filter_nearest_knot(
+        place: u64, trend: *const f64, trend_len: usize, knots: *const u32, knots_len: usize, found: *mut [u64; 2],
+    ) -> u32;
 }
 
 /// The trend of `y` with the penalty weight `lam`.
@@ -255,4 +292,34 @@ pub fn l1_trend_filter_with_search(y: &[f64], lam: f64, opts: TrendFilterOptions
         lam_max,
     };
     Ok((fit, Search { first_gap, best_gap, improvements, reason: Reason::of(reason), dual }))
+}
+
+/// Where a trend passes `level`: the first places of `list` become the `i`, rising, with `i + 1` below the trend's length for which
+/// `trend[i]` is at or below the level and `trend[i + 1]` above it, or `trend[i]` above it and `trend[i + 1]` at or below. A NaN is
+/// neither, so there is no crossing beside it. Gives how many there are; later places of `list` stay as they are.
+///
+/// # Errors
+/// [`Refused`] with 18 where the level isn't finite, then with 19 where the trend is longer than 65,536 or `list` shorter than the
+/// trend; `list` stays as it is.
+pub fn crossings(level: f64, trend: &[f64], list: &mut [u32]) -> Result<usize, Refused> {
+    let mut found = [0];
+    // SAFETY: each pointer is to as many places as the length beside it, none overlap, and the entry asks nothing more.
+    let refused = unsafe { trend_filter_crossings(level, trend.as_ptr(), trend.len(), list.as_mut_ptr(), list.len(), &mut found) };
+    if refused == 0 { Ok(found[0] as usize) } else { Err(Refused(refused)) }
+}
+
+/// The one of `knots` that is nearest a place of the trend, the lower of two that are as near; `None` where there is none. They may be
+/// any numbers, in any order.
+///
+/// # Errors
+/// [`Refused`] with 19 where the trend is longer than 65,536 or the place isn't below its length.
+pub fn nearest_knot(place: u64, trend: &[f64], knots: &[u32]) -> Result<Option<u32>, Refused> {
+    let mut found = [0; 2];
+    // SAFETY: each pointer is to as many places as the length beside it, found overlaps neither, and the entry asks nothing more.
+    let refused = unsafe { trend_filter_nearest_knot(place, trend.as_ptr(), trend.len(), knots.as_ptr(), knots.len(), &mut found) };
+    match (refused, found) {
+        (0, [1, knot]) => Ok(Some(knot as u32)),
+        (0, _) => Ok(None),
+        (refused, _) => Err(Refused(refused)),
+    }
 }

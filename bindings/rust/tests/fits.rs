@@ -1,4 +1,4 @@
-use trend_filter::{l1_trend_filter, l1_trend_filter_with_search, Needs, Penalty, Reason, Refused, Search, TrendFilterFit, TrendFilterOptions};
+use trend_filter::{crossings, l1_trend_filter, l1_trend_filter_with_search, nearest_knot, Needs, Penalty, Reason, Refused, Search, TrendFilterFit, TrendFilterOptions};
 
 fn opts(order: usize, penalty: Penalty) -> TrendFilterOptions {
     TrendFilterOptions { order, penalty, tol: 1e-8, max_iter: 100 }
@@ -182,4 +182,49 @@ fn refusals_in_their_order() {
     assert_eq!(refused(&[1.0, 3.0, 2.0], 1.0, TrendFilterOptions { max_iter: 0, ..l1 }), Refused(7));
     assert_eq!(refused(&[0.0; 3], 1e308, opts(2, Penalty::L2)), Refused(10));
     assert_eq!(Refused(5).to_string(), "refused 5: is lam finite and not below 0?");
+}
+
+#[test]
+fn where_a_trend_passes_eight_seconds() {
+    let mut list = [7; 6];
+    // 8,000 itself is at the level and not past it; beside a NaN there is no crossing.
+    let trend = [7000.0, 8000.0, 8000.5, 8001.0, 8000.0, f64::NAN];
+    assert_eq!(crossings(8000.0, &trend, &mut list), Ok(2));
+    assert_eq!(list, [1, 3, 7, 7, 7, 7]);
+    assert_eq!(crossings(-0.0, &[0.0, -0.0, 5e-324, f64::INFINITY, f64::NEG_INFINITY], &mut list), Ok(2));
+    assert_eq!(list, [1, 3, 7, 7, 7, 7]);
+    for none in [&[][..], &[9000.0], &[9000.0, f64::NAN, 7000.0]] {
+        assert_eq!(crossings(8000.0, none, &mut list), Ok(0));
+    }
+    // 18 comes before 19, and a refusal leaves the list.
+    for (level, places, number) in [(f64::INFINITY, 5, 18), (f64::NAN, 6, 18), (8000.0, 5, 19)] {
+        assert_eq!(crossings(level, &trend, &mut list[..places]), Err(Refused(number)));
+    }
+    assert_eq!(crossings(8000.0, &[0.0; 65_537], &mut [0; 65_537]), Err(Refused(19)));
+    assert_eq!(crossings(8000.0, &[0.0; 65_536], &mut [0; 65_536]), Ok(0));
+    assert_eq!(list, [1, 3, 7, 7, 7, 7]);
+    assert_eq!(Refused(18).to_string(), "refused 18: is the level finite?");
+}
+
+#[test]
+fn the_nearest_knot() {
+    let trend = [0.0; 10];
+    assert_eq!(nearest_knot(4, &trend, &[9, 6, 1, 2]), Ok(Some(2)));
+    assert_eq!(nearest_knot(4, &trend, &[6, 2]), Ok(Some(2)));
+    assert_eq!(nearest_knot(9, &trend, &[u32::MAX, 0]), Ok(Some(0)));
+    assert_eq!(nearest_knot(9, &trend, &[]), Ok(None));
+    assert_eq!(nearest_knot(10, &trend, &[]), Err(Refused(19)));
+    assert_eq!(nearest_knot(0, &[], &[0]), Err(Refused(19)));
+    assert_eq!(nearest_knot(0, &[0.0; 65_537], &[0]), Err(Refused(19)));
+}
+
+#[test]
+fn a_fit_is_asked_where_it_passes_and_bends() {
+    let mut f = l1_trend_filter(&[0.0, 0.0, 9000.0, 9000.0, 0.0, 0.0], 10.0, opts(1, Penalty::L1)).unwrap();
+    assert_eq!((f.crossings(8000.0), f.crossings(9000.0), &f.knots), (Ok(vec![1, 3]), Ok(vec![]), &vec![1, 3]));
+    assert_eq!((f.nearest_knot(2), f.nearest_knot(3), f.nearest_knot(6)), (Ok(Some(1)), Ok(Some(3)), Err(Refused(19))));
+    f.knots = vec![usize::MAX, u32::MAX as usize + 5];
+    assert_eq!(f.nearest_knot(2), Ok(Some(u32::MAX as usize + 5)));
+    f.knots.clear();
+    assert_eq!(f.nearest_knot(2), Ok(None));
 }

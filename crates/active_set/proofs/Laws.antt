@@ -13,8 +13,9 @@ use lib.ListN.{length, getD, set, length-append, length-set, List·getD-append}
 use lib.Seq.{getD-at, getD-set-same, getD-set-other}
 use lib.Ieee.{Float, lt}
 use Rattle.float64.specs.Ops.{_⊕_, _⊖_}
-use Rattle.vectors.specs.Vec.{at, KeptOf}
+use Rattle.vectors.specs.Vec.{at, placesTo, KeptOf}
 use Rattle.vectors.proofs.Parts.{at-part}
+use Rattle.vectors.proofs.Places.{places-few, places-rising}
 use Rattle.dual_point.specs.Places.{point}
 use Rattle.active_set.specs.ActiveSet.{Hold, free, at-lam, at-minus-lam, isFree, holdAt, freeTo, compressed, lessHeld, lessTo, compressedRhsAt}
 use Rattle.active_set.specs.Marks.{markOf, holdOf, Marks}
@@ -58,15 +59,14 @@ one-le true = omega arith
 one-le false = omega arith
 
 count-suc : (h : ℕ → Hold) (n : ℕ) → length (freeTo h (suc n)) ≡ length (freeTo h n) + cond (isFree (h n)) 1 0
-unfolding freeTo
+unfolding freeTo placesTo
 count-suc h n =
     length-append (freeTo h n) (cond (isFree (h n)) (n ∷ []) [])
     ∙ ap (λ (x : ℕ). length (freeTo h n) + x) (one-length (isFree (h n)) n)
 
 pub count-le : (h : ℕ → Hold) (n : ℕ) → length (freeTo h n) ≤ n
 unfolding freeTo
-count-le h zero = omega arith
-count-le h (suc n) = omega (arith, count-suc h n, count-le h n, one-le (isFree (h n)))
+count-le h n = places-few (λ i. isFree (h i)) n
 
 pub count-more : (h : ℕ → Hold) (i : ℕ) {q r : ℕ} → q ≡ length (freeTo h i) → r ≡ cond (isFree (h i)) 1 0 → q + r ≡ length (freeTo h (i + 1))
 count-more h i e p = rw (add-one i, count-suc h i, e, p)
@@ -85,31 +85,20 @@ free-index h i m l f =
     let e : length (freeTo h (suc i)) ≡ length (freeTo h i) + 1 = rw f at (count-suc h i) in
     omega (arith, count-mono h (suc i) m (omega arith))
 
-snoc-lt : (f : List ℕ) (b : Bool) (m r : ℕ) → ((j : ℕ) → j < length f → getD f j 0 < m) → r < length (f ++ cond b (m ∷ []) []) → getD (f ++ cond b (m ∷ []) []) r 0 < suc m
-snoc-lt f true m r p l =
-    ⊎-elim
-    (λ (e : r ≡ length f). rw (e, getD-at f m [] 0 (length f) refl) (omega arith))
-    (λ (u : r < length f). rw (List·getD-append f (m ∷ []) 0 r u) (omega (arith, p r u)))
-    (eq-or-lt-of-le (omega (arith, length-append f (m ∷ []))))
-snoc-lt f false m r p l =
-    let u : r < length f = omega (arith, length-append f []) in
-    rw (List·getD-append f [] 0 r u) (omega (arith, p r u))
-
 -- each is a place
 pub free-lt : (h : ℕ → Hold) (m r : ℕ) → r < length (freeTo h m) → getD (freeTo h m) r 0 < m
 unfolding freeTo
-free-lt h zero r l = absurd (omega arith)
-free-lt h (suc m) r l = snoc-lt (freeTo h m) (isFree (h m)) m r (free-lt h m) l
+free-lt h m r l = places-rising (λ i. isFree (h i)) m .below r l
 
 pub free-ext : (h h′ : ℕ → Hold) (n : ℕ) → ((j : ℕ) → j < n → h j ≡ h′ j) → freeTo h n ≡ freeTo h′ n
-unfolding freeTo
+unfolding freeTo placesTo
 free-ext h h′ zero e = refl
 free-ext h h′ (suc n) e = rw (free-ext h h′ n (λ j l. e j (omega arith)), e n (omega arith))
 
 -- ---- one more mark
 
 pub marks-none : (h : ℕ → Hold) (n : ℕ) (v : List ℕ) → Marks h n 0 v 0
-unfolding freeTo
+unfolding freeTo placesTo
 marks-none h n v = record { count = refl; free = λ j l. absurd (omega arith); held = λ j l. absurd (omega arith) }
 
 snoc-same : (f : List ℕ) (b : Bool) (i q : ℕ) (v : List ℕ) → q ≡ length f → ((j : ℕ) → j < q → getD v j 0 ≡ getD f j 0) → getD v q 0 ≡ i
@@ -150,7 +139,7 @@ module _ {h : ℕ → Hold} {n i q x : ℕ} {v : List ℕ} (w : Marks h n i v q)
   one r e = e ∙ ap (λ (t : Hold). cond (isFree t) 1 0) (ap holdOf is ∙ hold-mark (h i))
 
   pub marks-more : (r : ℕ) → r ≡ cond (isFree (holdOf x)) 1 0 → Marks h n (i + 1) (set (set v (n + i) x) q i) (q + r)
-  unfolding freeTo
+  unfolding freeTo placesTo
   marks-more r e =
       rw (add-one i)
       (record {

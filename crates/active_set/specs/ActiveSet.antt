@@ -1,11 +1,11 @@
 -- Document 01, "Polish, knots, closed paths": which places are held, and the compressed system over the others. k is the order, g the Gram row, dy is D y, p the point at which the search ended, m its places; h tells how each place is held.
 use mathlib.Core.Bool.{Bool, true, false, cond}
-use mathlib.Core.List.{List, [], _∷_, _++_}
+use mathlib.Core.List.{List}
 use Prim.Native.Nat.{ℕ, zero, suc, _+_, _-_, min}
 use lib.ListN.{length, getD}
 use lib.Ieee.{Float, neg, lt}
 use Rattle.float64.specs.Ops.{_⊕_, _⊖_, _⊗_, c0}
-use Rattle.vectors.specs.Vec.{at, apart, list}
+use Rattle.vectors.specs.Vec.{at, apart, list, placesTo}
 use Rattle.banded.specs.Rows.{Matrix, rows}
 use Rattle.banded.specs.Solve.{solve}
 use Rattle.gram.specs.Gram.{gram}
@@ -35,8 +35,7 @@ heldAt lam at-minus-lam = neg lam
 
 -- the free places below n, rising
 unfoldable pub freeTo : (ℕ → Hold) → ℕ → List ℕ
-freeTo h zero = []
-freeTo h (suc n) = freeTo h n ++ cond (isFree (h n)) (n ∷ []) []
+freeTo h n = placesTo (λ i. isFree (h i)) n
 
 -- the compressed system over the free places f: D D' between any two of them, at row i and a column j up to i
 unfoldable pub compressed : ℕ → List Float → List ℕ → Matrix

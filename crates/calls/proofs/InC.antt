@@ -29,6 +29,6 @@ asked-first-in-c a q r b c v₀ v u₀ u w₀ w n h = go (h .answer) (h .answere
     go (Fit x) d e k =
         let f = asked-first (neededFor a) a (Fit x) b c (record { first = refl; second = d }) in
         let g = f .given x refl in
-        let told = ap (λ (s : List ℕ). getD s 2 0) (n .needs ∙ ap (λ (s : Needed). needsIn s w₀) g) in
+        let told = ap (λ (s : List ℕ). getD s 2 0) (n .array ∙ ap (λ (s : Needed). needsIn s w₀) g) in
         let counted = ap (λ (s : List ℕ). getD s 1 0) k in
         record { given = λ t. n .code ∙ ap needsCode g; ceiling = λ t. omega (arith, told, counted, f .ceiling x refl (needsFor a) g) }

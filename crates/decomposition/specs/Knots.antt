@@ -1,12 +1,11 @@
 -- Document 01, "Polish, knots, closed paths": the knots of a trend.
-use mathlib.Core.Bool.{cond}
-use mathlib.Core.List.{List, [], _∷_, _++_}
-use Prim.Native.Nat.{ℕ, zero, suc}
+use mathlib.Core.List.{List}
+use Prim.Native.Nat.{ℕ}
 use lib.ListN.{length}
 use lib.Ieee.{Float, lt}
 use Rattle.float64.specs.Helpers.{absOf, maxOf}
 use Rattle.float64.specs.Ops.{_⊗_, c1e-6, c1e-12}
-use Rattle.vectors.specs.Vec.{at}
+use Rattle.vectors.specs.Vec.{at, placesTo}
 use Rattle.vectors.specs.Sums.{maxAbs}
 use Rattle.differences.specs.Diff.{diffK}
 
@@ -14,11 +13,6 @@ use Rattle.differences.specs.Diff.{diffK}
 unfoldable pub threshold : ℕ → List Float → Float
 threshold k y = maxOf (c1e-6 ⊗ maxAbs (diffK k y)) (c1e-12 ⊗ maxAbs y)
 
--- the indices below n, rising, where |d| is above t
-unfoldable pub aboveTo : Float → List Float → ℕ → List ℕ
-aboveTo t d zero = []
-aboveTo t d (suc n) = aboveTo t d n ++ cond (lt t (absOf (at d n))) (n ∷ []) []
-
--- the knots of a trend with the differences d, for the series y
+-- the knots of a trend with the differences d, for the series y: the places of d, rising, where |d| is above the threshold
 unfoldable pub knots : ℕ → List Float → List Float → List ℕ
-knots k y d = aboveTo (threshold k y) d (length d)
+knots k y d = placesTo (λ i. lt (threshold k y) (absOf (at d i))) (length d)

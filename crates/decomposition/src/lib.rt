@@ -1,10 +1,7 @@
 // What is written of a trend: itself, its cycle and its knots.
 ghost use mathlib.Core.Path.{_≡_};
-ghost use mathlib.Core.Bool.{cond};
-ghost use mathlib.Core.List.{[], _∷_};
-ghost use Prim.Native.Nat.{_≤_, _<_, _-_, _+_};
+ghost use Prim.Native.Nat.{_≤_};
 ghost use lib.ListN.{length};
-ghost use lib.Ieee.{lt};
 ghost use Rattle.float64.specs.Helpers.{absOf};
 ghost use Rattle.vectors.specs.Vec.{at, put};
 ghost use Rattle.vectors.specs.Parts.{Wrote};
@@ -69,19 +66,6 @@ fn threshold(y: &[f64], k: usize) -> f64
     float64::max(1e-6 * p.differences, 1e-12 * p.values)
 }
 
-// i becomes the next knot, at place n, where |d| is above t; the number of knots then.
-fn add_knot(knots: &mut [u32], n: usize, i: usize, d: f64, t: f64) -> usize
-    requires { ⌜ (n < length (now knots)) × (i < 65536) ⌝ }
-    ensures { λ r. ⌜ Wrote (now (knots .entry)) n (cond (lt t (absOf d)) (i ∷ []) []) (now (knots .exit)) r ⌝ }
-{
-    let x = float64::abs(d);
-    if t < x {
-        knots[n] = i as u32;
-        return n + 1;
-    }
-    n
-}
-
 // The first places of knots become the knots of the trend x of y; how many there are.
 fn find_knots(knots: &mut [u32], x: &[f64], y: &[f64], k: usize) -> usize
     requires { ⌜ KnotPlaces k (length (now y)) (length (now x)) (length (now knots)) ⌝ }
@@ -93,7 +77,8 @@ fn find_knots(knots: &mut [u32], x: &[f64], y: &[f64], k: usize) -> usize
     let mut i = 0;
     while i < m {
         let d = differences::diff_at(x, k, i);
-        n = add_knot(knots, n, i, d, t);
+        let size = float64::abs(d);
+        n = vectors::add_place(knots, n, i, t < size);
         i += 1;
     }
     n

@@ -6,7 +6,7 @@ use Prim.Native.Nat.{ℕ}
 use lib.Ieee.{Float, binary64, ofBits, ofInt, add, sub, mul, div, neg, lt, le, eq, isNan}
 use Rattle.float64.specs.Helpers.{absOf, isFinite, maxOf, minOf, clampOf}
 use Rattle.square_root.specs.Sqrt.{isqrtOf, isqrt, nearestRoot, sqrtOf}
-use Rattle.vectors.specs.Vec.{list}
+use Rattle.vectors.specs.Vec.{list, placesTo}
 use Rattle.vectors.specs.Sums.{sumTo, maxTo, norm2Sq, dot, sumAbs, maxAbs, insideTo}
 use Rattle.differences.specs.Diff.{diff, diffK, diffT, diffKT}
 use Rattle.banded.specs.Rows.{less, lessFrom, reduced, entry, placed, rowTo, row, rows, sound}
@@ -15,7 +15,7 @@ use Rattle.gram.specs.Gram.{gram, product, zstar, lamMax}
 use Rattle.vectors.specs.Sums.{more, moreFrom}
 use Rattle.ridge.specs.Ridge.{ridge}
 use Rattle.certificate.specs.Certificate.{minus, clamped, certify}
-use Rattle.decomposition.specs.Knots.{threshold, aboveTo, knots}
+use Rattle.decomposition.specs.Knots.{threshold, knots}
 use Rattle.search.specs.Search.{iterate, run}
 use Rattle.newton_system.specs.Newton.{diagonalShift, rhsAt, residualSquareAt, system, rhs, residualSquare, residualNorm, newtonZ}
 use Rattle.direction.specs.Direction.{dmu1At, dmu2At, stepCapBy, direction, stepCapTo}
@@ -53,7 +53,7 @@ table-1 =
     ∷ []
 
 pub known-1 : worked table-1 ≡ stated table-1
-unfolding absOf isFinite maxOf minOf clampOf isqrtOf isqrt nearestRoot sqrtOf list sumTo maxTo norm2Sq dot sumAbs maxAbs diff diffK diffT diffKT less lessFrom reduced entry placed rowTo row rows sound forwardAt forward divided backAt back solve gram more moreFrom product zstar lamMax ridge minus clamped certify threshold aboveTo knots iterate run diagonalShift rhsAt dmu1At dmu2At residualSquareAt stepCapBy system rhs direction residualSquare residualNorm stepCapTo stepped along insideTo accepted trials newtonZ searchLine nextT move problem origin interiorPoint holdAt freeTo compressed lessTo compressedRhsAt solved candidateAt candidate polish soundL2 trendL2 scaled objectiveL2 dualL2 gapL2 finiteTo room question pathL2 pathZero pathFlat polished searchOf keptOf pathEnd pathL1 path written outcome fit ofBits ofInt add sub mul div neg lt le eq isNan
+unfolding absOf isFinite maxOf minOf clampOf isqrtOf isqrt nearestRoot sqrtOf list sumTo maxTo norm2Sq dot sumAbs maxAbs diff diffK diffT diffKT less lessFrom reduced entry placed rowTo row rows sound forwardAt forward divided backAt back solve gram more moreFrom product zstar lamMax ridge minus clamped certify threshold placesTo knots iterate run diagonalShift rhsAt dmu1At dmu2At residualSquareAt stepCapBy system rhs direction residualSquare residualNorm stepCapTo stepped along insideTo accepted trials newtonZ searchLine nextT move problem origin interiorPoint holdAt freeTo compressed lessTo compressedRhsAt solved candidateAt candidate polish soundL2 trendL2 scaled objectiveL2 dualL2 gapL2 finiteTo room question pathL2 pathZero pathFlat polished searchOf keptOf pathEnd pathL1 path written outcome fit ofBits ofInt add sub mul div neg lt le eq isNan
 known-1 = refl
 
 abbrev pub table-2 : List Case
@@ -69,7 +69,7 @@ table-2 =
     ∷ []
 
 pub known-2 : worked table-2 ≡ stated table-2
-unfolding absOf isFinite maxOf minOf clampOf isqrtOf isqrt nearestRoot sqrtOf list sumTo maxTo norm2Sq dot sumAbs maxAbs diff diffK diffT diffKT less lessFrom reduced entry placed rowTo row rows sound forwardAt forward divided backAt back solve gram more moreFrom product zstar lamMax ridge minus clamped certify threshold aboveTo knots iterate run diagonalShift rhsAt dmu1At dmu2At residualSquareAt stepCapBy system rhs direction residualSquare residualNorm stepCapTo stepped along insideTo accepted trials newtonZ searchLine nextT move problem origin interiorPoint holdAt freeTo compressed lessTo compressedRhsAt solved candidateAt candidate polish soundL2 trendL2 scaled objectiveL2 dualL2 gapL2 finiteTo room question pathL2 pathZero pathFlat polished searchOf keptOf pathEnd pathL1 path written outcome fit ofBits ofInt add sub mul div neg lt le eq isNan
+unfolding absOf isFinite maxOf minOf clampOf isqrtOf isqrt nearestRoot sqrtOf list sumTo maxTo norm2Sq dot sumAbs maxAbs diff diffK diffT diffKT less lessFrom reduced entry placed rowTo row rows sound forwardAt forward divided backAt back solve gram more moreFrom product zstar lamMax ridge minus clamped certify threshold placesTo knots iterate run diagonalShift rhsAt dmu1At dmu2At residualSquareAt stepCapBy system rhs direction residualSquare residualNorm stepCapTo stepped along insideTo accepted trials newtonZ searchLine nextT move problem origin interiorPoint holdAt freeTo compressed lessTo compressedRhsAt solved candidateAt candidate polish soundL2 trendL2 scaled objectiveL2 dualL2 gapL2 finiteTo room question pathL2 pathZero pathFlat polished searchOf keptOf pathEnd pathL1 path written outcome fit ofBits ofInt add sub mul div neg lt le eq isNan
 known-2 = refl
 
 abbrev pub table-3 : List Case
@@ -81,7 +81,7 @@ table-3 =
     ∷ []
 
 pub known-3 : worked table-3 ≡ stated table-3
-unfolding absOf isFinite maxOf minOf clampOf isqrtOf isqrt nearestRoot sqrtOf list sumTo maxTo norm2Sq dot sumAbs maxAbs diff diffK diffT diffKT less lessFrom reduced entry placed rowTo row rows sound forwardAt forward divided backAt back solve gram more moreFrom product zstar lamMax ridge minus clamped certify threshold aboveTo knots iterate run diagonalShift rhsAt dmu1At dmu2At residualSquareAt stepCapBy system rhs direction residualSquare residualNorm stepCapTo stepped along insideTo accepted trials newtonZ searchLine nextT move problem origin interiorPoint holdAt freeTo compressed lessTo compressedRhsAt solved candidateAt candidate polish soundL2 trendL2 scaled objectiveL2 dualL2 gapL2 finiteTo room question pathL2 pathZero pathFlat polished searchOf keptOf pathEnd pathL1 path written outcome fit ofBits ofInt add sub mul div neg lt le eq isNan
+unfolding absOf isFinite maxOf minOf clampOf isqrtOf isqrt nearestRoot sqrtOf list sumTo maxTo norm2Sq dot sumAbs maxAbs diff diffK diffT diffKT less lessFrom reduced entry placed rowTo row rows sound forwardAt forward divided backAt back solve gram more moreFrom product zstar lamMax ridge minus clamped certify threshold placesTo knots iterate run diagonalShift rhsAt dmu1At dmu2At residualSquareAt stepCapBy system rhs direction residualSquare residualNorm stepCapTo stepped along insideTo accepted trials newtonZ searchLine nextT move problem origin interiorPoint holdAt freeTo compressed lessTo compressedRhsAt solved candidateAt candidate polish soundL2 trendL2 scaled objectiveL2 dualL2 gapL2 finiteTo room question pathL2 pathZero pathFlat polished searchOf keptOf pathEnd pathL1 path written outcome fit ofBits ofInt add sub mul div neg lt le eq isNan
 known-3 = refl
 
 abbrev pub table-4 : List Case
@@ -93,7 +93,7 @@ table-4 =
     ∷ []
 
 pub known-4 : worked table-4 ≡ stated table-4
-unfolding absOf isFinite maxOf minOf clampOf isqrtOf isqrt nearestRoot sqrtOf list sumTo maxTo norm2Sq dot sumAbs maxAbs diff diffK diffT diffKT less lessFrom reduced entry placed rowTo row rows sound forwardAt forward divided backAt back solve gram more moreFrom product zstar lamMax ridge minus clamped certify threshold aboveTo knots iterate run diagonalShift rhsAt dmu1At dmu2At residualSquareAt stepCapBy system rhs direction residualSquare residualNorm stepCapTo stepped along insideTo accepted trials newtonZ searchLine nextT move problem origin interiorPoint holdAt freeTo compressed lessTo compressedRhsAt solved candidateAt candidate polish soundL2 trendL2 scaled objectiveL2 dualL2 gapL2 finiteTo room question pathL2 pathZero pathFlat polished searchOf keptOf pathEnd pathL1 path written outcome fit ofBits ofInt add sub mul div neg lt le eq isNan
+unfolding absOf isFinite maxOf minOf clampOf isqrtOf isqrt nearestRoot sqrtOf list sumTo maxTo norm2Sq dot sumAbs maxAbs diff diffK diffT diffKT less lessFrom reduced entry placed rowTo row rows sound forwardAt forward divided backAt back solve gram more moreFrom product zstar lamMax ridge minus clamped certify threshold placesTo knots iterate run diagonalShift rhsAt dmu1At dmu2At residualSquareAt stepCapBy system rhs direction residualSquare residualNorm stepCapTo stepped along insideTo accepted trials newtonZ searchLine nextT move problem origin interiorPoint holdAt freeTo compressed lessTo compressedRhsAt solved candidateAt candidate polish soundL2 trendL2 scaled objectiveL2 dualL2 gapL2 finiteTo room question pathL2 pathZero pathFlat polished searchOf keptOf pathEnd pathL1 path written outcome fit ofBits ofInt add sub mul div neg lt le eq isNan
 known-4 = refl
 
 abbrev pub table-5 : List Case
@@ -105,7 +105,7 @@ table-5 =
     ∷ []
 
 pub known-5 : worked table-5 ≡ stated table-5
-unfolding absOf isFinite maxOf minOf clampOf isqrtOf isqrt nearestRoot sqrtOf list sumTo maxTo norm2Sq dot sumAbs maxAbs diff diffK diffT diffKT less lessFrom reduced entry placed rowTo row rows sound forwardAt forward divided backAt back solve gram more moreFrom product zstar lamMax ridge minus clamped certify threshold aboveTo knots iterate run diagonalShift rhsAt dmu1At dmu2At residualSquareAt stepCapBy system rhs direction residualSquare residualNorm stepCapTo stepped along insideTo accepted trials newtonZ searchLine nextT move problem origin interiorPoint holdAt freeTo compressed lessTo compressedRhsAt solved candidateAt candidate polish soundL2 trendL2 scaled objectiveL2 dualL2 gapL2 finiteTo room question pathL2 pathZero pathFlat polished searchOf keptOf pathEnd pathL1 path written outcome fit ofBits ofInt add sub mul div neg lt le eq isNan
+unfolding absOf isFinite maxOf minOf clampOf isqrtOf isqrt nearestRoot sqrtOf list sumTo maxTo norm2Sq dot sumAbs maxAbs diff diffK diffT diffKT less lessFrom reduced entry placed rowTo row rows sound forwardAt forward divided backAt back solve gram more moreFrom product zstar lamMax ridge minus clamped certify threshold placesTo knots iterate run diagonalShift rhsAt dmu1At dmu2At residualSquareAt stepCapBy system rhs direction residualSquare residualNorm stepCapTo stepped along insideTo accepted trials newtonZ searchLine nextT move problem origin interiorPoint holdAt freeTo compressed lessTo compressedRhsAt solved candidateAt candidate polish soundL2 trendL2 scaled objectiveL2 dualL2 gapL2 finiteTo room question pathL2 pathZero pathFlat polished searchOf keptOf pathEnd pathL1 path written outcome fit ofBits ofInt add sub mul div neg lt le eq isNan
 known-5 = refl
 
 abbrev pub table-6 : List Case
@@ -117,7 +117,7 @@ table-6 =
     ∷ []
 
 pub known-6 : worked table-6 ≡ stated table-6
-unfolding absOf isFinite maxOf minOf clampOf isqrtOf isqrt nearestRoot sqrtOf list sumTo maxTo norm2Sq dot sumAbs maxAbs diff diffK diffT diffKT less lessFrom reduced entry placed rowTo row rows sound forwardAt forward divided backAt back solve gram more moreFrom product zstar lamMax ridge minus clamped certify threshold aboveTo knots iterate run diagonalShift rhsAt dmu1At dmu2At residualSquareAt stepCapBy system rhs direction residualSquare residualNorm stepCapTo stepped along insideTo accepted trials newtonZ searchLine nextT move problem origin interiorPoint holdAt freeTo compressed lessTo compressedRhsAt solved candidateAt candidate polish soundL2 trendL2 scaled objectiveL2 dualL2 gapL2 finiteTo room question pathL2 pathZero pathFlat polished searchOf keptOf pathEnd pathL1 path written outcome fit ofBits ofInt add sub mul div neg lt le eq isNan
+unfolding absOf isFinite maxOf minOf clampOf isqrtOf isqrt nearestRoot sqrtOf list sumTo maxTo norm2Sq dot sumAbs maxAbs diff diffK diffT diffKT less lessFrom reduced entry placed rowTo row rows sound forwardAt forward divided backAt back solve gram more moreFrom product zstar lamMax ridge minus clamped certify threshold placesTo knots iterate run diagonalShift rhsAt dmu1At dmu2At residualSquareAt stepCapBy system rhs direction residualSquare residualNorm stepCapTo stepped along insideTo accepted trials newtonZ searchLine nextT move problem origin interiorPoint holdAt freeTo compressed lessTo compressedRhsAt solved candidateAt candidate polish soundL2 trendL2 scaled objectiveL2 dualL2 gapL2 finiteTo room question pathL2 pathZero pathFlat polished searchOf keptOf pathEnd pathL1 path written outcome fit ofBits ofInt add sub mul div neg lt le eq isNan
 known-6 = refl
 
 abbrev pub table-7 : List Case
@@ -141,7 +141,7 @@ table-7 =
     ∷ []
 
 pub known-7 : worked table-7 ≡ stated table-7
-unfolding absOf isFinite maxOf minOf clampOf isqrtOf isqrt nearestRoot sqrtOf list sumTo maxTo norm2Sq dot sumAbs maxAbs diff diffK diffT diffKT less lessFrom reduced entry placed rowTo row rows sound forwardAt forward divided backAt back solve gram more moreFrom product zstar lamMax ridge minus clamped certify threshold aboveTo knots iterate run diagonalShift rhsAt dmu1At dmu2At residualSquareAt stepCapBy system rhs direction residualSquare residualNorm stepCapTo stepped along insideTo accepted trials newtonZ searchLine nextT move problem origin interiorPoint holdAt freeTo compressed lessTo compressedRhsAt solved candidateAt candidate polish soundL2 trendL2 scaled objectiveL2 dualL2 gapL2 finiteTo room question pathL2 pathZero pathFlat polished searchOf keptOf pathEnd pathL1 path written outcome fit ofBits ofInt add sub mul div neg lt le eq isNan
+unfolding absOf isFinite maxOf minOf clampOf isqrtOf isqrt nearestRoot sqrtOf list sumTo maxTo norm2Sq dot sumAbs maxAbs diff diffK diffT diffKT less lessFrom reduced entry placed rowTo row rows sound forwardAt forward divided backAt back solve gram more moreFrom product zstar lamMax ridge minus clamped certify threshold placesTo knots iterate run diagonalShift rhsAt dmu1At dmu2At residualSquareAt stepCapBy system rhs direction residualSquare residualNorm stepCapTo stepped along insideTo accepted trials newtonZ searchLine nextT move problem origin interiorPoint holdAt freeTo compressed lessTo compressedRhsAt solved candidateAt candidate polish soundL2 trendL2 scaled objectiveL2 dualL2 gapL2 finiteTo room question pathL2 pathZero pathFlat polished searchOf keptOf pathEnd pathL1 path written outcome fit ofBits ofInt add sub mul div neg lt le eq isNan
 known-7 = refl
 
 abbrev pub table-8 : List Case
@@ -171,5 +171,5 @@ table-8 =
     ∷ []
 
 pub known-8 : worked table-8 ≡ stated table-8
-unfolding absOf isFinite maxOf minOf clampOf isqrtOf isqrt nearestRoot sqrtOf list sumTo maxTo norm2Sq dot sumAbs maxAbs diff diffK diffT diffKT less lessFrom reduced entry placed rowTo row rows sound forwardAt forward divided backAt back solve gram more moreFrom product zstar lamMax ridge minus clamped certify threshold aboveTo knots iterate run diagonalShift rhsAt dmu1At dmu2At residualSquareAt stepCapBy system rhs direction residualSquare residualNorm stepCapTo stepped along insideTo accepted trials newtonZ searchLine nextT move problem origin interiorPoint holdAt freeTo compressed lessTo compressedRhsAt solved candidateAt candidate polish soundL2 trendL2 scaled objectiveL2 dualL2 gapL2 finiteTo room question pathL2 pathZero pathFlat polished searchOf keptOf pathEnd pathL1 path written outcome fit ofBits ofInt add sub mul div neg lt le eq isNan
+unfolding absOf isFinite maxOf minOf clampOf isqrtOf isqrt nearestRoot sqrtOf list sumTo maxTo norm2Sq dot sumAbs maxAbs diff diffK diffT diffKT less lessFrom reduced entry placed rowTo row rows sound forwardAt forward divided backAt back solve gram more moreFrom product zstar lamMax ridge minus clamped certify threshold placesTo knots iterate run diagonalShift rhsAt dmu1At dmu2At residualSquareAt stepCapBy system rhs direction residualSquare residualNorm stepCapTo stepped along insideTo accepted trials newtonZ searchLine nextT move problem origin interiorPoint holdAt freeTo compressed lessTo compressedRhsAt solved candidateAt candidate polish soundL2 trendL2 scaled objectiveL2 dualL2 gapL2 finiteTo room question pathL2 pathZero pathFlat polished searchOf keptOf pathEnd pathL1 path written outcome fit ofBits ofInt add sub mul div neg lt le eq isNan
 known-8 = refl

@@ -19,7 +19,7 @@ use Rattle.certificate.specs.Certificate.{Certificate, certify}
 use Rattle.certificate.proofs.Laws.{length-minus, length-clamped}
 use Rattle.vectors.specs.Rising.{Rising}
 use Rattle.vectors.proofs.Rising.{rising-within}
-use Rattle.decomposition.proofs.Above.{above-few, above-rising}
+use Rattle.vectors.proofs.Places.{places-few, places-rising}
 use Rattle.decomposition.specs.Knots.{knots}
 use Rattle.gram.specs.Gram.{zstar}
 use Rattle.dual_point.specs.Dual.{Dual}
@@ -43,7 +43,7 @@ length-solve k f b =
 
 pub length-knots : (k : ℕ) (y d : List Float) → length (knots k y d) ≤ length d
 unfolding knots
-length-knots k y d = above-few _ d (length d)
+length-knots k y d = places-few _ (length d)
 
 pub length-zstar : (a : Asked) → length (zstar (a .order) (gramRow (a .order)) (places a) (a .y)) ≡ places a
 unfolding zstar
@@ -125,4 +125,4 @@ knot-places a l f e =
     let p = passed a l f e in
     let x = p .found .trend in
     let d : length (diffK (a .order) x) ≡ length (a .y) - a .order = length-diffK (a .order) x ∙ ap (λ (n : ℕ). n - a .order) (found-spans a l f p .0) in
-    subst (λ (g : FitResult). Rising (places a) (g .knots)) (sym (p .made)) (rising-within (above-rising _ (diffK (a .order) x) (length (diffK (a .order) x))) (le-of-eq d))
+    subst (λ (g : FitResult). Rising (places a) (g .knots)) (sym (p .made)) (rising-within (places-rising _ (length (diffK (a .order) x))) (le-of-eq d))

@@ -1,18 +1,23 @@
--- The order of the doubles: of two that are no NaN one is at most the other; and what clamp leaves between -l and l. Assumes nothing.
+-- The order of the doubles: of two that are no NaN either one is at most the other or above it; and what clamp leaves between -l and l. Assumes nothing.
 use mathlib.Core.Path.{_≡_, refl, sym}
 use mathlib.Core.Logic.{_⊎_, inl, inr, ⊎-elim}
 use mathlib.Core.Bool.{Bool, true, false, cond, not, _&&_, _||_, true≢false}
 use Prim.Native.Nat.{ℕ, _+_, _*_, _≤_, _<_}
-use native.Mathlib.Nat.{eq-or-lt-of-le, eq-zero-or-pos, zero-mul}
+use native.Mathlib.Nat.{eq-or-lt-of-le, eq-zero-or-pos, lt-irrefl, zero-mul}
 use native.Mathlib.Omega.{arith}
-use borrow.Author.Tests.{ltb-false, lt-ltb, le-ltb, eq-eqb}
+use borrow.Author.Tests.{ltb-true, ltb-false, lt-ltb, le-ltb, eq-eqb, ne-eqb}
 use lib.IntN.{ℤ}
 use lib.Dec.{T, eqb, ltb}
-use lib.Ieee.{Float, nan, inf, fin, up, down, neg, below, level, lt, le, isNan, ofBits}
+use lib.Ieee.{Float, nan, inf, fin, up, down, neg, below, level, lt, le, eq, isNan, ofBits}
 use Rattle.float64.specs.Helpers.{isFinite, clampOf}
 use Rattle.float64.specs.Ops.{c0}
+use Rattle.float64.proofs.Clash.{clash}
 
 -- ---- not below is at least
+
+pub and-off : (b : Bool) → b && false ≡ false
+and-off true = refl
+and-off false = refl
 
 at-most : (p q u v : ℕ) → p ≤ q → (p ≡ q → u ≡ v) → T (ltb p q || (eqb u v && true))
 at-most p q u v h e =
@@ -45,6 +50,50 @@ not-below (inf false) (fin t n d) p q h = tt
 not-below (fin s m e) (inf true) p q h = tt
 not-below (fin s m e) (inf false) p q h = absurd (true≢false h)
 not-below (fin s m e) (fin t n d) p q h = sides s t (m * up e * down d) (n * up d * down e) h
+
+-- ---- what is above is not at most
+
+not-at-most : (p q u v : ℕ) → q < p → (u ≡ v → p ≡ q) → ltb p q || (eqb u v && true) ≡ false
+not-at-most p q u v l e = rw (le-ltb p q (omega arith), ne-eqb u v (λ s. lt-irrefl q (rw (e s) at l)))
+
+other-sides : (s t : Bool) (a b : ℕ) → below s a t b ≡ true → below t b s a || level t b s a ≡ false
+other-sides false false a b h = not-at-most b a b a (ltb-true a b h) (λ e. e)
+other-sides true true a b h = not-at-most a b b a (ltb-true b a h) sym
+other-sides true false a b h =
+    let l = ltb-true 0 (a + b) h in
+    ⊎-elim (λ (e : b ≡ 0). rw (ne-eqb b a (omega arith))) (λ (p : 0 < b). rw (ne-eqb b 0 (omega arith)) (and-off (eqb b a))) (eq-zero-or-pos b)
+other-sides false true a b h = absurd (true≢false (sym h))
+
+pub above-not-at-most : (x y : Float) → lt x y ≡ true → le y x ≡ false
+unfolding lt le eq
+above-not-at-most nan y h = absurd (true≢false (sym h))
+above-not-at-most (inf s) nan h = absurd (true≢false (sym h))
+above-not-at-most (fin s m e) nan h = absurd (true≢false (sym h))
+above-not-at-most (inf true) (inf true) h = absurd (true≢false (sym h))
+above-not-at-most (inf true) (inf false) h = refl
+above-not-at-most (inf false) (inf t) h = absurd (true≢false (sym h))
+above-not-at-most (inf true) (fin t n d) h = refl
+above-not-at-most (inf false) (fin t n d) h = absurd (true≢false (sym h))
+above-not-at-most (fin s m e) (inf true) h = absurd (true≢false (sym h))
+above-not-at-most (fin s m e) (inf false) h = refl
+above-not-at-most (fin s m e) (fin t n d) h = other-sides s t (m * up e * down d) (n * up d * down e) h
+
+-- of two that are no NaN, y is at most x just where x is not below y
+pub at-most-or-above : (x y : Float) → isNan x ≡ false → isNan y ≡ false → le y x ≡ not (lt x y)
+at-most-or-above x y p q = go (lt x y) (le y x) refl refl
+  where
+    go : (a b : Bool) → lt x y ≡ a → le y x ≡ b → b ≡ not a
+    go true true h g = absurd (clash g (above-not-at-most x y h))
+    go true false h g = refl
+    go false true h g = refl
+    go false false h g = absurd (rw g at (not-below x y p q h))
+
+-- a finite double is no NaN
+pub finite-no-nan : (x : Float) → isFinite x ≡ true → isNan x ≡ false
+unfolding isFinite isNan
+finite-no-nan nan f = absurd (true≢false (sym f))
+finite-no-nan (inf s) f = refl
+finite-no-nan (fin s m e) f = refl
 
 -- ---- between -l and l, where l is finite and not below 0
 

@@ -4,3 +4,4 @@ pub mod Parts
 pub mod Texts
 pub mod Sums
 pub mod Rising
+pub mod Places

@@ -1,5 +1,6 @@
 -- A vector and its places, and what is kept of it. Where the element type is any, z is what is read beyond the end: nan for doubles, 0 for counts and bytes.
 use mathlib.Core.Path.{_≡_}
+use mathlib.Core.Bool.{Bool, cond}
 use mathlib.Core.List.{List, [], _∷_, _++_}
 use Prim.Native.Nat.{ℕ, zero, suc, _+_, _-_, _≤_, _<_}
 use lib.ListN.{length, getD, take, drop}
@@ -17,6 +18,11 @@ apart i j = i - j + (j - i)
 unfoldable pub list : {A : Type 0} → ℕ → (ℕ → A) → List A
 list zero f = []
 list (suc n) f = list n f ++ (f n ∷ [])
+
+-- the places below n, rising, of which p holds
+unfoldable pub placesTo : (ℕ → Bool) → ℕ → List ℕ
+placesTo p zero = []
+placesTo p (suc n) = placesTo p n ++ cond (p n) (n ∷ []) []
 
 -- s with t in the places from a on
 abbrev pub put : {A : Type 0} → List A → ℕ → List A → List A

@@ -1,12 +1,13 @@
-// The greatest size of a vector, whether it lies within a bound, and a copy of one.
+// The greatest size of a vector, whether it lies within a bound, a copy of one, and a list of places made longer.
 ghost use mathlib.Core.Path.{_≡_};
-ghost use mathlib.Core.Bool.{_&&_};
-ghost use Prim.Native.Nat.{_≤_, _-_, min};
+ghost use mathlib.Core.Bool.{_&&_, cond};
+ghost use mathlib.Core.List.{[], _∷_};
+ghost use Prim.Native.Nat.{_≤_, _<_, _-_, min};
 ghost use lib.ListN.{length};
 ghost use lib.Ieee.{lt};
 ghost use Rattle.float64.specs.Helpers.{absOf};
 ghost use Rattle.vectors.specs.Vec.{put, apart};
-ghost use Rattle.vectors.specs.Parts.{Kept, part, Written, Disjoint};
+ghost use Rattle.vectors.specs.Parts.{Kept, part, Written, Disjoint, Wrote};
 ghost use Rattle.vectors.specs.Sums.{maxAbs, inside};
 
 // The greatest size, from 0; NaN is ignored.
@@ -80,6 +81,18 @@ pub fn copy_within(s: &mut [f64], a: usize, b: usize, n: usize)
         s[b + i] = s[a + i];
         i += 1;
     }
+}
+
+// i becomes the next number of list, at place n, where it is wanted; how many there are then.
+pub fn add_place(list: &mut [u32], n: usize, i: usize, wanted: bool) -> usize
+    requires { ⌜ (n < length (now list)) × (i < 65536) ⌝ }
+    ensures { λ r. ⌜ Wrote (now (list .entry)) n (cond wanted (i ∷ []) []) (now (list .exit)) r ⌝ }
+{
+    if wanted {
+        list[n] = i as u32;
+        return n + 1;
+    }
+    n
 }
 
 // |i - j|

@@ -6,6 +6,7 @@ use Rattle.polish.proofs.Candidates.{place-is}
 use Rattle.vectors.proofs.Laws.{none, store-more}
 use native.Mathlib.Nat.{add-zero}
 use lib.ListN.{length}
+use Rattle.vectors.specs.Vec.{placesTo}
 use Rattle.vectors.specs.Parts.{part, Written}
 use Rattle.active_set.specs.Marks.{heldBy}
 use Rattle.active_set.specs.ActiveSet.{isFree, freeTo}
@@ -21,7 +22,7 @@ abbrev μ-loop : tie.MeasureT-loop
 μ-loop s₀ marks lam b a n m q₀ i₀ s q i = m - i
 
 loop-holds : tie.Need-loop-holds Inv-loop μ-loop
-unfolding freeTo
+unfolding freeTo placesTo
 loop-holds c = (search needs, search needs, refl, rw add-zero none)
 
 add-q : tie.Need-add-q Inv-loop μ-loop

@@ -1,0 +1,4 @@
+-- The laws of crossings.
+mod Listing
+pub mod Nearest
+pub mod Passing
