@@ -11,6 +11,7 @@
 #include <stdlib.h>
 #include <string.h>
 #include "trend_filter.h"
+#include "../bits.h"
 
 enum { GUARD = 4096 };
 
@@ -25,10 +26,7 @@ typedef struct {
 // four places, and any in the others.
 static uint64_t nan_at(unsigned seed, size_t i) {
     static const uint64_t ends[4] = {1, UINT64_C(0x7ffffffffffff), UINT64_C(0x8000000000000), UINT64_C(0xfffffffffffff)};
-    uint64_t z = ((uint64_t)seed << 40) + i * UINT64_C(0x9e3779b97f4a7c15);
-    z = (z ^ z >> 30) * UINT64_C(0xbf58476d1ce4e5b9);
-    z = (z ^ z >> 27) * UINT64_C(0x94d049bb133111eb);
-    z ^= z >> 31;
+    uint64_t z = mixed(((uint64_t)seed << 40) + i * STEP);
     uint64_t any = z & UINT64_C(0xfffffffffffff);
     return (z & UINT64_C(1) << 63) | UINT64_C(0x7ff) << 52 | ((z >> 60 & 3) == 0 ? ends[z & 3] : any ? any : 1);
 }
@@ -51,11 +49,7 @@ static int kept(Lent l, size_t free) {
     return 1;
 }
 
-static uint64_t bits_of(double x) {
-    uint64_t b;
-    memcpy(&b, &x, 8);
-    return x != x ? UINT64_C(0x7ff8000000000000) : b;
-}
+static uint64_t bits_of(double x) { return x != x ? UINT64_C(0x7ff8000000000000) : bits(x); }
 
 static double double_of(const unsigned char *p) {
     double x;

@@ -14,6 +14,7 @@
 #include <stdlib.h>
 #include <string.h>
 #include "trend_filter.h"
+#include "../bits.h"
 
 enum { MOST = 65600, GUARD = 4, FOUND = 2 };
 
@@ -21,17 +22,6 @@ static double trend[MOST], trend_before[MOST];
 static uint32_t list[MOST + 2 * GUARD], list_before[MOST + 2 * GUARD], knots[MOST], knots_before[MOST];
 static uint64_t found[FOUND + 2 * GUARD], found_before[FOUND + 2 * GUARD];
 static uint64_t cases, answers[4], refusals[2];
-
-static uint64_t state;
-static uint64_t rnd(void) /* splitmix64 */
-{
-    uint64_t z = (state += 0x9e3779b97f4a7c15);
-    z = (z ^ (z >> 30)) * 0xbf58476d1ce4e5b9;
-    z = (z ^ (z >> 27)) * 0x94d049bb133111eb;
-    return z ^ (z >> 31);
-}
-
-static double of_bits(uint64_t b) { double x; memcpy(&x, &b, 8); return x; }
 
 /* ---- the words of the request */
 
@@ -178,7 +168,7 @@ static uint64_t any_value(uint64_t level)
     case 4: return level + 1;
     case 5: return level - 1;
     case 6: return level ^ 0x8000000000000000;
-    default: { double x = (double)(int64_t)(rnd() % 2001) - 1000; uint64_t b; memcpy(&b, &x, 8); return b; }
+    default: return bits((double)(int64_t)(rnd() % 2001) - 1000);
     }
 }
 

@@ -13,6 +13,7 @@
 #include <stdio.h>
 #include <stdlib.h>
 #include <string.h>
+#include "../bits.h"
 
 double float64_sqrt(double x);
 double float64_abs(double x);
@@ -20,18 +21,6 @@ bool float64_is_finite(double x);
 double float64_max(double a, double b);
 double float64_min(double a, double b);
 double float64_clamp(double z, double lam);
-
-static uint64_t bits(double x) { uint64_t b; memcpy(&b, &x, 8); return b; }
-static double of_bits(uint64_t b) { double x; memcpy(&x, &b, 8); return x; }
-
-static uint64_t state;
-static uint64_t rnd(void) /* splitmix64 */
-{
-    uint64_t z = (state += 0x9e3779b97f4a7c15);
-    z = (z ^ (z >> 30)) * 0xbf58476d1ce4e5b9;
-    z = (z ^ (z >> 27)) * 0x94d049bb133111eb;
-    return z ^ (z >> 31);
-}
 
 static const uint64_t special[] = {
     0x0000000000000000, /* +0 */

@@ -64,7 +64,7 @@ impl TrendFilterOptions {
         // SAFETY: needs has three places, and the entry asks nothing more.
         let refused = unsafe { trend_filter_needs(n as u64, self.max_iter as u64, self.order_number(), self.penalty_number(), &mut needs) };
         let [work, marks, steps] = needs.map(|x| x as usize);
-        if refused == 0 { Ok(Needs { work, marks, steps }) } else { Err(Refused(refused)) }
+        told(refused, Needs { work, marks, steps })
     }
 
     fn order_number(&self) -> u32 {
@@ -103,7 +103,7 @@ impl TrendFilterFit {
     pub fn crossings(&self, level: f64) -> Result<Vec<usize>, Refused> {
         let mut list = vec![0; self.trend.len()];
         let count = crossings(level, &self.trend, &mut list)?;
-        Ok(list[..count].iter().map(|&i| i as usize).collect())
+        Ok(wide(&list[..count]))
     }
 
     /// The knot nearest a place of the trend, the lower of two that are as near; `None` where the fit has no knot.
@@ -213,6 +213,16 @@ impl fmt::Display for Refused {
 
 impl std::error::Error for Refused {}
 
+/// What an entry has answered: 0 and the answer, or a refusal's number.
+fn told<T>(refused: u32, answer: T) -> Result<T, Refused> {
+    if refused == 0 { Ok(answer) } else { Err(Refused(refused)) }
+}
+
+/// Places as the entries have them, for a Rust program.
+fn wide(places: &[u32]) -> Vec<usize> {
+    places.iter().map(|&i| i as usize).collect()
+}
+
 extern "C" {
     fn trend_filter_fit(
         y: *const f64, y_len: usize,
@@ -284,7 +294,7 @@ pub fn l1_trend_filter_with_search(y: &[f64], lam: f64, opts: TrendFilterOptions
     let fit = TrendFilterFit {
         trend,
         cycle,
-        knots: knots[..count as usize].iter().map(|&i| i as usize).collect(),
+        knots: wide(&knots[..count as usize]),
         duality_gap,
         objective,
         converged: converged == 1,
@@ -305,7 +315,7 @@ pub fn crossings(level: f64, trend: &[f64], list: &mut [u32]) -> Result<usize, R
     let mut found = [0];
     // SAFETY: each pointer is to as many places as the length beside it, none overlap, and the entry asks nothing more.
     let refused = unsafe { trend_filter_crossings(level, trend.as_ptr(), trend.len(), list.as_mut_ptr(), list.len(), &mut found) };
-    if refused == 0 { Ok(found[0] as usize) } else { Err(Refused(refused)) }
+    told(refused, found[0] as usize)
 }
 
 /// The one of `knots` that is nearest a place of the trend, the lower of two that are as near; `None` where there is none. They may be
@@ -317,9 +327,5 @@ pub fn nearest_knot(place: u64, trend: &[f64], knots: &[u32]) -> Result<Option<u
     let mut found = [0; 2];
     // SAFETY: each pointer is to as many places as the length beside it, found overlaps neither, and the entry asks nothing more.
     let refused = unsafe { trend_filter_nearest_knot(place, trend.as_ptr(), trend.len(), knots.as_ptr(), knots.len(), &mut found) };
-    match (refused, found) {
-        (0, [1, knot]) => Ok(Some(knot as u32)),
-        (0, _) => Ok(None),
-        (refused, _) => Err(Refused(refused)),
-    }
+    told(refused, (found[0] == 1).then_some(found[1] as u32))
 }

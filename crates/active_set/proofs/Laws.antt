@@ -9,13 +9,13 @@ use native.Mathlib.Numerals.{add-one}
 use native.Mathlib.Omega.{arith}
 use borrow.Author.Tests.{eq-eqb, ne-eqb}
 use lib.Dec.{eqb}
-use lib.ListN.{length, getD, set, length-append, length-set, List·getD-append}
+use lib.ListN.{length, getD, set, length-set, List·getD-append}
 use lib.Seq.{getD-at, getD-set-same, getD-set-other}
 use lib.Ieee.{Float, lt}
 use Rattle.float64.specs.Ops.{_⊕_, _⊖_}
 use Rattle.vectors.specs.Vec.{at, placesTo, KeptOf}
 use Rattle.vectors.proofs.Parts.{at-part}
-use Rattle.vectors.proofs.Places.{places-few, places-rising}
+use Rattle.vectors.proofs.Places.{places-count, places-few, places-rising}
 use Rattle.dual_point.specs.Places.{point}
 use Rattle.active_set.specs.ActiveSet.{Hold, free, at-lam, at-minus-lam, isFree, holdAt, freeTo, compressed, lessHeld, lessTo, compressedRhsAt}
 use Rattle.active_set.specs.Marks.{markOf, holdOf, Marks}
@@ -50,19 +50,9 @@ hold-place lam a m s i l = rw (at-part a m s i (a + i) l refl, at-part (a + m) m
 
 -- ---- how many free places there are
 
-one-length : (b : Bool) (n : ℕ) → length (cond b (n ∷ []) []) ≡ cond b 1 0
-one-length true n = refl
-one-length false n = refl
-
-pub one-le : (b : Bool) → cond b 1 0 ≤ 1
-one-le true = omega arith
-one-le false = omega arith
-
 count-suc : (h : ℕ → Hold) (n : ℕ) → length (freeTo h (suc n)) ≡ length (freeTo h n) + cond (isFree (h n)) 1 0
-unfolding freeTo placesTo
-count-suc h n =
-    length-append (freeTo h n) (cond (isFree (h n)) (n ∷ []) [])
-    ∙ ap (λ (x : ℕ). length (freeTo h n) + x) (one-length (isFree (h n)) n)
+unfolding freeTo
+count-suc h n = places-count (λ i. isFree (h i)) n
 
 pub count-le : (h : ℕ → Hold) (n : ℕ) → length (freeTo h n) ≤ n
 unfolding freeTo

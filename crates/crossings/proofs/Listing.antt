@@ -1,15 +1,15 @@
 -- Laws of the questions of a listing, and of two comparisons of which the second is made where the first holds. Assumes nothing.
-use mathlib.Core.Path.{_≡_, refl, _∙_}
+use mathlib.Core.Path.{_≡_, _∙_}
 use mathlib.Core.Logic.{_⊎_, ⊎-elim}
 use mathlib.Core.Bool.{Bool, true, false, _&&_}
 use Prim.Native.Nat.{ℕ, _≤_, _<_}
-use native.Mathlib.Omega.{arith}
 use lib.Dec.{leb}
 use lib.Ieee.{Float}
 use borrow.Author.Tests.{leb-true, le-leb, lt-leb}
 use Rattle.float64.specs.Helpers.{isFinite}
 use Rattle.float64.proofs.Order.{and-off}
-use Rattle.questions.specs.Questions.{ask}
+use Rattle.vectors.proofs.Sums.{both}
+use Rattle.questions.proofs.Laws.{past}
 use Rattle.crossings.specs.Crossings.{unlisted}
 
 -- the first holds, or not
@@ -40,10 +40,7 @@ module _ (level : Float) (n places : ℕ) where
   -- what then is sure
   pub has-room : unlisted level n places ≡ 0 → (n ≤ places) × (n ≤ 65536)
   unfolding unlisted
-  has-room = go (isFinite level) (leb n 65536) (leb n places) refl refl
-    where
-      go : (f s r : Bool) → leb n 65536 ≡ s → leb n places ≡ r → ask 18 f (ask 19 (s && r) 0) ≡ 0 → (n ≤ places) × (n ≤ 65536)
-      go false s r h g e = absurd (omega arith)
-      go true false r h g e = absurd (omega arith)
-      go true true false h g e = absurd (omega arith)
-      go true true true h g e = (leb-true n places g, leb-true n 65536 h)
+  has-room e =
+      let q = past 17 (isFinite level) _ e in
+      let r = both (leb n 65536) (leb n places) (past 18 (leb n 65536 && leb n places) 0 (q .1) .0) in
+      (leb-true n places (r .1), leb-true n 65536 (r .0))

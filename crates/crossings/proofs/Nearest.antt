@@ -14,6 +14,7 @@ use Rattle.float64.proofs.Clash.{impossible}
 use Rattle.float64.proofs.Order.{and-off}
 use Rattle.vectors.specs.Vec.{apart}
 use Rattle.vectors.specs.Rising.{Among}
+use Rattle.vectors.proofs.Parts.{split}
 use Rattle.crossings.specs.declared.Near.the-variants.{Knot, NoKnot, Refused}
 use Rattle.crossings.specs.Nearest.{nearer, nearestOf, nearestIn, nearestKnot, NearestOne, AnswersNearest}
 
@@ -92,18 +93,17 @@ taken p a b = go (ltb (apart p a) (apart p b)) (ltb (apart p b) (apart p a)) ref
     right : Holds-against p b a → Taken p a b b
     right h = record { one = inr refl; first = h; second = itself p b }
 
-    tied : apart p a ≡ apart p b → (c : Bool) → ltb b a ≡ c → Taken p a b (min a b)
-    tied e true h = let l = ltb-true b a h in
-        let m : min a b ≡ b = omega arith in
-        rw m (right (lower p b a (sym e) (omega arith)))
-    tied e false h = let l = ltb-false b a h in
-        let m : min a b ≡ a = omega arith in
-        rw m (left (lower p a b e l))
+    tied : apart p a ≡ apart p b → Taken p a b (min a b)
+    tied e =
+        ⊎-elim
+        (λ (l : b < a). let m : min a b ≡ b = omega arith in rw m (right (lower p b a (sym e) (omega arith))))
+        (λ (l : a ≤ b). let m : min a b ≡ a = omega arith in rw m (left (lower p a b e l)))
+        (split b a)
 
     go : (x y : Bool) → ltb (apart p a) (apart p b) ≡ x → ltb (apart p b) (apart p a) ≡ y → Taken p a b (cond x a (cond y b (min a b)))
     go true y h g = left (closer p a b (ltb-true (apart p a) (apart p b) h))
     go false true h g = right (closer p b a (ltb-true (apart p b) (apart p a) g))
-    go false false h g = tied (omega (arith, ltb-false (apart p a) (apart p b) h, ltb-false (apart p b) (apart p a) g)) (ltb b a) refl
+    go false false h g = tied (omega (arith, ltb-false (apart p a) (apart p b) h, ltb-false (apart p b) (apart p a) g))
 
 -- ---- the nearest of all
 

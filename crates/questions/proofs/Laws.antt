@@ -34,7 +34,7 @@ unfolding sizes
 grouped-first n max-iter order penalty = rw (next-ask 1 _ _ _ refl, next-ask 2 _ _ _ refl, next-ask 3 _ _ _ refl)
 
 -- ---- a question answered yes
-past : (k : ℕ) (b : Bool) (r : ℕ) → cond b r (suc k) ≡ 0 → (b ≡ true) × (r ≡ 0)
+pub past : (k : ℕ) (b : Bool) (r : ℕ) → cond b r (suc k) ≡ 0 → (b ≡ true) × (r ≡ 0)
 past k true r p = (refl, p)
 past k false r p = absurd (omega arith)
 

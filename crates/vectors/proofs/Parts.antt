@@ -119,7 +119,7 @@ mid-is n m s h = let d : n + m - n ≡ m = omega arith in rw d at (range-part n 
 
 -- ---- what a call on a part leaves of the run
 
-split : (a b : ℕ) → (a < b) ⊎ (b ≤ a)
+pub split : (a b : ℕ) → (a < b) ⊎ (b ≤ a)
 split a b = ⊎-elim (λ (e : b - a ≡ zero). inr (omega arith)) (λ (h : zero < b - a). inl (omega arith)) (eq-zero-or-pos (b - a))
 
 -- a part of the run that changed within it

@@ -15,9 +15,13 @@ use Rattle.vectors.specs.Rising.{Rising, Among}
 use Rattle.vectors.proofs.Texts.{wrote-then}
 use Rattle.vectors.proofs.Rising.{rising-none, rising-within, rising-more}
 
-at-most-one : (b : Bool) (n : ℕ) → length (cond b (n ∷ []) []) ≤ 1
-at-most-one true n = omega arith
-at-most-one false n = omega arith
+one-length : (b : Bool) (n : ℕ) → length (cond b (n ∷ []) []) ≡ cond b 1 0
+one-length true n = refl
+one-length false n = refl
+
+pub one-le : (b : Bool) → cond b 1 0 ≤ 1
+one-le true = omega arith
+one-le false = omega arith
 
 rising-if : (l : List ℕ) (n : ℕ) → Rising n l → (b : Bool) → Rising (suc n) (l ++ cond b (n ∷ []) [])
 rising-if l n r true = rising-more n l r
@@ -43,11 +47,15 @@ holds-if p l n false e h j g =
     ap p (List·getD-append l [] 0 j q) ∙ h j q
 
 module _ (p : ℕ → Bool) where
-  -- no more of them than places
+  -- how many: one more where it holds of the next, so no more of them than places
+  pub places-count : (n : ℕ) → length (placesTo p (suc n)) ≡ length (placesTo p n) + cond (p n) 1 0
+  unfolding placesTo
+  places-count n = length-append (placesTo p n) (cond (p n) (n ∷ []) []) ∙ ap (λ (x : ℕ). length (placesTo p n) + x) (one-length (p n) n)
+
   pub places-few : (n : ℕ) → length (placesTo p n) ≤ n
   unfolding placesTo
   places-few zero = omega arith
-  places-few (suc n) = omega (arith, length-append (placesTo p n) (cond (p n) (n ∷ []) []), places-few n, at-most-one (p n) n)
+  places-few (suc n) = omega (arith, places-count n, places-few n, one-le (p n))
 
   -- they rise strictly
   pub places-rising : (n : ℕ) → Rising n (placesTo p n)

@@ -1,16 +1,14 @@
 -- Laws of numbers that rise strictly. Assumes nothing.
 use mathlib.Core.Path.{_≡_, refl, sym}
 use mathlib.Core.Logic.{_⊎_, ⊎-elim}
-use mathlib.Core.Bool.{Bool, true, false}
 use mathlib.Core.List.{List, [], _∷_, _++_, map}
 use Prim.Native.Nat.{ℕ, zero, suc, _+_, _≤_, _<_}
 use native.Mathlib.Nat.{eq-or-lt-of-le}
 use native.Mathlib.Omega.{arith}
 use lib.ListN.{length, getD, length-append, length-map, List·getD-append}
 use lib.Seq.{getD-at}
-use lib.Dec.{ltb}
-use borrow.Author.Tests.{ltb-true, ltb-false}
 use Rattle.vectors.specs.Rising.{Rising, Among}
+use Rattle.vectors.proofs.Parts.{split}
 
 pub rising-none : (n : ℕ) → Rising n []
 rising-none n = record { below = λ i h. absurd (omega arith); strictly = λ i j h g. absurd (omega arith) }
@@ -25,11 +23,11 @@ rising-later r i j h g = ⊎-elim (λ e. rw e (omega arith)) (λ s. omega (arith
 
 -- none lies between two that follow one another
 pub none-between : {n : ℕ} {l : List ℕ} → Rising n l → (j : ℕ) → j + 1 < length l → (i : ℕ) → getD l j 0 < i → i < getD l (j + 1) 0 → Among i l → ⊥
-none-between {n} {l} r j h i a b m = go (ltb j (m .place)) refl
-  where
-    go : (later : Bool) → ltb j (m .place) ≡ later → ⊥
-    go true e = omega (arith, m .holds, rising-later r (j + 1) (m .place) (omega (arith, ltb-true j (m .place) e)) (m .within))
-    go false e = omega (arith, m .holds, rising-later r (m .place) j (ltb-false j (m .place) e) (omega arith))
+none-between r j h i a b m =
+    ⊎-elim
+    (λ (later : j < m .place). omega (arith, m .holds, rising-later r (j + 1) (m .place) (omega arith) (m .within)))
+    (λ (not-later : m .place ≤ j). omega (arith, m .holds, rising-later r (m .place) j not-later (omega arith)))
+    (split j (m .place))
 
 -- n itself after numbers below n
 module _ (n : ℕ) (l : List ℕ) where

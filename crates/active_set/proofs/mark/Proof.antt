@@ -2,7 +2,8 @@ use borrow.Author.Needs.{needs}
 use mathlib.Core.Path.{_≡_}
 use native.Mathlib.Omega.{arith}
 use lib.ListN.{length, length-set}
-use Rattle.active_set.proofs.Laws.{one-le, marks-none, marks-more, marks-kept}
+use Rattle.vectors.proofs.Places.{one-le}
+use Rattle.active_set.proofs.Laws.{marks-none, marks-more, marks-kept}
 use Rattle.vectors.proofs.Laws.{kept-none}
 use Rattle.dual_point.specs.Places.{point}
 use Rattle.vectors.specs.Vec.{KeptOf}

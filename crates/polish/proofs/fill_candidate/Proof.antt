@@ -1,7 +1,8 @@
 use borrow.Author.Needs.{needs}
 use mathlib.Core.Path.{_≡_, refl}
 use native.Mathlib.Omega.{arith}
-use Rattle.active_set.proofs.Laws.{one-le, count-more}
+use Rattle.active_set.proofs.Laws.{count-more}
+use Rattle.vectors.proofs.Places.{one-le}
 use Rattle.polish.proofs.Candidates.{place-is}
 use Rattle.vectors.proofs.Laws.{none, store-more}
 use native.Mathlib.Nat.{add-zero}
