@@ -28,9 +28,9 @@ static const struct kind kinds[] = {
     {"L2, order 1, lam 1600", -1, 1, 2},       {"L2, order 2, lam 1600", -1, 2, 2},
 };
 
-static double *y, *trend, *cycle, *dual, *work, numbers[5];
+static double *y, *trend, *cycle, *dual, *work, numbers[TREND_FILTER_NUMBERS];
 static uint32_t *knots, *marks;
-static uint64_t counts[5];
+static uint64_t counts[TREND_FILTER_COUNTS];
 static size_t n;
 
 struct build { entry *fit; int before_dual; };
@@ -44,7 +44,7 @@ static uint32_t fit(struct build b, double lam, const struct kind *k) {
 /* A build from before dual was added takes it for work: too short, question 9. */
 static struct build build_of(entry *f) {
     struct build b = {f, 0};
-    b.before_dual = fit(b, 1, &kinds[0]) == 9;
+    b.before_dual = fit(b, 1, &kinds[0]) == TREND_FILTER_WORK_SHORT;
     return b;
 }
 
@@ -75,7 +75,7 @@ int main(int argc, char **argv) {
         double lam = 1600;
         if (k->share >= 0) {
             if (fit(build[0], 1, k)) return fprintf(stderr, "refused\n"), 1;
-            lam = k->share * numbers[0];
+            lam = k->share * numbers[TREND_FILTER_LAM_MAX];
         }
         int times = k->share > 0 && k->share < 1 ? 2 : 20;
         for (int r = 0; r < rounds; r++) {

@@ -1,9 +1,11 @@
 // Finds the two sides of the comparison:
 // - TREND_FILTER_RS: the path of the unchanged module trend_filter.rs. It is compiled where it stands, and once more as a copy
 //   with counters in its search (first gap, best gap, improvements and the reason it stopped) and with the dual point of the
-//   certificate that is kept, which the module doesn't return.
-// - TREND_FILTER_LIB: the path of the proved static library, ../target/staticlib/libtrend_filter.a unless given.
-use std::path::PathBuf;
+//   certificate that is kept, which the module doesn't return. Its error type is the source's own, if that file stands beside it, its
+//   name the module's with error for trend_filter (error.rs beside trend_filter.rs); else the part of it in src/error.rs.
+// - the proved static library, which the crate bindings/rust links: see its build.rs. That crate's tests/as_the_source.rs, a program that
+//   was written for the source, is compiled for either side, with only its `use` line changed.
+use std::path::{Path, PathBuf};
 use std::{env, fs};
 
 fn replace_once(text: &str, old: &str, new: &str) -> String {
@@ -56,29 +58,49 @@ fn with_dual(text: &str) -> String {
     changes.iter().fold(text.to_string(), |t, (old, new)| replace_once(&t, old, new))
 }
 
+/// Where the source's error type stands, if it does.
+fn error_beside(source: &Path) -> Option<PathBuf> {
+    let path = source.with_file_name(source.file_name()?.to_str()?.replacen("trend_filter", "error", 1));
+    println!("cargo:rerun-if-changed={}", path.display());
+    (path != source && path.is_file()).then_some(path)
+}
+
+/// The error type, with a stand-in for the error of another crate that it wraps.
+fn by_itself(text: &str) -> String {
+    let other = "#[derive(Debug, Clone, PartialEq)]\npub struct HacError;\n\
+                 impl fmt::Display for HacError {\n    fn fmt(&self, _: &mut fmt::Formatter<'_>) -> fmt::Result { Ok(()) }\n}";
+    replace_once(text, "use tsecon_hac::HacError;", other)
+}
+
 fn main() {
     println!("cargo:rerun-if-env-changed=TREND_FILTER_RS");
-    println!("cargo:rerun-if-env-changed=TREND_FILTER_LIB");
+    println!("cargo:rustc-check-cfg=cfg(error_rs)");
+    let here = PathBuf::from(env::var("CARGO_MANIFEST_DIR").unwrap());
+    let out = PathBuf::from(env::var("OUT_DIR").unwrap());
     let source = PathBuf::from(env::var("TREND_FILTER_RS").expect("set TREND_FILTER_RS to the path of the module trend_filter.rs"));
     let source = fs::canonicalize(&source).expect("TREND_FILTER_RS names no file");
-    println!("cargo:rerun-if-changed={}", source.display());
-    let out = PathBuf::from(env::var("OUT_DIR").unwrap());
-    let text = fs::read_to_string(&source).unwrap();
-    fs::write(out.join("counted.rs"), counted(&text)).unwrap();
-    fs::write(
-        out.join("modules.rs"),
-        format!(
-            "#[allow(dead_code)]\n#[path = {:?}]\npub mod trend_filter;\n#[allow(dead_code)]\n#[path = {:?}]\npub mod counted;\n",
-            source,
-            out.join("counted.rs")
-        ),
-    )
-    .unwrap();
-    let here = PathBuf::from(env::var("CARGO_MANIFEST_DIR").unwrap());
-    let lib = env::var("TREND_FILTER_LIB").map(PathBuf::from).unwrap_or(here.join("../target/staticlib/libtrend_filter.a"));
-    let lib = fs::canonicalize(&lib).expect("no static library: run 'rt staticlib trend_filter' first, or set TREND_FILTER_LIB");
-    println!("cargo:rerun-if-changed={}", lib.display());
-    println!("cargo:rustc-link-search=native={}", lib.parent().unwrap().display());
-    let name = lib.file_stem().unwrap().to_str().unwrap().trim_start_matches("lib").to_string();
-    println!("cargo:rustc-link-lib=static={name}");
+    let read = |path: &Path| {
+        println!("cargo:rerun-if-changed={}", path.display());
+        fs::read_to_string(path).unwrap()
+    };
+    let mut modules = String::new();
+    let mut module = |name: &str, path: PathBuf| modules += &format!("#[allow(dead_code)]\n#[path = {path:?}]\npub mod {name};\n");
+    let made = |name: &str, text: String| {
+        let path = out.join(name).with_extension("rs");
+        fs::write(&path, text).unwrap();
+        path
+    };
+    module("counted", made("counted", counted(&read(&source))));
+    if let Some(error) = error_beside(&source) {
+        println!("cargo:rustc-cfg=error_rs");
+        module("error", made("error", by_itself(&read(&error))));
+        let program = read(&here.join("../bindings/rust/tests/as_the_source.rs"));
+        for (name, used) in [("as_the_source", "use crate::source::{"), ("as_the_binding", "use binding::{")] {
+            module(name, made(name, replace_once(&program, "use trend_filter::{", used)));
+        }
+    } else {
+        module("error", here.join("src/error.rs"));
+    }
+    module("trend_filter", source);
+    fs::write(out.join("modules.rs"), modules).unwrap();
 }

@@ -35,7 +35,8 @@ fn same(a: f64, b: f64) -> bool {
     bits(a) == bits(b)
 }
 
-/// The number that document 01 gives the Rust's refusal. `order` and `penalty` are asked before it is called.
+/// The number that document 01 gives the Rust's refusal. `penalty` is asked before it is called.
+#[allow(unreachable_patterns)]
 fn number(e: &MlError) -> u32 {
     match e {
         MlError::InsufficientData { .. } => 2,
@@ -45,6 +46,7 @@ fn number(e: &MlError) -> u32 {
         MlError::InvalidArgument { what } if what.starts_with("lam") => 5,
         MlError::InvalidArgument { what } if what.starts_with("tol") => 6,
         MlError::InvalidArgument { .. } => 7,
+        other => panic!("the module refuses with {other:?}"),
     }
 }
 

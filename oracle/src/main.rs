@@ -1,6 +1,7 @@
 //! oracle SEED FITS LARGE: compares FITS cases of up to 168 places, every short one, and LARGE cases of up to 65,536 places.
 //! oracle replay SEED EACH PATH: writes the list of answers that the program `replay` reads, EACH cases a group.
 //! oracle answers FOLDER: writes the Rust's answer NAME.exp beside each NAME.case; oracle check FOLDER compares them.
+//! oracle errors SEED ROUNDS: compares the Rust crate's answers and errors, for calls that break any set of questions.
 //! The first prints how the cases ended and 'N cases, 0 differences', or the first case that differs, and exits 1.
 use oracle::cases::{damaged, good, kinds, odd, short_ones, Case};
 use oracle::compare::{answer, compare, Tally};
@@ -9,7 +10,7 @@ use oracle::random::Random;
 use oracle::stored::answers;
 use std::process::exit;
 
-const USAGE: &str = "oracle SEED FITS LARGE (FITS at least 1) | oracle replay SEED EACH PATH | oracle answers FOLDER | oracle check FOLDER";
+const USAGE: &str = "oracle SEED FITS LARGE (FITS at least 1) | oracle replay SEED EACH PATH | oracle answers FOLDER | oracle check FOLDER | oracle errors SEED ROUNDS";
 
 fn usage() -> ! {
     eprintln!("{USAGE}");
@@ -102,28 +103,16 @@ fn asked_first(port: &mut Port, r: &mut Random) -> u64 {
     count
 }
 
-fn main() {
-    let args: Vec<String> = std::env::args().skip(1).collect();
-    let words: Vec<&str> = args.iter().map(|s| s.as_str()).collect();
-    let (seed, fits, large) = match words[..] {
-        ["replay", seed, each, path] => {
-            let words = oracle::replay::list(number(seed), number(each) as usize);
-            std::fs::write(path, words.iter().flat_map(|w| w.to_le_bytes()).collect::<Vec<u8>>()).unwrap();
-            println!("{} cases, {} bytes", words[0], 8 * words.len());
-            return;
-        }
-        [how @ ("answers" | "check"), folder] => {
-            let (cases, other) = answers(folder.as_ref(), how == "answers");
-            other.iter().for_each(|name| println!("{name}: another answer by the Rust"));
-            println!("{cases} cases, {} differences", other.len());
-            exit((cases == 0 || !other.is_empty()) as i32);
-        }
-        [seed, fits, large] => (number(seed), number(fits), number(large)),
-        _ => usage(),
-    };
-    if fits == 0 {
-        usage();
-    }
+/// Compares what a Rust program is told; prints how often that was what.
+fn errors(seed: u64, rounds: u64) -> Result<u64, String> {
+    let mut r = Random::new(seed);
+    let (calls, seen) = oracle::errors::calls(&mut r, rounds)?;
+    seen.iter().for_each(|(kind, times)| println!("{times} {kind}"));
+    Ok(calls + oracle::errors::texts(&mut r, 64 * rounds)?)
+}
+
+/// The cases by random, adversarial and exhaustive inputs; how many there were.
+fn cases(seed: u64, fits: u64, large: u64) -> u64 {
     let mut port = Port::default();
     let mut count = only_here(&mut port);
     count += asked_first(&mut port, &mut Random::new(seed));
@@ -141,7 +130,7 @@ fn main() {
         })
     });
     let mut i = 0;
-    count += run(&mut port, "large", &mut Random::new(seed ^ 0xff), |r| {
+    count + run(&mut port, "large", &mut Random::new(seed ^ 0xff), |r| {
         i += 1;
         (i <= large).then(|| {
             let most = r.pick(&[1000, 8192, 65_536]);
@@ -149,6 +138,37 @@ fn main() {
             c.max_iter = c.max_iter.min(60);
             c
         })
-    });
-    println!("{count} cases, 0 differences");
+    })
+}
+
+/// The last line, and the status.
+fn counted(cases: u64, differences: u64) -> ! {
+    println!("{cases} cases, {differences} differences");
+    exit((cases == 0 || differences > 0) as i32)
+}
+
+fn main() {
+    let args: Vec<String> = std::env::args().skip(1).collect();
+    let words: Vec<&str> = args.iter().map(|s| s.as_str()).collect();
+    match words[..] {
+        ["replay", seed, each, path] => {
+            let words = oracle::replay::list(number(seed), number(each) as usize);
+            std::fs::write(path, words.iter().flat_map(|w| w.to_le_bytes()).collect::<Vec<u8>>()).unwrap();
+            println!("{} cases, {} bytes", words[0], 8 * words.len());
+        }
+        [how @ ("answers" | "check"), folder] => {
+            let (cases, other) = answers(folder.as_ref(), how == "answers");
+            other.iter().for_each(|name| println!("{name}: another answer by the Rust"));
+            counted(cases as u64, other.len() as u64)
+        }
+        ["errors", seed, rounds] => match errors(number(seed), number(rounds)) {
+            Ok(cases) => counted(cases, 0),
+            Err(first) => {
+                println!("{first}");
+                counted(1, 1)
+            }
+        },
+        [seed, fits, large] if number(fits) > 0 => counted(cases(number(seed), number(fits), number(large)), 0),
+        _ => usage(),
+    }
 }

