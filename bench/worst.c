@@ -35,9 +35,9 @@ static const struct window windows[] = {
 };
 enum { WINDOWS = sizeof windows / sizeof *windows };
 
-static double y[N], trend[N], cycle[N], dual[N], work[40 * N], numbers[5], lam;
-static uint32_t knots[N], marks[2 * N];
-static uint64_t counts[5];
+static double y[N], trend[N], cycle[N], dual[N], work[TREND_FILTER_WORK(N, TREND_FILTER_L1)], numbers[TREND_FILTER_NUMBERS], lam;
+static uint32_t knots[N], marks[TREND_FILTER_MARKS(N, TREND_FILTER_L1)];
+static uint64_t counts[TREND_FILTER_COUNTS];
 static size_t n;
 
 static void make(const struct input *a) {
@@ -55,8 +55,9 @@ static double now(void) {
 /* The microseconds of a fit. */
 static double timed(uint32_t order, uint64_t max_iter) {
     double from = now();
-    uint32_t refused = trend_filter_fit(y, n, lam, LEAST, max_iter, order, 1, trend, n, cycle, n, knots, n, dual, n, work, 40 * n, marks,
-                                        2 * n, numbers, counts);
+    uint32_t refused = trend_filter_fit(y, n, lam, LEAST, max_iter, order, TREND_FILTER_L1, trend, n, cycle, n, knots, n, dual, n, work,
+                                        TREND_FILTER_WORK(n, TREND_FILTER_L1), marks, TREND_FILTER_MARKS(n, TREND_FILTER_L1), numbers,
+                                        counts);
     double took = now() - from;
     if (refused) exit((fprintf(stderr, "refused %" PRIu32 "\n", refused), 1));
     return took;
@@ -75,7 +76,7 @@ static double cost(const struct window *w, size_t rounds) {
     for (size_t r = 0; r < rounds; r++) {
         one[r] = timed(w->in.order, 1);
         double less = timed(w->in.order, w->from), more = timed(w->in.order, w->to);
-        if (counts[1] != w->to) exit((fprintf(stderr, "%s: the search ends before step %" PRIu64 "\n", w->name, w->to), 1));
+        if (counts[TREND_FILTER_N_ITER] != w->to) exit((fprintf(stderr, "%s: the search ends before step %" PRIu64 "\n", w->name, w->to), 1));
         step[r] = (more - less) / (double)(w->to - w->from);
     }
     qsort(step, rounds, 8, rising), qsort(one, rounds, 8, rising);
@@ -106,10 +107,11 @@ static void ceilings(const double us[4]) {
     static const uint64_t limits[] = {100, 10000, UINT64_MAX};
     printf("\n%-20s %10s %12s %12s %12s %12s\n", "max_iter", "most steps", "typical, s", "dearest, s", "subnormal, s", "by count, s");
     for (int i = 0; i < 3; i++) {
-        uint64_t needs[3];
-        if (trend_filter_needs(N, limits[i], 2, 1, needs)) exit(1);
-        printf("%-20" PRIu64 " %10" PRIu64, limits[i], needs[2]);
-        for (int j = 0; j < 4; j++) printf(" %12.4f", us[j] * 1e-6 * (double)needs[2]);
+        uint64_t needs[TREND_FILTER_NEEDS];
+        if (trend_filter_needs(N, limits[i], 2, TREND_FILTER_L1, needs)) exit(1);
+        uint64_t steps = needs[TREND_FILTER_NEEDS_STEPS];
+        printf("%-20" PRIu64 " %10" PRIu64, limits[i], steps);
+        for (int j = 0; j < 4; j++) printf(" %12.4f", us[j] * 1e-6 * (double)steps);
         printf("\n");
     }
 }
@@ -117,8 +119,9 @@ static void ceilings(const double us[4]) {
 /* A search that is known runs again: whether it takes as many steps and improvements as it did. */
 static int again(const char *name, uint32_t order, uint64_t n_iter, uint64_t improvements) {
     double took = timed(order, UINT64_MAX);
-    printf("%-22s %5" PRIu32 " %8" PRIu64 " %14" PRIu64 " %10.1f", name, order, counts[1], counts[2], took * 1e-3);
-    int same = counts[1] == n_iter && counts[2] == improvements;
+    uint64_t steps = counts[TREND_FILTER_N_ITER], better = counts[TREND_FILTER_IMPROVEMENTS];
+    printf("%-22s %5" PRIu32 " %8" PRIu64 " %14" PRIu64 " %10.1f", name, order, steps, better, took * 1e-3);
+    int same = steps == n_iter && better == improvements;
     printf("%s\n", same ? "" : "  DIFFERS");
     return same;
 }
