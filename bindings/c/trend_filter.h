@@ -2,7 +2,7 @@
  * entries of the proved static library.
  *
  * `rt staticlib trend_filter` writes target/staticlib/libtrend_filter.a. With it a program is linked, and with no other library:
- *   cc -Ibindings/c program.c -Ltarget/staticlib -ltrend_filter
+ *   cc -Ibindings/c program.c target/staticlib/libtrend_filter.a
  *
  * Each entry answers 0, or refuses with the number of the first question answered no: see trend_filter_refusal.
  *

@@ -4,7 +4,7 @@
     bindings/python/build            makes the shared object of it (needs cc)
     PYTHONPATH=bindings/python python3
 
-The shared object is looked for where the variable TREND_FILTER_LIBRARY says, else beside this module, else in target/staticlib of the
+The shared object is looked for where the variable TREND_FILTER_LIBRARY says, else beside this module, else in target/python of the
 repository. Nothing else is needed; NumPy arrays are taken where NumPy is present.
 
 >>> fit = l1_trend_filter([8000, 0, 0, 0, 9000, 9000], lam=2000, order=1)
@@ -38,8 +38,9 @@ read where they are, all else is copied; the series is never changed. Another th
 **Threads.** A call works in memory of its own and lets other threads of Python run meanwhile.
 
 **The floating-point environment.** The promises are of rounding to nearest with subnormal numbers kept and no exception that traps, as a
-program starts. A library that was built with -ffast-math may change that for the thread that loads it. Each call asks first, which
-takes a fraction of a microsecond, and raises RuntimeError in a thread where it isn't so: other bits would come.
+program starts. A library that was built with -ffast-math may change that for the thread that loads it. `l1_trend_filter` and
+`crossings` ask first, which takes a fraction of a microsecond, and raise RuntimeError in a thread where it isn't so: other bits would
+come.
 """
 import array
 import collections.abc
@@ -66,6 +67,7 @@ class Series(Protocol):
 
 
 _QUESTIONS: Dict[int, str] = {
+    0: "nothing was refused",
     1: "are order and penalty each 1 or 2?",
     2: "is the series at least order + 1 long?",
     3: "is the series at most 65,536 long?",
@@ -90,7 +92,7 @@ class Refused(ValueError):
 
     @property
     def question(self) -> str:
-        return _QUESTIONS.get(self.number, "a question that this module doesn't know")
+        return _QUESTIONS.get(self.number, "the library has no question of this number")
 
     def __str__(self) -> str:
         return f"refused {self.number}: {self.question}"
@@ -153,6 +155,16 @@ class TrendFilterFit:
     """The point z at which the dual objective of the gap was worked out, n - order places: for L2 lam times each place of D trend, not
     clamped; for L1 with lam 0 or -0 each place +0; otherwise z of the certificate that was kept, clamped to lam."""
 
+    def __eq__(self, other: object) -> bool:
+        """Whether all numbers are equal, be they in lists or in arrays."""
+        return self._plain() == other._plain() if isinstance(other, TrendFilterFit) else NotImplemented
+
+    __hash__ = None  # type: ignore[assignment]
+
+    def _plain(self) -> List[Any]:
+        values = (getattr(self, field.name) for field in dataclasses.fields(self))
+        return [list(value) if hasattr(value, "__len__") else value for value in values]
+
     def crossings(self, level: float) -> List[int]:
         """Where the trend passes `level`: see `crossings`."""
         return crossings(self.trend, level)
@@ -166,12 +178,13 @@ def l1_trend_filter(y: Series, lam: float, order: int = 2, penalty: str = "l1", 
     """The trend of `y` with the penalty weight `lam`.
 
     order      which differences of the trend are penalised: 1 or 2
-    penalty    "l1", lam times the sum of their sizes, or "l2", lam / 2 times the sum of their squares; "L1" and "L2" are the same
+    penalty    "l1", lam times the sum of their sizes, or "l2", lam / 2 times the sum of their squares; "L1" and "L2" are the same.
+               Any other name is refused with 1: to the library l1 is 1 and l2 is 2
     tol        the search stops when the gap is at most tol times the objective; not used by L2, but asked for all the same
     max_iter   step limit of the search, at least 1. One beyond 2**64 - 1 counts as that: no search takes more than 1,447,640 steps
 
     Raises Refused with the first of the library's questions 1 to 10 that is answered no, in their order; TypeError for what isn't a
-    number, a whole number or a penalty's name; RuntimeError where the thread's floating-point environment is another.
+    number, a whole number or, for the penalty, a str; RuntimeError where the thread's floating-point environment is another.
     """
     _asked_environment()
     series = _series(y, "y")
@@ -277,7 +290,7 @@ def _double(value: Any, name: str) -> float:
 
 
 def _index(value: Any, name: str) -> int:
-    if isinstance(value, bool) or not hasattr(type(value), "__index__"):
+    if isinstance(value, bool) or not isinstance(value, numbers.Integral):
         raise TypeError(f"{name}: a whole number is taken, and {type(value).__name__} is none")
     return operator.index(value)
 
@@ -382,7 +395,7 @@ def _path() -> pathlib.Path:
     """Where the shared object is."""
     named = os.environ.get("TREND_FILTER_LIBRARY")
     here = pathlib.Path(__file__).resolve().parent
-    places = [pathlib.Path(named)] if named else [here / "libtrend_filter.so", here.parent.parent / "target/staticlib/libtrend_filter.so"]
+    places = [pathlib.Path(named)] if named else [here / "libtrend_filter.so", here.parent.parent / "target/python/libtrend_filter.so"]
     for path in places:
         if path.is_file():
             return path.resolve()

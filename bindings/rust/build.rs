@@ -4,7 +4,7 @@ use std::{env, fs};
 
 /// The folder and the name that the linker is given, or what is wrong, in a line.
 fn library(path: &Path) -> Result<(PathBuf, String), String> {
-    let make = "run 'rt staticlib trend_filter' in the repository's root, or set TREND_FILTER_LIB to the path of libtrend_filter.a";
+    let make = "run 'rt staticlib trend_filter' in the repository's root, or set TREND_FILTER_LIB to the full path of libtrend_filter.a";
     let full = fs::canonicalize(path).map_err(|_| format!("there is no static library {}: {make}", path.display()))?;
     let name = full.file_name().and_then(|n| n.to_str()).and_then(|n| n.strip_prefix("lib")?.strip_suffix(".a"));
     match (full.is_file(), name, full.parent()) {

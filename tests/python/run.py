@@ -9,6 +9,7 @@ Every stored fit is run with a list, an array and, where NumPy is present, a Num
 import array
 import collections
 import ctypes
+import dataclasses
 import decimal
 import doctest
 import fractions
@@ -218,8 +219,8 @@ def texts():
     """The words of each question are those of the Rust crate."""
     errors, source = ((ROOT / "bindings/rust/src" / name).read_text() for name in ("error.rs", "lib.rs"))
     body = errors[errors.index("pub fn question"):]
-    listed = {int(a): b for a, b in re.findall(r'([1-9]\d*) => "([^"]+)"', body[:body.index("\n    }\n")])}
-    check("the questions of the Rust crate", listed == tf._QUESTIONS and len(listed) == 12)
+    listed = {int(a): b for a, b in re.findall(r'(\d+) => "([^"]+)"', body[:body.index("\n    }\n")])}
+    check("the questions of the Rust crate", listed == tf._QUESTIONS and len(listed) == 13)
     for number, words in listed.items():
         e = tf.Refused(number)
         check(f"the text of {number}", str(e) == f"refused {number}: {words}" and e.question == words)
@@ -342,6 +343,10 @@ def numpy_forms():
 
 
 def numpy_helpers(got, due):
+    other = dataclasses.replace(due, trend=[*due.trend[:-1], 7.0])
+    check("fits compared", got == due and due == got and got == dataclasses.replace(got) and got != other and due != other and got != 1)
+    for name in ("order", "max_iter"):
+        check_type_error(f"{name} a bool of NumPy", tf.l1_trend_filter, [1.0, 2.0], 1.0, **{name: np.bool_(True)})
     for level in (3.0, 4.5):
         check("crossings of a NumPy trend", got.crossings(level) == due.crossings(level) == tf.crossings(list(got.trend), level))
     for place in range(8):
@@ -478,6 +483,9 @@ def no_library():
             ("a file that is none", alone, {"TREND_FILTER_LIBRARY": str(MODULE)}, "bindings/python/build")]:
         status, out = in_python(text, folder, **variables)
         check(f"{what}: {out}", status == 0 and out.startswith("none:") and out.count("\n") == 1 and words in out)
+    built = subprocess.run([sys.executable, str(MODULE.parent / "build")], env={**os.environ, "CC": str(OUT / "no-compiler")},
+                           stdout=subprocess.PIPE, stderr=subprocess.STDOUT, universal_newlines=True)
+    check(f"no compiler: {built.stdout}", built.returncode == 1 and built.stdout.count("\n") == 1 and "install cc" in built.stdout)
     made = pathlib.Path(tf._LIBRARY._name)
     check("the variable", in_python(text, alone, TREND_FILTER_LIBRARY=str(made)) == (0, f"{made}\n"))
     shutil.copy(str(made), str(alone / "libtrend_filter.so"))

@@ -11,6 +11,7 @@ def start() -> int:
         from week.commands import main
         return main(sys.argv[1:])
     except KeyboardInterrupt:
+        sys.stderr.write("\nweek: interrupted\n" if sys.stderr.isatty() else "week: interrupted\n")
         return 130
 
 

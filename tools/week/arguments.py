@@ -10,7 +10,8 @@ ABOUT = "Week files from tables, listings in words and pictures, and a whole net
 STATUSES = """exit status:
   0  all is fitted, or written
   1  refused: the program read the week and refused it
-  2  something could not be read or written, or bad usage"""
+  2  something could not be read or written, or bad usage
+  130  interrupted"""
 TABLE = """The table is CSV (comma, semicolon or tab; UTF-8) with a header row. Its columns, in any order and case:
   ms      the overrun in whole milliseconds
   frames  the overrun in whole frames, at a rate from the column rate or from --rate
@@ -22,9 +23,10 @@ and ms; of several for one hour the last counts. A bad cell is named by row and 
 and nothing is written."""
 BACK = """`make` of the tables with the options that are printed gives the same bytes again, unless a correction stands before
 a later hour in the file, or `make` cannot take its settings, its rates or its hours. A line on standard error says so."""
-EITHER = "FILE is a week file or a listing, standard input if it is - or left out. A table is made into a week file first."
+EITHER = "FILE is a week file or a listing, standard input if it is - or left out. Of a table make a week file first, with `week make`."
 FOLDER = """Week files are *.bin and *.week; tables are *.csv and need --lam, and NAME.corrections.csv has the corrections for
-NAME.csv. Other files are left alone. REPORT is a folder, made if need be: index.html, summary.csv and listings/."""
+NAME.csv. A week file brings its own settings; --lam to --rate are for the tables. Other files are left alone. REPORT is
+a folder, made if need be: index.html, summary.csv and listings/. An old report in it is replaced."""
 PENALTIES = {"l1": 1, "l2": 2, "1": 1, "2": 2}
 MOST = 1e15  # the largest mark
 LOOSE = ("--lam", "--tol", "--mark")  # what follows these is their number, also where it begins with -

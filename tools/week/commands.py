@@ -51,6 +51,8 @@ def table(given: argparse.Namespace) -> int:
     number = sum(kind == weekfile.CORRECTION for kind, _ in records)
     if number and given.corrections is None:
         raise Failure(f"{plain(given.week)}: has {words.count(number, 'correction')}: give --corrections CORR.csv for them")
+    if "-" in (given.output, given.corrections):
+        raise Failure("the settings go to standard output: give the tables names")
     hours, corrections = tables.tables_of(records)
     files.apart(given.output, given.week)
     if given.corrections is not None:

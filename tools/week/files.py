@@ -81,18 +81,20 @@ def read(path: str, most: int, regular: bool = False) -> bytes:
 
 
 def write(path: str, data: bytes) -> None:
-    """Writes a file whole or leaves what was there; a device or a pipe is written to as it is."""
-    name, target = plain(path), os.path.realpath(path)
+    """Writes a file whole or leaves what was there; a device or a pipe is written to as it is, and "-" is standard output."""
+    if path == "-":
+        return pour(1, data, "standard output")
+    name = plain(path) or "a file without a name"
     try:
-        mode = os.stat(target).st_mode if os.path.exists(target) else None
+        mode = os.stat(path).st_mode if os.path.exists(path) else None
         if mode is not None and not stat.S_ISREG(mode):
-            number = os.open(target, os.O_WRONLY)
+            number = os.open(path, os.O_WRONLY)
             try:
                 pour(number, data, name)
             finally:
                 os.close(number)
         else:
-            replace(target, data, mode, name)
+            replace(os.path.realpath(path), data, mode, name)
     except OSError as e:
         raise Failure(f"{name}: cannot be written: {why(e)}") from None
 

@@ -53,7 +53,8 @@ def entries(folder: str, report: str) -> Tuple[List[Entry], int]:
     stems = [os.path.splitext(name)[0] for name in chosen]
     found = []
     for name, stem in zip(chosen, stems):
-        own = beside.get(stem.lower() + CORRECTIONS) if name.lower().endswith(TABLE) else None
+        exact = stem + CORRECTIONS
+        own = (exact if exact in names else beside.get(exact.lower())) if name.lower().endswith(TABLE) else None
         station = plain(name if stems.count(stem) > 1 else stem)
         listed = os.path.join(report, "listings", name + ".txt")
         found.append(Entry(os.path.join(folder, name), own and os.path.join(folder, own), station, listed))
@@ -74,19 +75,20 @@ def week_of(job: Job, entry: Entry) -> bytes:
 
 def fitted(job: Job, entry: Entry) -> Strand:
     """Fits one strand and writes its listing."""
-    name = os.path.basename(entry.path)
-    printed, answer, week = program.fit(job.program, week_of(job, entry))
+    name, data = os.path.basename(entry.path), week_of(job, entry)
+    printed, answer, week = program.fit(job.program, data)
     files.write(entry.output, printed)
     if isinstance(answer, listing.Refusal):
         said = f"refused {answer.number}"
         drawn = page.chart(week, None, job.clock, job.mark, said)
         return Strand(name, entry.station, REFUSED, f"{said}: {words.refused(answer.number)[0]}", drawn)
+    settings = weekfile.parts(data)[0]
     top, past = words.largest(answer), words.past(answer.hours, job.mark)
     said = "" if answer.converged else f"not settled, reason {answer.reason}: {words.REASONS[answer.reason][0]}"
     tells = f"{entry.station}: {answer.n} hours, {len(answer.knots)} knots, {past} hours past the mark"
     drawn = page.chart(week, answer, job.clock, job.mark, tells)
     return Strand(name, entry.station, FITTED if answer.converged else UNSETTLED, said, drawn, answer.n, len(answer.knots), answer.reason,
-                  top.trend, top.position, past)
+                  top.trend, top.position, past, settings.lam, settings.order)
 
 
 def strand(job: Job, entry: Entry) -> Strand:
@@ -169,19 +171,51 @@ def progress(done: int, of: int) -> None:
         os.write(2, f"\r{done} of {of}".encode())
 
 
+def clear(output: str) -> None:
+    """An old report goes before a new one is begun, so that the two are never mixed."""
+    for name in ("index.html", "summary.csv"):
+        if os.path.isfile(os.path.join(output, name)):
+            os.unlink(os.path.join(output, name))
+
+
+def sweep(output: str, found: Sequence[Entry]) -> None:
+    """Listings of strands that are no longer there go; other files in their folder stay."""
+    named, folder = {entry.output for entry in found}, os.path.join(output, "listings")
+    for name in os.listdir(folder):
+        path = os.path.join(folder, name)
+        if path not in named and name.endswith(".txt") and os.path.isfile(path):
+            with open(path, "rb") as old:
+                is_listing = old.read(8).startswith((b"fit ", b"refused "))
+            if is_listing:
+                os.unlink(path)
+
+
+def own_settings(found: Sequence[Entry], job: Job) -> None:
+    """Whoever types settings is told that week files have their own."""
+    weeks = sum(not entry.path.lower().endswith(TABLE) for entry in found)
+    if weeks and job.settings is not None:
+        files.say(f"week: note: {words.count(weeks, 'week file')} with settings of {'its' if weeks == 1 else 'their'} own; "
+                  "--lam and the other settings are for tables")
+
+
 def report(folder: str, output: str, job: Job) -> int:
     """Fits a folder and writes the report; the status is the worst of the strands'."""
     begun = time.monotonic()
+    if not output:
+        raise Failure("the report needs a name")
     if os.path.realpath(folder) == os.path.realpath(output):
         raise Failure(f"{plain(output)}: the report needs a folder of its own")
     found, others = entries(folder, output)
     if not found:
         raise Failure(f"{plain(folder)}: no week file (*.bin, *.week) and no table (*.csv) in it")
+    own_settings(found, job)
     try:
         os.makedirs(os.path.join(output, "listings"), exist_ok=True)
+        clear(output)
+        strands = sorted(spread(job, found), key=page.attention)
+        sweep(output, found)
     except OSError as e:
         raise Failure(f"{plain(output)}: cannot be written: {files.why(e)}") from None
-    strands = sorted(spread(job, found), key=page.attention)
     files.write(os.path.join(output, "summary.csv"), page.summary(strands, job.clock))
     title = f"{plain(os.path.basename(os.path.realpath(folder)))}: the week's trends"
     files.write(os.path.join(output, "index.html"), page.page(strands, job.clock, job.mark, title).encode("utf-8", "backslashreplace"))

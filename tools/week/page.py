@@ -57,6 +57,8 @@ class Strand(NamedTuple):
     largest: Optional[float] = None
     at: Optional[int] = None
     past: Optional[int] = None
+    lam: Optional[float] = None
+    order: Optional[int] = None
 
 
 def attention(one: Strand) -> tuple:
@@ -67,9 +69,10 @@ def attention(one: Strand) -> tuple:
 def chart(week: Optional[Measured], fit: Optional[Fit], clock: Clock, mark: float, said: str) -> str:
     """A strand's small chart: grey stretches are silent, ticks at the foot are knots; without a fit it says why."""
     week = week or []
-    low, high, marked = scales.span([*week, *(h.trend for h in fit.hours)] if fit else week, mark)
+    low, high, marked = scales.span([*week, *(h.trend for h in fit.hours)] if fit else week, mark, close=False)
     scale = Scale(30, 8, WIDTH - 34, HEIGHT - 22, max(1, len(week)), low, high)
-    drawn = frame(week, clock, scale) + (marks(scale, mark) if marked and week else []) + series(week, fit, scale, said)
+    sides = marks(scale, mark) if marked else beyond(scale)
+    drawn = frame(week, clock, scale) + (sides if week else []) + series(week, fit, scale, said)
     return f'<svg class="chart" viewBox="0 0 {WIDTH} {HEIGHT}" role="img" aria-label="{escape(said)}">{"".join(drawn)}</svg>'
 
 
@@ -94,6 +97,12 @@ def marks(scale: Scale, mark: float) -> List[str]:
     """The marks, dashed."""
     up, down, right, text = scale.y(mark), scale.y(-mark), w(scale.left + scale.width), words.level(mark / 1000)
     return [f'<path class="marks" d="M30 {w(up)}H{right}M30 {w(down)}H{right}"/>', side(f"+{text} s", up), side(f"\u2212{text} s", down)]
+
+
+def beyond(scale: Scale) -> List[str]:
+    """Where the marks are far within, the size of the picture stands in its corner."""
+    size = max(scale.high, -scale.low) - scales.ROOM / (1 + 2 * scales.ROOM) * (scale.high - scale.low)  # the room at the edge is left out
+    return [f'<text x="34" y="18">to {"" if scale.high >= -scale.low else chr(0x2212)}{size / 1000:,.0f} s</text>']
 
 
 def series(week: Measured, fit: Optional[Fit], scale: Scale, said: str) -> List[str]:
@@ -133,6 +142,7 @@ def card(i: int, one: Strand, clock: Clock) -> str:
     facts = ""
     if one.hours is not None:
         facts = f"{words.count(one.hours, 'hour')}, {words.count(one.knots, 'knot')}; {one.past} past; largest {overrun(one, clock)}"
+        facts += f"; lam {one.lam:.6g}, order {one.order}"
     text = "; ".join(escape(part) for part in (one.said, facts) if part)
     return f'<article class="card" id="s{i}"><h3>{escape(one.station)}</h3><p>{text}{listing}</p>{one.chart}</article>'
 
@@ -177,9 +187,10 @@ def summary(strands: List[Strand], clock: Clock) -> bytes:
     """The summary table as CSV."""
     out = io.StringIO()
     rows = csv.writer(out, lineterminator="\n")
-    rows.writerow(["station", "file", "state", "hours", "knots", "reason", "largest_overrun_ms", "at_hour", "when", "hours_past", "said"])
+    rows.writerow(["station", "file", "state", "hours", "knots", "reason", "largest_overrun_ms", "at_hour", "when", "hours_past", "lam",
+                   "order", "said"])
     for one in strands:
         top = "" if one.largest is None else words.ms(one.largest)
         rows.writerow([one.station, plain(one.file), STATES[one.state], one.hours, one.knots, one.reason, top, one.at,
-                       "" if one.at is None else clock.at(one.at), one.past, one.said])
+                       "" if one.at is None else clock.at(one.at), one.past, one.lam, one.order, one.said])
     return out.getvalue().encode("utf-8", "backslashreplace")

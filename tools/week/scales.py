@@ -7,6 +7,7 @@ from typing import Iterable, List, NamedTuple, Optional, Sequence, Tuple
 from week.listing import Fit
 from week.weekfile import Measured
 
+ROOM = 0.08  # of a picture's height, left free above and below
 FAR, NEAR = 1e300, 1e-6  # milliseconds: what is larger cannot be drawn, what is smaller is drawn as 0
 
 
@@ -37,15 +38,16 @@ def drawable(value: Optional[float]) -> bool:
     return value is not None and abs(value) < FAR
 
 
-def span(values: Iterable[Optional[float]], mark: float) -> Tuple[float, float, bool]:
-    """The least and the greatest value of a picture, and whether the marks are within it: where all is far smaller or larger they are not."""
+def span(values: Iterable[Optional[float]], mark: float, close: bool = True) -> Tuple[float, float, bool]:
+    """The least and the greatest value of a picture, and whether the marks are within it: where all is far larger they are not, nor, if
+    the picture goes close, where all is far smaller."""
     seen = [value for value in values if drawable(value)] + [0.0]
     low, high = min(seen), max(seen)
     size = max(-low, high)
-    marked = size < NEAR or mark / 8 <= size <= 40 * mark
+    marked = size < NEAR or (mark / 8 <= size or not close) and size <= 40 * mark
     if marked:
         low, high = min(low, -mark), max(high, mark)
-    room = 0.08 * (high - low) if high - low > NEAR else 1.0
+    room = ROOM * (high - low) if high - low > NEAR else 1.0
     return low - room, high + room, marked
 
 

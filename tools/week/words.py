@@ -10,6 +10,7 @@ from week.weekfile import Measured
 
 ORDERS = {1: "the trend is a staircase, level between its knots", 2: "the trend is a chain of straight lines"}
 PENALTIES = {1: "few sharp bends (L1)", 2: "everything bends a little (L2)"}
+TOPS = {1: "from this lam on the trend has no knot", 2: "from this lam on penalty 1 has no knot; with penalty 2 nearly every place is one"}
 CONVERGED = {1: "the answer is as exact as tol asks",
              0: "the answer isn't as exact as tol asks; the trend is usable, but look at the gap, and at the reason"}
 NOTHING = "nothing"
@@ -164,6 +165,8 @@ def table(fit: Fit, clock: Clock, week: Optional[Measured]) -> List[str]:
 
 def silences(fit: Fit, week: Optional[Measured]) -> str:
     end = len(week) if week is not None else fit.hours[-1].position + 1
+    if end == fit.n:
+        return "no hour is silent"
     return count(end - fit.n, "silent hour") + (" is" if end - fit.n == 1 else " are") + " left out"
 
 
@@ -177,7 +180,7 @@ def fitted(fit: Fit, clock: Clock, mark: float, week: Optional[Measured]) -> Lis
         f"converged {fit.converged}: {CONVERGED[fit.converged]}",
         *reason(fit),
         f"{count(fit.n_iter, 'step')}, {fit.improvements} of them improvements" if fit.n_iter else "no step was needed",
-        f"lam_max {fit.lam_max:.6g}: from this lam on the trend has no knot; gap {fit.gap:.3g}; objective {fit.objective:.6g}",
+        f"lam_max {fit.lam_max:.6g}: {TOPS[fit.penalty]}; gap {fit.gap:.3g}; objective {fit.objective:.6g}",
         "",
         *passings(fit, mark, clock, "late"),
         *passings(fit, mark, clock, "early"),

@@ -4,7 +4,7 @@
 //! says which case of the source's error isn't here, and which is added.
 //!
 //! `rt staticlib trend_filter`, in the repository's root, writes the library that this crate links; then a program needs
-//! `trend-filter = { path = ".../bindings/rust" }` among its dependencies. `TREND_FILTER_LIB` names a library that stands elsewhere.
+//! `trend-filter = { path = ".../bindings/rust" }` among its dependencies. `TREND_FILTER_LIB` names a library that stands elsewhere, by its full path.
 //!
 //! ```
 //! use trend_filter::{l1_trend_filter, MlError, TrendFilterOptions};

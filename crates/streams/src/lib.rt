@@ -51,6 +51,7 @@ fn told(answer: isize) -> Got
     counted(answer as usize)
 }
 
+// Whether the call is to be tried again.
 fn is_failed(g: Got) -> bool
     ensures { λ r. ⌜ r ≡ failed g ⌝ }
 {

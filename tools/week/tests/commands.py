@@ -57,6 +57,7 @@ def cases():
         yield ["show", name], status, said
         yield ["chart", name, "-o", "w.svg"], status, said
     yield ["show"], 2, "nothing came"
+    yield ["network", "dir", "-o", ""], 2, "the report needs a name"
     for option, value in [("--start", "Mo"), ("--start", "9999-12-31"), ("--mark", "-1"), ("--mark", "nan"), ("--mark", "inf"), ("--mark", "1e16"), ("--mark", "x")]:
         yield ["show", "good.bin", option, value], 2, option
     for option, value in [("--start", "Fri 06:00"), ("--start", "2026-11-16"), ("--mark", "0"), ("--mark", "1e15"), ("--mark", "1e-320"), ("--mark", "0.5")]:
@@ -91,7 +92,9 @@ def streams(check, folder):
     tool = f"'{sys.executable}' '{TOOL}'"
     for command, want in [(f"{tool} show '{SAMPLE}' > /dev/full", (2, "No space")), (f"{tool} show '{SAMPLE}' >&-", (2, "Bad file")), (f"{tool} --help > /dev/full", (2, "No space")),
                           (f"{tool} table good.bin -o o.csv > /dev/full", (2, "No space")), (f"{tool} show <&-", (2, "Bad file")), (f"{tool} show none 2>&-", (2, "")),
-                          (f"{tool} make t.csv --lam 8000 -o x.bin <&- >&- 2>&- && cmp x.bin w.bin", (0, "")), (f"{tool} --help >&-", (None, ""))]:
+                          (f"{tool} make t.csv --lam 8000 -o x.bin <&- >&- 2>&- && cmp x.bin w.bin", (0, "")), (f"{tool} --help >&-", (None, "")),
+                          (f"{tool} chart good.bin -o a.svg && {tool} chart good.bin -o /dev/stdout | cmp - a.svg", (0, "")),
+                          (f"{tool} make t.csv --lam 8000 -o - | cmp - w.bin", (0, "")), (f"{tool} table good.bin -o -", (2, "give the tables names"))]:
         run = subprocess.run(["sh", "-c", command], cwd=folder, stdout=subprocess.PIPE, stderr=subprocess.PIPE, env={**os.environ, "WEEKTREND": PROGRAM})
         errors = run.stderr.decode()
         check(command[-60:], want[0] in (None, run.returncode) and want[1] in errors and "Traceback" not in errors and "Exception" not in errors, (run.returncode, errors))
@@ -144,7 +147,7 @@ def interrupted(check, folder):
         except subprocess.TimeoutExpired:
             os.killpg(run.pid, signal.SIGKILL)
             errors = b"it went on"
-        check(f"{words[0]} interrupted", run.returncode == 130 and errors == b"", (run.returncode, errors))
+        check(f"{words[0]} interrupted", run.returncode == 130 and errors == b"week: interrupted\n", (run.returncode, errors))
 
 
 def run(check, folder):

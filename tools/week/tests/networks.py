@@ -211,7 +211,34 @@ def progress(check, folder):
         text += part
     run.wait()
     os.close(parent)
-    check("progress", b"\r1 of 3" in text and b"\r3 of 3" in text and text.count(b"\n") == 1, text)
+    check("progress", b"\r1 of 3" in text and b"\r3 of 3" in text and text.count(b"\n") == 2 and text.startswith(b"week: note: 2 week files"), text)
+
+
+def again(check, folder):
+    """A second report over an old one, corrections by their own names, settings of week files, and scales of small and large strands."""
+    weeks, report = os.path.join(folder, "again"), os.path.join(folder, "again", "report")
+    os.mkdir(weeks)
+    for name in ("a.bin", "b.bin"):
+        write(station(1), weeks, name)
+    network(weeks, "-o", report)
+    os.unlink(os.path.join(weeks, "b.bin"))
+    write("notes of an editor", report, "listings", "notes.txt")
+    status, _, errors = network(weeks, "-o", report)
+    check("nothing of before", status == 0 and "note" not in errors and sorted(os.listdir(os.path.join(report, "listings"))) == ["a.bin.txt", "notes.txt"], errors)
+    for name, ms in (("A", 100), ("a", 900)):
+        write("ms\n1\n2\n3\n", weeks, name + ".csv")
+        write(f"hour,ms\n0,{ms}\n", weeks, name + ".corrections.csv")
+    write(settings(0.0) + b"".join(hour(h % 7) for h in range(24)), weeks, "quiet.bin")
+    write(settings(0.0) + b"".join(hour(-10_000_000 * h) for h in range(24)), weeks, "far.bin")
+    status, _, errors = network(weeks, "-o", report, "--lam", "0", "--order", "2")
+    first = {name: listing.parse(read(report, "listings", name + ".csv.txt")).hours[0].trend for name in "Aa"}
+    check.same("corrections by their own names", first, {"A": 100.0, "a": 900.0})
+    check("settings of their own are told", status == 0 and "note: 3 week files with settings of their own" in errors, errors)
+    used = {row["file"]: (row["lam"], row["order"]) for row in rows(report)}
+    check.same("the settings that were used", used, {"A.csv": ("0.0", "2"), "a.csv": ("0.0", "2"), "a.bin": ("8000.0", "1"), "quiet.bin": ("0.0", "1"), "far.bin": ("0.0", "1")})
+    cards = {name: card for name, card in re.findall(r"(?s)<h3>(.*?)</h3>(.*?)</article>", read(report, "index.html").decode())}
+    check("a quiet strand has the marks", 'class="marks"' in cards["quiet"] and 'class="marks"' in cards["a.bin"])
+    check("a strand far beyond has its size", 'class="marks"' not in cards["far"] and "to \u2212230,000 s" in cards["far"], cards["far"][:900])
 
 
 def run(check, folder):
@@ -223,4 +250,5 @@ def run(check, folder):
     browser(check, report, STRANDS)
     damaged(check, weeks)
     statuses(check, folder)
+    again(check, folder)
     progress(check, os.path.join(folder, "some"))

@@ -93,6 +93,8 @@ def run(check, folder):
         status, text, errors = week("show", given=data)
         lines = len(re.findall(r"(?m)^ *\d+  \S", text))
         check(f"show {name}", status == 0 and not errors and lines == positions(data), (status, errors, lines))
+    text = week("show", given=settings(5.0, penalty=2) + hour(1) + hour(2) + hour(9))[1]
+    check("penalty 2", "with penalty 2 nearly every place is one" in text and "no hour is silent" in text, text)
     status, text, _ = week("show", given=settings(-1.0) + hour(1) + hour(2))
     check("show a refusal", status == 1 and text.startswith("refused 5:") and "lam is below 0" in text, text)
     check("trailing silence", week("show", given=settings() + hour(1) * 2 + SILENT * 3)[1].rstrip().endswith("4  Mon 04:00           silent"))
