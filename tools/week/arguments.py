@@ -91,7 +91,8 @@ def settings(parser: argparse.ArgumentParser, required: bool) -> None:
 def reading(parser: argparse.ArgumentParser) -> None:
     parser.add_argument("--start", type=start, default=clock.Clock(), metavar="WHEN",
                         help='when hour 0 starts: "Mon 00:00" (default), or 2026-11-16T00:00 for dates')
-    parser.add_argument("--mark", type=mark, default=8000.0, metavar="MS", help="hours past so many milliseconds are told (default 8000)")
+    parser.add_argument("--mark", type=mark, default=8000.0, metavar="MS",
+                        help="hours past so many milliseconds are told (default 8000); with less a picture comes closer")
     parser.add_argument("--program", metavar="PATH",
                         help="the program weektrend; else the variable WEEKTREND names it, else it is the repository's target/bin/weektrend")
 

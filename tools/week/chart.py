@@ -201,7 +201,7 @@ def knot_lane(fit: Fit, clock: Clock, scale: Scale) -> List[str]:
     return drawn
 
 
-def legend(fit: Fit, week: Measured, scale: Scale, marked: bool, mark: float) -> List[str]:
+def legend(fit: Fit, week: Measured, marked: bool, mark: float) -> List[str]:
     """What each sign means, by its shape."""
     y, level = FOOT + 84, words.level(mark / 1000)
     items = [(f'<circle cx="13" cy="{y - 4.5}" r="3.2"/>', "measurement", "dots"),
@@ -215,8 +215,6 @@ def legend(fit: Fit, week: Measured, scale: Scale, marked: bool, mark: float) ->
         items.append((sign, "silent, left out of the trend", "sign"))
     if marked:
         items.append((path("marks", f"M0 {y - 4.5}h26"), f"{level} seconds late or early", "sign"))
-    elif max(-scale.low, scale.high) < mark:
-        items.append(("", f"\u00b1{level} s lie outside the picture", "sign"))
     else:
         items.append(("", f"\u00b1{level} s are too near 0 to be seen", "sign"))
     drawn, x = [], float(LEFT)
@@ -243,5 +241,5 @@ def picture(fit: Fit, given: Optional[Measured], clock: Clock, mark: float, titl
         *heading(fit, clock, mark, title), shade(scale, mark) if marked else "", *hatch(week, scale), *rows(scale), *columns(clock, scale),
         path("axis", f"M{LEFT} {w(scale.y(0))}H{RIGHT}"), *(band(scale, mark) if marked else []), *hushed(week, scale),
         *dots(fit, week, clock, scale), path("trend", scales.trend_path(fit, scale)),
-        *knot_lane(fit, clock, scale), *legend(fit, week, scale, marked, mark), "</svg>"]
+        *knot_lane(fit, clock, scale), *legend(fit, week, marked, mark), "</svg>"]
     return "\n".join(piece for piece in pieces if piece) + "\n"

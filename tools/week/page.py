@@ -69,7 +69,7 @@ def attention(one: Strand) -> tuple:
 def chart(week: Optional[Measured], fit: Optional[Fit], clock: Clock, mark: float, said: str) -> str:
     """A strand's small chart: grey stretches are silent, ticks at the foot are knots; without a fit it says why."""
     week = week or []
-    low, high, marked = scales.span([*week, *(h.trend for h in fit.hours)] if fit else week, mark, close=False)
+    low, high, marked = scales.span([*week, *(h.trend for h in fit.hours)] if fit else week, mark)
     scale = Scale(30, 8, WIDTH - 34, HEIGHT - 22, max(1, len(week)), low, high)
     sides = marks(scale, mark) if marked else beyond(scale)
     drawn = frame(week, clock, scale) + (sides if week else []) + series(week, fit, scale, said)

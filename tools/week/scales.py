@@ -38,13 +38,13 @@ def drawable(value: Optional[float]) -> bool:
     return value is not None and abs(value) < FAR
 
 
-def span(values: Iterable[Optional[float]], mark: float, close: bool = True) -> Tuple[float, float, bool]:
-    """The least and the greatest value of a picture, and whether the marks are within it: where all is far larger they are not, nor, if
-    the picture goes close, where all is far smaller."""
+def span(values: Iterable[Optional[float]], mark: float) -> Tuple[float, float, bool]:
+    """The least and the greatest value of a picture, and whether the marks are within it: where values are far larger they are not. A week
+    that keeps far within them looks flat, as it is; a smaller mark brings it closer."""
     seen = [value for value in values if drawable(value)] + [0.0]
     low, high = min(seen), max(seen)
     size = max(-low, high)
-    marked = size < NEAR or (mark / 8 <= size or not close) and size <= 40 * mark
+    marked = size <= max(40 * mark, NEAR)
     if marked:
         low, high = min(low, -mark), max(high, mark)
     room = ROOM * (high - low) if high - low > NEAR else 1.0

@@ -37,7 +37,7 @@ def steps(check):
         fitted = listing.Fit(3, order, 1, 0, 0, 1, 0, 0.0, 0.0, 0.0, hours, [])
         check.same(f"path of order {order}", scales.trend_path(fitted, scale), want)
     check.same("stretches", scales.runs([0, 1, 4, 6, 7]), [(0, 2), (4, 5), (6, 8)])
-    for values, marked in [([100.0], False), ([1000.0], True), ([-320000.0], True), ([330000.0], False), ([], True), ([float("nan"), float("inf")], True), ([5e-324, -1e-9], True)]:
+    for values, marked in [([100.0], True), ([1000.0], True), ([-320000.0], True), ([330000.0], False), ([], True), ([float("nan"), float("inf")], True), ([5e-324, -1e-9], True)]:
         low, high, got = scales.span(values, 8000.0)
         check(f"marks for {values}", got == marked and low < 0 < high and (not got or low < -8000.0 < 8000.0 < high), (low, high, got))
 
