@@ -3,6 +3,7 @@
  * dual was added is called without it.
  * Each round times both, the one first in one round and second in the next; printed are the change of the least, of the
  * median, and the median of the rounds' own ratios, which is the figure to read. */
+#include "rounds.h"
 #include "trend_filter.h"
 #include <stdio.h>
 #include <stdlib.h>
@@ -52,11 +53,6 @@ static double now(void) {
     struct timespec t;
     clock_gettime(CLOCK_MONOTONIC, &t);
     return (double)t.tv_sec * 1e9 + (double)t.tv_nsec;
-}
-
-static int rising(const void *a, const void *b) {
-    double x = *(const double *)a, z = *(const double *)b;
-    return (x > z) - (x < z);
 }
 
 int main(int argc, char **argv) {

@@ -9,6 +9,7 @@
  * bounds, and in the dearest steps all 20 are. Subnormal: many products are below 2^-1022, which take the machine far longer.
  * By count: what a step would cost if all its products and quotients were so.
  * The longest searches that are known are run again, and their steps compared: the status is 1 where one differs. */
+#include "rounds.h"
 #include "trend_filter.h"
 #include <inttypes.h>
 #include <math.h>
@@ -61,11 +62,6 @@ static double timed(uint32_t order, uint64_t max_iter) {
     double took = now() - from;
     if (refused) exit((fprintf(stderr, "refused %" PRIu32 "\n", refused), 1));
     return took;
-}
-
-static int rising(const void *a, const void *b) {
-    double x = *(const double *)a, z = *(const double *)b;
-    return (x > z) - (x < z);
 }
 
 /* What a step costs, in microseconds, and a fit of one step; the median of the rounds is returned. */

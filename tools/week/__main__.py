@@ -11,7 +11,8 @@ def start() -> int:
         from week.commands import main
         return main(sys.argv[1:])
     except KeyboardInterrupt:
-        sys.stderr.write("\nweek: interrupted\n" if sys.stderr.isatty() else "week: interrupted\n")
+        from week.files import say
+        say("week: interrupted")
         return 130
 
 

@@ -73,13 +73,14 @@ def answer(given: argparse.Namespace) -> Tuple[program.Answer, Optional[weekfile
     name = "standard input" if given.file == "-" else plain(given.file)
     data = files.read(given.file, listing.BYTES)
     try:
-        if data.startswith((b"fit ", b"refused ")):
+        if listing.begins(data):
             return listing.parse(data), None
         if given.file == "-" and not data:
             raise Failure("nothing came, neither a week file nor a listing")
         if data and all(byte in b"\t\n\r" or byte >= 32 for byte in data):
             raise Failure("is text, but no whole listing; of a table, make a week file first: it needs settings (week make --help)")
-        return program.fit(program.find(given.program), data[:weekfile.BYTES + 1])[1:]
+        done = program.fit(program.find(given.program), data[:weekfile.BYTES + 1])
+        return done.answer, done.week
     except Failure as e:
         raise Failure(f"{name}: {e}") from None
 

@@ -43,6 +43,11 @@ class Refusal(NamedTuple):
     number: int
 
 
+def begins(data: bytes) -> bool:
+    """Whether this is a listing, by its first bytes; no week file begins so, since it would be too long."""
+    return data.startswith((b"fit ", b"refused "))
+
+
 def doubles(words: Sequence[bytes]) -> Tuple[float, ...]:
     return struct.unpack(f">{len(words)}d", bytes.fromhex(b"".join(words).decode()))
 

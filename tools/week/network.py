@@ -7,6 +7,7 @@ import selectors
 import signal
 import struct
 import time
+from collections import Counter
 from typing import Dict, Iterator, List, NamedTuple, Optional, Sequence, Tuple
 
 from week import files, listing, page, program, tables, weekfile, words
@@ -41,21 +42,22 @@ def entries(folder: str, report: str) -> Tuple[List[Entry], int]:
         names = sorted(os.listdir(folder))
     except OSError as e:
         raise Failure(f"{plain(folder)}: cannot be read: {files.why(e)}") from None
-    names = [name for name in names if os.path.realpath(os.path.join(folder, name)) != os.path.realpath(report)]
-    low = {name.lower() for name in names}
+    place = os.path.realpath(report)
+    names = [name for name in names if os.path.realpath(os.path.join(folder, name)) != place]
+    beside = {name.lower(): name for name in names}
+    beside.update((name, name) for name in names)  # a name as it is goes before one in other letters
     chosen, others = [], 0
     for name in names:
         if name.startswith(".") or not name.lower().endswith(WEEKS + (TABLE,)):
             others += 1
-        elif not name.lower().endswith(CORRECTIONS) or name.lower()[:-len(CORRECTIONS)] + TABLE not in low:
+        elif not name.lower().endswith(CORRECTIONS) or name.lower()[:-len(CORRECTIONS)] + TABLE not in beside:
             chosen.append(name)  # corrections without their table are an entry, which fails
-    beside = {name.lower(): name for name in names}
     stems = [os.path.splitext(name)[0] for name in chosen]
-    found = []
+    times, found = Counter(stems), []
     for name, stem in zip(chosen, stems):
         exact = stem + CORRECTIONS
-        own = (exact if exact in names else beside.get(exact.lower())) if name.lower().endswith(TABLE) else None
-        station = plain(name if stems.count(stem) > 1 else stem)
+        own = beside.get(exact, beside.get(exact.lower())) if name.lower().endswith(TABLE) else None
+        station = plain(name if times[stem] > 1 else stem)
         listed = os.path.join(report, "listings", name + ".txt")
         found.append(Entry(os.path.join(folder, name), own and os.path.join(folder, own), station, listed))
     return found, others
@@ -74,34 +76,35 @@ def week_of(job: Job, entry: Entry) -> bytes:
 
 
 def fitted(job: Job, entry: Entry) -> Strand:
-    """Fits one strand and writes its listing."""
-    name, data = os.path.basename(entry.path), week_of(job, entry)
-    printed, answer, week = program.fit(job.program, data)
-    files.write(entry.output, printed)
+    """Fits one strand and, when all is known of it, writes its listing."""
+    done = program.fit(job.program, week_of(job, entry))
+    one = told(job, entry, done)
+    files.write(entry.output, done.printed)
+    return one
+
+
+def told(job: Job, entry: Entry, done: program.Fitted) -> Strand:
+    """What is said of a strand that was fitted or refused, and its chart."""
+    name, answer, week = os.path.basename(entry.path), done.answer, done.week
     if isinstance(answer, listing.Refusal):
         said = f"refused {answer.number}"
         drawn = page.chart(week, None, job.clock, job.mark, said)
         return Strand(name, entry.station, REFUSED, f"{said}: {words.refused(answer.number)[0]}", drawn)
-    settings = weekfile.parts(data)[0]
     top, past = words.largest(answer), words.past(answer.hours, job.mark)
     said = "" if answer.converged else f"not settled, reason {answer.reason}: {words.REASONS[answer.reason][0]}"
     tells = f"{entry.station}: {answer.n} hours, {len(answer.knots)} knots, {past} hours past the mark"
     drawn = page.chart(week, answer, job.clock, job.mark, tells)
     return Strand(name, entry.station, FITTED if answer.converged else UNSETTLED, said, drawn, answer.n, len(answer.knots), answer.reason,
-                  top.trend, top.position, past, settings.lam, settings.order)
+                  top.trend, top.position, past, done.settings.lam, answer.order)
 
 
 def strand(job: Job, entry: Entry) -> Strand:
-    """What becomes of one entry, whatever it holds: no file stops the others, and no old listing stays for one that fails."""
+    """What becomes of one entry, whatever it holds: no file stops the others."""
     try:
         return fitted(job, entry)
     except Exception as e:  # whatever it is, it is this strand's alone
         said = str(e) if isinstance(e, Failure) else f"{plain(entry.path)}: {type(e).__name__}: {plain(str(e))}"
     said = said.replace(plain(os.path.join(os.path.dirname(entry.path), "")), "")  # the folder's name is no news
-    try:
-        os.unlink(entry.output)
-    except OSError:
-        pass
     drawn = page.chart(None, None, job.clock, job.mark, "no listing")
     return Strand(os.path.basename(entry.path), entry.station, UNREAD, "; ".join(said.splitlines()), drawn)
 
@@ -159,6 +162,8 @@ def spread(job: Job, all_entries: List[Entry]) -> List[Strand]:
     except BaseException:
         for process, _ in processes:
             os.kill(process, signal.SIGTERM)
+        if os.isatty(2):
+            files.say("")  # ends the progress line
         raise
     finally:
         for process, _ in processes:
@@ -172,22 +177,18 @@ def progress(done: int, of: int) -> None:
 
 
 def clear(output: str) -> None:
-    """An old report goes before a new one is begun, so that the two are never mixed."""
-    for name in ("index.html", "summary.csv"):
-        if os.path.isfile(os.path.join(output, name)):
-            os.unlink(os.path.join(output, name))
-
-
-def sweep(output: str, found: Sequence[Entry]) -> None:
-    """Listings of strands that are no longer there go; other files in their folder stay."""
-    named, folder = {entry.output for entry in found}, os.path.join(output, "listings")
-    for name in os.listdir(folder):
-        path = os.path.join(folder, name)
-        if path not in named and name.endswith(".txt") and os.path.isfile(path):
-            with open(path, "rb") as old:
-                is_listing = old.read(8).startswith((b"fit ", b"refused "))
-            if is_listing:
+    """The report's folder, without an old report, so that two are never mixed; other files in it stay."""
+    folder = os.path.join(output, "listings")
+    try:
+        os.makedirs(folder, exist_ok=True)
+        old = [os.path.join(output, name) for name in ("index.html", "summary.csv")]
+        texts = [os.path.join(folder, name) for name in os.listdir(folder) if name.endswith(".txt")]
+        old += [path for path in texts if os.path.isfile(path) and listing.begins(files.read(path, 8))]
+        for path in old:
+            if os.path.isfile(path):
                 os.unlink(path)
+    except OSError as e:
+        raise Failure(f"{plain(output)}: cannot be written: {files.why(e)}") from None
 
 
 def own_settings(found: Sequence[Entry], job: Job) -> None:
@@ -209,13 +210,8 @@ def report(folder: str, output: str, job: Job) -> int:
     if not found:
         raise Failure(f"{plain(folder)}: no week file (*.bin, *.week) and no table (*.csv) in it")
     own_settings(found, job)
-    try:
-        os.makedirs(os.path.join(output, "listings"), exist_ok=True)
-        clear(output)
-        strands = sorted(spread(job, found), key=page.attention)
-        sweep(output, found)
-    except OSError as e:
-        raise Failure(f"{plain(output)}: cannot be written: {files.why(e)}") from None
+    clear(output)
+    strands = sorted(spread(job, found), key=page.attention)
     files.write(os.path.join(output, "summary.csv"), page.summary(strands, job.clock))
     title = f"{plain(os.path.basename(os.path.realpath(folder)))}: the week's trends"
     files.write(os.path.join(output, "index.html"), page.page(strands, job.clock, job.mark, title).encode("utf-8", "backslashreplace"))

@@ -5,7 +5,7 @@ import csv
 import io
 import os
 from html import escape
-from typing import List, NamedTuple, Optional
+from typing import List, NamedTuple, Optional, Sequence
 from urllib.parse import quote
 
 from week import scales, words
@@ -69,9 +69,10 @@ def attention(one: Strand) -> tuple:
 def chart(week: Optional[Measured], fit: Optional[Fit], clock: Clock, mark: float, said: str) -> str:
     """A strand's small chart: grey stretches are silent, ticks at the foot are knots; without a fit it says why."""
     week = week or []
-    low, high, marked = scales.span([*week, *(h.trend for h in fit.hours)] if fit else week, mark)
+    values = [*week, *(h.trend for h in fit.hours)] if fit else week
+    low, high, marked = scales.span(values, mark)
     scale = Scale(30, 8, WIDTH - 34, HEIGHT - 22, max(1, len(week)), low, high)
-    sides = marks(scale, mark) if marked else beyond(scale)
+    sides = marks(scale, mark) if marked else beyond(values)
     drawn = frame(week, clock, scale) + (sides if week else []) + series(week, fit, scale, said)
     return f'<svg class="chart" viewBox="0 0 {WIDTH} {HEIGHT}" role="img" aria-label="{escape(said)}">{"".join(drawn)}</svg>'
 
@@ -99,10 +100,10 @@ def marks(scale: Scale, mark: float) -> List[str]:
     return [f'<path class="marks" d="M30 {w(up)}H{right}M30 {w(down)}H{right}"/>', side(f"+{text} s", up), side(f"\u2212{text} s", down)]
 
 
-def beyond(scale: Scale) -> List[str]:
-    """Where the marks are far within, the size of the picture stands in its corner."""
-    size = max(scale.high, -scale.low) - scales.ROOM / (1 + 2 * scales.ROOM) * (scale.high - scale.low)  # the room at the edge is left out
-    return [f'<text x="34" y="18">to {"" if scale.high >= -scale.low else chr(0x2212)}{size / 1000:,.0f} s</text>']
+def beyond(values: Sequence[Optional[float]]) -> List[str]:
+    """Where the marks are far within, the largest value stands in the corner."""
+    top = max((value for value in values if scales.drawable(value)), key=abs) / 1000
+    return [f'<text x="34" y="18">to {chr(0x2212) if top < 0 else ""}{abs(top):,.0f} s</text>']
 
 
 def series(week: Measured, fit: Optional[Fit], scale: Scale, said: str) -> List[str]:

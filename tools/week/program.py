@@ -5,7 +5,7 @@ import os
 import selectors
 import subprocess
 import time
-from typing import Dict, Optional, Tuple, Union
+from typing import Dict, NamedTuple, Optional, Union
 
 from week import listing, weekfile
 from week.files import Failure, plain
@@ -84,13 +84,21 @@ def judged(status: int, output: bytes, errors: bytes) -> bytes:
     return output
 
 
-def fit(program: str, data: bytes) -> Tuple[bytes, Answer, Optional[weekfile.Measured]]:
-    """A week's listing, as printed and as read, and what was measured if that can be told; a fit is held against the week itself."""
+class Fitted(NamedTuple):
+    """A week's listing, as printed and as read; and, if the week can be read, its settings and what was measured."""
+    printed: bytes
+    answer: Answer
+    settings: Optional[weekfile.Settings]
+    week: Optional[weekfile.Measured]
+
+
+def fit(program: str, data: bytes) -> Fitted:
+    """Runs the program on a week; a fit is held against the week itself."""
     printed = run(program, data)
     answer, split = listing.parse(printed), weekfile.parts(data)
-    week = weekfile.measured(split[1]) if split else None
+    settings, week = (split[0], weekfile.measured(split[1])) if split else (None, None)
     if isinstance(answer, listing.Fit):
         if week is None:
             raise Failure("the program fitted what is no week file")
         listing.check_against(answer, week)
-    return printed, answer, week
+    return Fitted(printed, answer, settings, week)

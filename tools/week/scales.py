@@ -7,7 +7,6 @@ from typing import Iterable, List, NamedTuple, Optional, Sequence, Tuple
 from week.listing import Fit
 from week.weekfile import Measured
 
-ROOM = 0.08  # of a picture's height, left free above and below
 FAR, NEAR = 1e300, 1e-6  # milliseconds: what is larger cannot be drawn, what is smaller is drawn as 0
 
 
@@ -47,7 +46,7 @@ def span(values: Iterable[Optional[float]], mark: float) -> Tuple[float, float, 
     marked = size <= max(40 * mark, NEAR)
     if marked:
         low, high = min(low, -mark), max(high, mark)
-    room = ROOM * (high - low) if high - low > NEAR else 1.0
+    room = 0.08 * (high - low) if high - low > NEAR else 1.0
     return low - room, high + room, marked
 
 
