@@ -19,7 +19,7 @@
 
 #define N 168
 #define LEAST 0x1p-1074 /* the least tol: none makes a search longer */
-#define PRODUCTS 300 /* of a place in a step, quotients too: order 2 has 13 in each of 20 trials and at most 39 beside them */
+#define PRODUCTS 303 /* of a place in a step, quotients too: order 2 has 13 in each of 20 trials and at most 43 beside them */
 
 /* Place i of the series is ((i * a) mod p - p / 2, from 85 on + s) * 2^-e; lam is c * 2^-f. */
 struct input { uint32_t order; int a, p, s, e, c, f; };

@@ -1,14 +1,16 @@
-//! Times the port, the Rust original and flat loops with the same bits, side by side in one run. `bench` prints the table;
-//! `bench port K N` and `bench flat K N` run one search of order K and N places 20 times over: the table's last lines count their
-//! instructions, where valgrind is at hand.
+//! Times the port, the Rust original and flat loops with the same bits, side by side in one run, on a quiet core and on a busy one apart
+//! (regime.rs). `bench` prints the table; `bench port K N LIMIT` and `bench flat K N LIMIT` run one search of order K and N places 20 times
+//! over, LIMIT iterations each: the table's last lines count their instructions, where valgrind is at hand.
 //! The port's and the flat loops' buffers are taken once and not cleared between fits; the Rust takes its own memory in each fit.
 mod flat;
+mod regime;
 
 use flat::Ws;
 use oracle::cases::lam_max_of;
 use oracle::port::{trend_filter_fit, Lengths};
 use oracle::random::Random;
 use oracle::trend_filter::{l1_trend_filter, Penalty, TrendFilterOptions};
+use regime::{median, Times, Watch};
 use std::hint::black_box;
 use std::time::Instant;
 
@@ -68,118 +70,150 @@ fn week(seed: u64, n: usize) -> Vec<f64> {
         .collect()
 }
 
-/// Seconds of one turn of f, the least of several.
-fn least(turns: usize, mut f: impl FnMut()) -> f64 {
-    (0..turns)
-        .map(|_| {
-            let t = Instant::now();
-            f();
-            t.elapsed().as_secs_f64()
-        })
-        .fold(f64::INFINITY, f64::min)
+/// What one case of the table showed: port and flat loops an iteration, each on a quiet core and a busy one.
+struct Iteration {
+    /// port / flat, quiet and busy
+    of_flat: [f64; 2],
+    /// seconds of a place of the port, quiet
+    place: f64,
 }
 
-fn fits(name: &str, ys: &[Vec<f64>], lams: &[f64], order: u32, penalty: u32, rounds: usize) {
-    let mut b = Buffers::new(ys[0].len(), penalty);
-    let mut best = [f64::INFINITY; 2];
-    let mut steps = 0;
-    for _ in 0..rounds {
-        steps = 0;
-        let p = least(1, || for (y, &lam) in ys.iter().zip(lams) { steps += b.fit(y, lam, 1e-8, 10_000, order, penalty) });
-        let r = least(1, || for (y, &lam) in ys.iter().zip(lams) { black_box(rust_fit(y, lam, 1e-8, 10_000, order, penalty)); });
-        best = [best[0].min(p), best[1].min(r)];
-    }
-    let k = ys.len() as f64;
-    println!(
-        "{name:34} port {:10.2} us  Rust {:10.2} us  Rust/port {:5.2}  steps a fit {:6.1}",
-        best[0] / k * 1e6, best[1] / k * 1e6, best[1] / best[0], steps as f64 / k
-    );
-}
+const REGIMES: [&str; 2] = ["quiet", "busy"];
 
-/// Time of one iteration: a longer search less a shorter one. The tolerance is one that no gap reaches.
-fn iteration(order: u32, n: usize, rounds: usize) -> f64 {
+/// Time of one iteration: a longer search less a shorter one. The tolerance is one that no gap reaches. A segment is one search.
+fn iteration(w: &Watch, order: u32, n: usize, share: f64, seconds: f64) -> Iteration {
     let y = week(7, n);
-    let lam = lam_max_of(&y, order) * 0.05;
-    let (tol, few, many) = (1e-300, 5, 25);
+    let lam = lam_max_of(&y, order) * share;
+    let (tol, limits) = (1e-300, [5, 25]);
     let mut b = Buffers::new(n, 1);
     let mut ws = Ws::new(n);
-    let repeat = (200_000 / n).max(1);
-    let mut best = [f64::INFINITY; 6];
-    for _ in 0..rounds {
-        let mut runs = [0.0; 6];
-        for (j, &limit) in [few, many].iter().enumerate() {
-            runs[j] = least(1, || for _ in 0..repeat { black_box(b.fit(&y, lam, tol, limit, order, 1)); });
-            runs[2 + j] = least(1, || for _ in 0..repeat { black_box(flat_search(&y, lam, tol, limit, order, &mut ws)); });
-            runs[4 + j] = least(1, || for _ in 0..repeat.div_ceil(5) { black_box(rust_fit(&y, lam, tol, limit, order, 1)); }) * repeat as f64 / repeat.div_ceil(5) as f64;
-        }
-        for (x, r) in best.iter_mut().zip(runs) {
-            *x = x.min(r);
+    let mut times = vec![Times::default(); 6];
+    let start = Instant::now();
+    while start.elapsed().as_secs_f64() < seconds {
+        for (j, limit) in limits.into_iter().enumerate() {
+            for _ in 0..5 {
+                w.time(&mut times[j], || b.fit(&y, lam, tol, limit, order, 1));
+                w.time(&mut times[2 + j], || flat_search(&y, lam, tol, limit, order, &mut ws));
+            }
+            w.time(&mut times[4 + j], || rust_fit(&y, lam, tol, limit, order, 1));
         }
     }
-    let one = |j: usize| (best[j + 1] - best[j]) / (repeat as f64 * (many - few) as f64);
-    let (p, f, r) = (one(0), one(2), one(4));
-    println!(
-        "iteration, order {order}, n {n:6}            port {:9.2} us  flat {:9.2} us  Rust {:9.2} us  port/flat {:5.2}  Rust/port {:5.2}  port a place {:6.2} ns",
-        p * 1e6, f * 1e6, r * 1e6, p / f, r / p, p / n as f64 * 1e9
-    );
-    p / n as f64
+    let one = |j: usize, regime: usize| (times[j + 1].figures()[regime] - times[j].figures()[regime]) / (limits[1] - limits[0]) as f64;
+    let fewest = |regime: usize| times.iter().map(|t| t.counts()[regime]).min().unwrap_or(0);
+    for (r, name) in REGIMES.into_iter().enumerate().filter(|&(r, _)| fewest(r) >= 5) {
+        let (p, f, u) = (one(0, r), one(2, r), one(4, r));
+        println!(
+            "iteration, order {order}, n {n:5}, lam_max*{share:4}  {name:5}  port {:8.2} us  flat {:8.2} us  Rust {:9.2} us  port/flat {:5.2}  Rust/port {:5.2}  (at least {} segments)",
+            p * 1e6, f * 1e6, u * 1e6, p / f, u / p, fewest(r)
+        );
+    }
+    Iteration { of_flat: [one(0, 0) / one(2, 0), one(0, 1) / one(2, 1)], place: one(0, 0) / n as f64 }
 }
 
-/// Instructions of one iteration, by callgrind on this program's own `WHO K 168`; what a fit does once is in it too.
-fn instructions(who: &str, order: u32) -> Option<f64> {
+/// Whole fits of several series, one segment each; the middle of the series' own ratios, Rust / port, quiet and busy.
+fn fits(w: &Watch, name: &str, ys: &[Vec<f64>], lams: &[f64], order: u32, penalty: u32, rounds: usize) -> [f64; 2] {
+    let mut b = Buffers::new(ys[0].len(), penalty);
+    let mut times = vec![[Times::default(), Times::default()]; ys.len()];
+    let mut steps = 0;
+    for _ in 0..rounds {
+        for ((y, &lam), [port, rust]) in ys.iter().zip(lams).zip(&mut times) {
+            steps += w.time(port, || b.fit(y, lam, 1e-8, 10_000, order, penalty));
+            w.time(rust, || rust_fit(y, lam, 1e-8, 10_000, order, penalty));
+        }
+    }
+    let of = |regime: usize, f: fn(f64, f64) -> f64| -> Vec<f64> {
+        times.iter().map(|[p, r]| f(p.figures()[regime], r.figures()[regime])).filter(|x| !x.is_nan()).collect()
+    };
+    let ratios = [of(0, |p, r| r / p), of(1, |p, r| r / p)];
+    let port = of(0, |p, _| p);
+    println!(
+        "{name:34} quiet: port {:9.2} us  Rust/port {:5.2}  busy: Rust/port {:5.2} ({} of {} series)  steps a fit {:6.1}",
+        port.iter().sum::<f64>() / port.len() as f64 * 1e6, median(&ratios[0]), median(&ratios[1]), ratios[1].len(), ys.len(), steps as f64 / (ys.len() * rounds) as f64
+    );
+    ratios.map(|r| median(&r))
+}
+
+/// What callgrind counts of this program's own `WHO K 168 LIMIT`, and the iterations that it made.
+fn counted(who: &str, order: u32, limit: u64) -> Option<[f64; 2]> {
     let me = std::env::current_exe().ok()?;
-    let k = order.to_string();
-    let words = ["--tool=callgrind", "--callgrind-out-file=/dev/null", me.to_str()?, who, &k, "168"];
+    let (k, limit) = (order.to_string(), limit.to_string());
+    let words = ["--tool=callgrind", "--callgrind-out-file=/dev/null", me.to_str()?, who, &k, "168", &limit];
     let run = std::process::Command::new("valgrind").args(words).output().ok()?;
     let number = |text: &str, mark: &str| -> Option<f64> {
         let line = text.lines().find(|l| l.contains(mark))?;
         line.split_whitespace().filter_map(|w| w.parse().ok()).last()
     };
-    let steps = number(&String::from_utf8_lossy(&run.stdout), "iterations")?;
-    Some(number(&String::from_utf8_lossy(&run.stderr), "Collected")? / steps)
+    Some([number(&String::from_utf8_lossy(&run.stderr), "Collected")?, number(&String::from_utf8_lossy(&run.stdout), "iterations")?])
 }
 
-fn main() {
-    let word: Vec<String> = std::env::args().skip(1).collect();
-    if let [who, k, n] = &word[..] {
-        let (k, n): (u32, usize) = (k.parse().unwrap(), n.parse().unwrap());
-        let y = week(7, n);
-        let lam = lam_max_of(&y, k) * 0.05;
-        let mut b = Buffers::new(n, 1);
-        let mut ws = Ws::new(n);
-        let steps: u64 = (0..20).map(|_| if who == "port" { b.fit(&y, lam, 1e-300, 25, k, 1) } else { flat_search(&y, lam, 1e-300, 25, k, &mut ws) }).sum();
-        println!("{who} {k} {n}: {steps} iterations");
-        return;
-    }
-    println!("buffers are not cleared between fits; the least of several interleaved rounds");
+/// Instructions of one iteration and place: longer searches less shorter ones.
+fn instructions(who: &str, order: u32) -> Option<f64> {
+    let ([few, short], [many, long]) = (counted(who, order, 5)?, counted(who, order, 25)?);
+    Some((many - few) / (long - short) / 168.0)
+}
+
+fn iterations(w: &Watch) {
+    let mut worst = [f64::NEG_INFINITY; 2];
     for order in 1..3 {
-        let near = iteration(order, 168, 40);
-        iteration(order, 1024, 20);
-        iteration(order, 8192, 8);
-        let far = iteration(order, 65_536, 4);
-        println!("a place and iteration at 65,536 against 168, order {order}: {:.2}", far / near);
+        let mut near = 0.0;
+        for share in [0.5, 0.05, 0.01] {
+            let i = iteration(w, order, 168, share, 8.0);
+            worst = [worst[0].max(i.of_flat[0]), worst[1].max(i.of_flat[1])];
+            if share == 0.05 {
+                near = i.place;
+            }
+        }
+        iteration(w, order, 1024, 0.05, 6.0);
+        iteration(w, order, 8192, 0.05, 8.0);
+        let far = iteration(w, order, 65_536, 0.05, 20.0);
+        println!("a place and iteration at 65,536 against 168, order {order}, quiet: {:.2}", far.place / near);
     }
+    println!("n 168, worst of the six cases, port/flat: quiet {:.2}, busy {:.2}", worst[0], worst[1]);
+}
+
+fn whole_fits(w: &Watch) {
+    let mut week_fits = [Vec::new(), Vec::new()];
     for order in 1..3 {
         let ys: Vec<Vec<f64>> = (0..100).map(|s| week(s, 168)).collect();
         for share in [0.5, 0.1, 0.01] {
             let lams: Vec<f64> = ys.iter().map(|y| lam_max_of(y, order) * share).collect();
-            fits(&format!("L1, order {order}, n 168, lam_max*{share}"), &ys, &lams, order, 1, 7);
+            let r = fits(w, &format!("L1, order {order}, n 168, lam_max*{share}"), &ys, &lams, order, 1, 15);
+            (0..2).for_each(|i| week_fits[i].push(r[i]));
         }
-        fits(&format!("L2, order {order}, n 168, lam 1600"), &ys, &vec![1600.0; 100], order, 2, 20);
+        fits(w, &format!("L2, order {order}, n 168, lam 1600"), &ys, &vec![1600.0; 100], order, 2, 40);
     }
+    println!("L1 week fits, the middle of the six cases, Rust/port: quiet {:.2}, busy {:.2}", median(&week_fits[0]), median(&week_fits[1]));
     let ys: Vec<Vec<f64>> = (0..400).map(|s| week(1000 + s, 168)).collect();
     let lams: Vec<f64> = ys.iter().map(|y| lam_max_of(y, 2) * 0.05).collect();
-    fits("400 strands, L1, order 2, n 168", &ys, &lams, 2, 1, 3);
+    fits(w, "400 strands, L1, order 2, n 168", &ys, &lams, 2, 1, 5);
     for n in [1024, 8192, 65_536] {
         let ys = vec![week(5, n)];
         let lams = vec![lam_max_of(&ys[0], 2) * 0.01];
-        fits(&format!("L1, order 2, n {n}"), &ys, &lams, 2, 1, 2);
-        fits(&format!("L2, order 2, n {n}"), &ys, &[1600.0], 2, 2, 5);
+        fits(w, &format!("L1, order 2, n {n}"), &ys, &lams, 2, 1, 9);
+        fits(w, &format!("L2, order 2, n {n}"), &ys, &[1600.0], 2, 2, 21);
     }
+}
+
+fn main() {
+    let word: Vec<String> = std::env::args().skip(1).collect();
+    if let [who, k, n, limit] = &word[..] {
+        let (k, n, limit): (u32, usize, u64) = (k.parse().unwrap(), n.parse().unwrap(), limit.parse().unwrap());
+        let y = week(7, n);
+        let lam = lam_max_of(&y, k) * 0.05;
+        let mut b = Buffers::new(n, 1);
+        let mut ws = Ws::new(n);
+        let steps: u64 = (0..20).map(|_| if who == "port" { b.fit(&y, lam, 1e-300, limit, k, 1) } else { flat_search(&y, lam, 1e-300, limit, k, &mut ws) }).sum();
+        println!("{who} {k} {n}: {steps} iterations");
+        return;
+    }
+    println!("buffers are not cleared between fits; many segments, interleaved, those of a quiet core and of a busy one apart (src/regime.rs)");
+    let w = Watch::new();
+    iterations(&w);
+    whole_fits(&w);
     for order in 1..3 {
         match (instructions("port", order), instructions("flat", order)) {
-            (Some(p), Some(f)) => println!("instructions an iteration, order {order}, n 168: port {p:.0}, flat {f:.0}, a place {:.0} and {:.0}", p / 168.0, f / 168.0),
-            _ => println!("instructions an iteration, order {order}: no valgrind"),
+            (Some(p), Some(f)) => println!("instructions a place and iteration, order {order}, n 168: port {p:.0}, flat {f:.0}"),
+            _ => println!("instructions a place and iteration, order {order}: no valgrind"),
         }
     }
 }

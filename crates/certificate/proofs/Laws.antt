@@ -1,29 +1,26 @@
--- Laws of the certificate: the places of its vectors, and a point inside the bounds. Assumes nothing.
+-- Laws of the certificate: the places of its vectors, the pass over them, and the whole. Assumes nothing.
 use mathlib.Core.Path.{_≡_, refl, sym, ap, ap₂, _∙_}
-use mathlib.Core.Bool.{Bool, true, false}
 use mathlib.Core.List.{List}
-use Prim.Native.Nat.{ℕ, _+_, _-_, _*_, _≤_, _<_, min}
+use Prim.Native.Nat.{ℕ, _+_, _-_, _≤_, _<_}
 use native.Mathlib.Omega.{arith}
-use borrow.Author.Tests.{le-ltb, ltb-true}
-use lib.Dec.{ltb}
-use lib.ListN.{length, take, drop, length-take}
+use lib.ListN.{length, take, drop, set}
 use lib.Seq.{getD-take}
-use lib.Ieee.{Float, nan, inf, fin, lt, neg, below, up, down}
-use Rattle.float64.specs.Ops.{_⊕_, _⊖_, _⊗_, half}
+use lib.Ieee.{Float, nan, neg}
+use Rattle.float64.specs.Ops.{_⊕_, _⊖_, _⊗_, c0, half}
 use Rattle.float64.specs.Helpers.{absOf, clampOf}
-use Rattle.float64.proofs.Clash.{clash}
 use Rattle.vectors.specs.Vec.{at, put}
 use Rattle.vectors.specs.Parts.{part, Written}
-use Rattle.vectors.specs.Sums.{norm2Sq, dot, sumAbs, inside}
-use Rattle.vectors.proofs.Laws.{length-list, at-list, list-ext, list-is}
-use Rattle.vectors.proofs.Parts.{partOf-ext, range-part, length-part, part-above}
+use Rattle.vectors.specs.Sums.{sumTo, norm2Sq, dot, sumAbs}
+use Rattle.vectors.proofs.Laws.{length-list, at-list, list-is, up, front}
+use Rattle.vectors.proofs.Parts.{partOf-ext, range-part, first-part, length-part, at-part}
 use Rattle.vectors.proofs.Texts.{put-start}
-use Rattle.vectors.proofs.Sums.{sum-ext, inside-at}
+use Rattle.vectors.proofs.Sums.{sum-more, sum-ext}
 use Rattle.differences.specs.Diff.{diffK, diffKT}
-use Rattle.differences.proofs.Laws.{length-diffK}
+use Rattle.differences.proofs.Laws.{length-diffK, length-diffKT}
 use Rattle.certificate.specs.Certificate.{minus, clamped, dualValue, certify}
-use Rattle.certificate.specs.Run.{dualOf, Trend, Beside, Summed, Certified}
+use Rattle.certificate.specs.Run.{dualOf, fallOf, trendOf, Trend, Passed, Last, Summed, Certified}
 use Rattle.certificate.specs.Ready.{Ready}
+use Rattle.certificate.specs.declared.Sums.{Sums}
 
 -- ---- the places
 
@@ -55,89 +52,83 @@ pub behind : (n m j : ℕ) (f : ℕ → Float) (s₀ s : List Float) → Written
     → take (n + m - n) (drop n s) ≡ part n m s₀
 behind n m j f s₀ s w h l = range-part n (n + m) m s refl l ∙ partOf-ext nan n n m s s₀ (λ q _. w .above (n + q) (omega arith))
 
--- ---- a point inside the bounds is its own clamped point
+-- ---- the pass over the places
 
-under : (s : Bool) (a b : ℕ) → ltb a b ≡ true → (below s a true b ≡ false) × (below false b s a ≡ false)
-under true a b h = (le-ltb b a (omega (arith, ltb-true a b h)), refl)
-under false a b h = (refl, le-ltb b a (omega (arith, ltb-true a b h)))
+-- one more place of the trend, where D'z is d
+module _ {k : ℕ} {y s₀ s : List Float} {j : ℕ} {a d : Float} (t : Trend k y s₀ s j a) (h : j < length y) (l : length y + (length y - k) ≤ length s)
+    (e : d ≡ at (diffKT k (take (length y + (length y - k) - length y) (drop (length y) s))) j) where
+  fallen : d ≡ at (fallOf k y s₀) j
+  fallen = e ∙ ap (λ (q : List Float). at (diffKT k q) j) (behind (length y) (length y - k) j _ s₀ s (t .written) (omega arith) l)
 
-pub clamp-inside : (z lam : Float) → lt (absOf z) lam ≡ true → clampOf z lam ≡ z
-unfolding lt absOf clampOf neg
-clamp-inside nan lam h = absurd (clash h refl)
-clamp-inside (inf s) nan h = absurd (clash h refl)
-clamp-inside (inf s) (inf t) h = absurd (clash h refl)
-clamp-inside (inf s) (fin t n d) h = absurd (clash h refl)
-clamp-inside (fin s m e) nan h = absurd (clash h refl)
-clamp-inside (fin s m e) (inf true) h = absurd (clash h refl)
-clamp-inside (fin s m e) (inf false) h = refl
-clamp-inside (fin s m e) (fin true n d) h = absurd (clash h refl)
-clamp-inside (fin s m e) (fin false n d) h =
-    let u = under s (m * up e * down d) (n * up d * down e) h in
-    rw (u .0, u .1)
+  pub stored : at y j ⊖ d ≡ at (trendOf k y s₀) j
+  stored = ap (λ (x : Float). at y j ⊖ x) fallen ∙ sym (at-minus y (fallOf k y s₀) j h)
 
-pub clamped-inside : (lam : Float) (z : List Float) → inside lam z ≡ true → clamped lam z ≡ z
-unfolding clamped
-clamped-inside lam z h =
-    list-ext (length z) (λ i. clampOf (at z i) lam) (at z) (λ i l. clamp-inside (at z i) lam (inside-at lam z (length z) i h l)) ∙ sym (list-is nan z)
+  pub trend-more : Trend k y s₀ (set s j (at y j ⊖ d)) (j + 1) (a ⊕ d ⊗ d)
+  trend-more = record {
+    written = up (t .written) (omega arith) (omega arith) stored;
+    squared = sum-more _ _ _ _ (t .squared) (ap (λ (x : Float). x ⊗ x) fallen);
+  }
 
--- the clamped z at the start of d, as a part that is lent
-pub clamped-first : (lam : Float) (z d₀ d : List Float) → length z ≤ length d₀ → d ≡ put d₀ 0 (clamped lam z) → take (length z - 0) (drop 0 d) ≡ clamped lam z
-clamped-first lam z d₀ d fits e =
-    let h = put-start (length z) d₀ (clamped lam z) d e (length-clamped lam z) fits in
-    let size = h .1 .size in
-    range-part 0 (length z) (length z) d (omega arith) (omega arith) ∙ h .0
+-- one more place of all three sums
+pub passed-more : {k : ℕ} {y dy s₀ s : List Float} {j : ℕ} {a b g d x : Float} → Passed k y dy s₀ s j (record { squares = a; dx = b; dot = g })
+    → k ≤ j → j < length y → length y + (length y - k) ≤ length s
+    → d ≡ at (diffKT k (take (length y + (length y - k) - length y) (drop (length y) s))) j → x ≡ absOf (at (diffK k (trendOf k y s₀)) (j - k))
+    → Passed k y dy s₀ (set s j (at y j ⊖ d)) (j + 1)
+    (record { squares = a ⊕ d ⊗ d; dx = b ⊕ x; dot = g ⊕ at (set s j (at y j ⊖ d)) (length y + j - k) ⊗ at dy (j - k) })
+passed-more {k} {y} {dy} {s₀} {s} {j} p o h l e f =
+    let t = trend-more (p .trend) h l e in
+    let q : j + 1 - k ≡ j - k + 1 = omega arith in
+    let z = t .written .above (length y + j - k) (omega arith) ∙ sym (at-part (length y) (length y - k) s₀ (j - k) (length y + j - k) (omega arith) (omega arith)) in
+    record {
+      trend = t;
+      jumped = rw q (sum-more _ _ _ _ (p .jumped) f);
+      multiplied = rw q (sum-more _ _ _ _ (p .multiplied) (ap (λ (x : Float). x ⊗ at dy (j - k)) z));
+    }
+
+pub last-more : {k : ℕ} {x : List Float} {j : ℕ} {x1 x2 v : Float} → 1 ≤ j → v ≡ at x j → Last k x j x1 x2 → Last k x (j + 1) v x1
+last-more {x = x} {j} o e l =
+    let q : j + 1 - 1 ≡ j = omega arith in
+    let f : j + 1 - 2 ≡ j - 1 = omega arith in
+    record { near = rw q e; far = λ _. rw f (l .near) }
+
+-- the first k places, and all of them
+pub passed-none : {k : ℕ} {y s₀ s : List Float} {a : Float} (dy : List Float) → Trend k y s₀ s k a → Passed k y dy s₀ s k (record { squares = a; dx = c0; dot = c0 })
+unfolding sumTo
+passed-none {k} dy t = let e : k - k ≡ 0 = omega arith in record { trend = t; jumped = rw e; multiplied = rw e }
+
+pub passed-all : {k : ℕ} {y dy s₀ s : List Float} {c : Sums} → Passed k y dy s₀ s (length y) c → k ≤ length y → length y ≤ length s → Summed k y dy s₀ s c
+unfolding norm2Sq sumAbs dot
+passed-all {k} {y} {dy} {s₀} {s} p o h =
+    let w = p .trend .written in
+    let x = trendOf k y s₀ in
+    let lx = length-minus y (fallOf k y s₀) in
+    let lz = length-part (length y) (length y - k) s₀ in
+    let lw : length (fallOf k y s₀) ≡ length y = length-diffKT k (dualOf k y s₀) ∙ omega arith in
+    let ld : length (diffK k x) ≡ length y - k = length-diffK k x ∙ omega arith in
+    record {
+      trend = sym (first-part (length y) s h) ∙ front w h ∙ sym (rw lx at (list-is nan x));
+      squared = rw lw (p .trend .squared);
+      jumped = rw ld (p .jumped);
+      multiplied = rw lz (p .multiplied);
+      kept = record { size = w .size; below = λ j u. absurd (omega arith); above = λ j u. w .above j (omega arith) };
+    }
 
 -- ---- the whole certificate
 
--- a vector whose first m places are c has m places
-room : (b c : List Float) (m : ℕ) → take m b ≡ c → length c ≡ m → m ≤ length b
-room b c m e h = let l : min m (length b) ≡ m = sym (length-take m b) ∙ ap length e ∙ h in omega arith
-
--- D y has its places in dy
-pub ready-long : {k least places : ℕ} {y dy : List Float} → Ready k y dy least places → length y - k ≤ length dy
-ready-long {k} {y = y} {dy = dy} r = room dy (diffK k y) (length y - k) (r .known) (length-diffK k y)
-
--- the trend has been written into s₀, with a = Σ(D'z)²
-module _ {k : ℕ} {y dy s₀ s : List Float} {a : Float} (r : Ready k y dy (length y + (length y - k)) (length s₀)) (t : Trend k y s₀ s a) where
-  pub beside : Beside k (length y) (length s) (length dy)
-  beside = let size = t .kept .size in record { series = r .series; room = omega arith; long = ready-long r }
-
-  -- the dual point after the trend, as a part of the run and as it was
-  range : take (length y + (length y - k) - length y) (drop (length y) s) ≡ part (length y) (length y - k) s
-  range = let size = t .kept .size in range-part (length y) (length y + (length y - k)) (length y - k) s refl (omega arith)
-
-  point : take (length y + (length y - k) - length y) (drop (length y) s) ≡ dualOf k y s₀
-  point = range ∙ part-above nan (length y) (length y - k) (t .kept) (omega arith)
-
-  length-point : length (take (length y + (length y - k) - length y) (drop (length y) s)) ≡ length y - k
-  length-point = ap length range ∙ length-part (length y) (length y - k) s
-
-  -- and there is room for it, clamped, in d₀
-  module _ (d₀ : List Float) (fits : length y - k ≤ length d₀) where
-    pub summed : {b : Float} → b ≡ dot (part (length y) (length y - k) s) dy → (Summed k (take (length y + (length y - k) - length y) (drop (length y) s)) dy a b) × (length (take (length y + (length y - k) - length y) (drop (length y) s)) ≤ length d₀)
-    summed e = (
-      record {
-        order = r .series .order;
-        long = omega (arith, ready-long r, length-point);
-        squared = t .squared ∙ ap (λ (v : List Float). norm2Sq (diffKT k v)) (sym point);
-        multiplied = e ∙ ap (λ (v : List Float). dot v dy) (sym range);
-      },
-      omega (arith, length-point),
-    )
-
-    pub certified : (lam : Float) (d : List Float) {j g : Float} → j ≡ sumAbs (diffK k (part 0 (length y) s))
-        → g ≡ dualValue k dy (clamped lam (take (length y + (length y - k) - length y) (drop (length y) s)))
-        → d ≡ put d₀ 0 (clamped lam (take (length y + (length y - k) - length y) (drop (length y) s))) → Certified k y lam s₀ s d₀ d (half ⊗ a ⊕ lam ⊗ j) g
-    unfolding certify
-    certified lam d p q e =
-        let zc = clamped lam (dualOf k y s₀) in
-        let l : length zc ≡ length y - k = length-clamped lam (dualOf k y s₀) ∙ length-part (length y) (length y - k) s₀ in
-        let h = put-start (length y - k) d₀ zc d (rw point at e) l fits in
-        record {
-          trend = t .trend;
-          primal-is = ap₂ (λ (u v : Float). half ⊗ u ⊕ lam ⊗ v) (t .squared) (p ∙ ap (λ (v : List Float). sumAbs (diffK k v)) (t .trend));
-          dual-is = (rw point at q) ∙ ap (λ (v : Float). neg half ⊗ norm2Sq (diffKT k zc) ⊕ v) (dot-take zc dy (diffK k y) (length y - k) l (r .known));
-          zc-is = h .0;
-          kept = t .kept;
-          dual-kept = h .1;
-        }
+-- the trend has been written into s₀, with its sums c, and the clamped dual point into d₀
+pub certified : {k : ℕ} {y dy s₀ s : List Float} {c : Sums} {p g : Float} → Ready k y dy (length y + (length y - k)) (length s₀) → Summed k y dy s₀ s c
+    → (lam : Float) (d₀ d : List Float) → length y - k ≤ length d₀ → p ≡ half ⊗ c .squares ⊕ lam ⊗ c .dx
+    → g ≡ dualValue k dy (clamped lam (dualOf k y s₀)) → d ≡ put d₀ 0 (clamped lam (dualOf k y s₀)) → Certified k y lam s₀ s d₀ d p g
+unfolding certify
+certified {k} {y} {dy} {s₀} r t lam d₀ d fits isp q e =
+    let zc = clamped lam (dualOf k y s₀) in
+    let l : length zc ≡ length y - k = length-clamped lam (dualOf k y s₀) ∙ length-part (length y) (length y - k) s₀ in
+    let h = put-start (length y - k) d₀ zc d e l fits in
+    record {
+      trend = t .trend;
+      primal-is = isp ∙ ap₂ (λ (u v : Float). half ⊗ u ⊕ lam ⊗ v) (t .squared) (t .jumped);
+      dual-is = q ∙ ap (λ (v : Float). neg half ⊗ norm2Sq (diffKT k zc) ⊕ v) (dot-take zc dy (diffK k y) (length y - k) l (r .known));
+      zc-is = h .0;
+      kept = t .kept;
+      dual-kept = h .1;
+    }

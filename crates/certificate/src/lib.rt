@@ -1,32 +1,43 @@
-// The certificate of a dual point.
+// The pass of the certificate: the trend of a dual point, and its sums.
 ghost use mathlib.Core.Path.{_≡_};
-ghost use Prim.Native.Nat.{_≤_, _-_, _+_};
+ghost use mathlib.Core.Bool.{true};
+ghost use mathlib.Core.List.{List};
+ghost use Prim.Native.Nat.{ℕ, _≤_, _<_, _-_, _+_};
 ghost use lib.ListN.{length};
-ghost use Rattle.vectors.specs.Vec.{put};
-ghost use Rattle.vectors.specs.Parts.{part};
-ghost use Rattle.vectors.specs.Sums.{dot, sumAbs};
-ghost use Rattle.differences.specs.Diff.{diffK};
-ghost use Rattle.certificate.specs.Certificate.{clamped, dualValue};
-ghost use Rattle.differences.specs.Series.{Series};
-ghost use Rattle.certificate.specs.Run.{Trend, Beside, Summed, Certified};
-ghost use Rattle.certificate.specs.Ready.{Ready};
+ghost use lib.Ieee.{Float};
+ghost use Rattle.vectors.specs.Vec.{at};
+ghost use Rattle.differences.specs.Diff.{diffK, diffKT};
+ghost use Rattle.differences.specs.Series.{Order, Series};
+ghost use Rattle.certificate.specs.Run.{Trend, Last, Ahead, Passed, Beside, Summed};
 
-// P and G.
-pub struct Pair {
-    pub primal: f64,
-    pub dual: f64,
+// Σ(D'z)², Σ|D x| and z·D y, of the places passed so far.
+pub struct Sums {
+    pub squares: f64,
+    pub dx: f64,
+    pub dot: f64,
 }
 
-// The first n places of s become the trend y - D'z, where z stands after them; the sum of the squares of D'z.
-fn trend_into(s: &mut [f64], y: &[f64], k: usize) -> f64
+// Place j of D'z; inner says that it is away from the ends.
+fn fall(z: &[f64], k: usize, j: usize, inner: bool) -> f64
+    requires { ⌜ Order k × (j < length (now z) + k) × (inner ≡ true → (k ≤ j) × (j < length (now z))) ⌝ }
+    ensures { λ r. ⌜ r ≡ at (diffKT k (now (z .entry))) j ⌝ }
+{
+    if inner {
+        return differences::diff_t_inner(z, k, j);
+    }
+    differences::diff_t_at(z, k, j)
+}
+
+// The first k places of s become those of the trend y - D'z, where z stands after n places; the sum of the squares of D'z there.
+fn head(s: &mut [f64], y: &[f64], k: usize) -> f64
     requires { ⌜ Series k (length (now y)) × (length (now y) + (length (now y) - k) ≤ length (now s)) ⌝ }
-    ensures { λ r. ⌜ Trend k (now (y .entry)) (now (s .entry)) (now (s .exit)) r ⌝ }
+    ensures { λ r. ⌜ Trend k (now (y .entry)) (now (s .entry)) (now (s .exit)) k r ⌝ }
 {
     let n = y.len();
     let e = n + (n - k);
     let mut a = 0.0;
     let mut j = 0;
-    while j < n {
+    while j < k {
         let d = differences::diff_t_at(&s[n..e], k, j);
         s[j] = y[j] - d;
         a = a + d * d;
@@ -35,101 +46,75 @@ fn trend_into(s: &mut [f64], y: &[f64], k: usize) -> f64
     a
 }
 
-struct Sums {
-    dx: f64,
-    dot: f64,
-}
-
-// The sum of |D x| and that of z·D y, for the trend x in the first n places of s and z after them.
-fn add_up(s: &[f64], dy: &[f64], k: usize, n: usize) -> Sums
-    requires { ⌜ Beside k n (length (now s)) (length (now dy)) ⌝ }
-    ensures { λ r. ⌜ (r .dx ≡ sumAbs (diffK k (part 0 n (now (s .entry)))))
-        × (r .dot ≡ dot (part n (n - k) (now (s .entry))) (now (dy .entry))) ⌝ }
+// The last place of D x, where x ends with x2, x1, v. x2 is not used for order 1.
+fn jump(k: usize, v: f64, x1: f64, x2: f64) -> f64
+    requires { ⌜ Order k ⌝ }
+    ensures { λ r. ⌜ ((x : List Float) (j : ℕ) → k ≤ j → j < length x → v ≡ at x j → Last k x j x1 x2 → r ≡ at (diffK k x) (j - k)) ⌝ }
 {
-    let m = n - k;
-    let mut a = 0.0;
-    let mut b = 0.0;
-    let mut i = 0;
-    while i < m {
-        let d = differences::diff_at(&s[0..n], k, i);
-        let t = float64::abs(d);
-        a = a + t;
-        b = b + s[n + i] * dy[i];
-        i += 1;
+    if k == 1 {
+        return v - x1;
     }
-    Sums { dx: a, dot: b }
+    (v - x1) - (x1 - x2)
 }
 
-// The first places of dual become z, each place clamped to lam.
-pub fn clamp_into(dual: &mut [f64], z: &[f64], lam: f64)
-    requires { ⌜ length (now z) ≤ length (now dual) ⌝ }
-    ensures { λ _. ⌜ now (dual .exit) ≡ put (now (dual .entry)) 0 (clamped lam (now (z .entry))) ⌝ }
-{
-    let mut i = 0;
-    while i < z.len() {
-        dual[i] = float64::clamp(z[i], lam);
-        i += 1;
-    }
-}
-
-// The sum of v·D y.
-fn product(v: &[f64], dy: &[f64]) -> f64
-    requires { ⌜ length (now v) ≤ length (now dy) ⌝ }
-    ensures { λ r. ⌜ r ≡ dot (now (v .entry)) (now (dy .entry)) ⌝ }
-{
-    let mut a = 0.0;
-    let mut i = 0;
-    while i < v.len() {
-        a = a + v[i] * dy[i];
-        i += 1;
-    }
-    a
-}
-
-// G at z, of which Σ(D'z)² and z·D y are known: they serve where every |z| is below lam. The first places of dual become the clamped z.
-fn dual_of(
-    dual: &mut [f64],
-    z: &[f64],
-    dy: &[f64],
-    lam: f64,
-    k: usize,
-    squares: f64,
-    dot: f64,
-) -> f64
-    requires { ⌜ Summed k (now z) (now dy) squares dot × (length (now z) ≤ length (now dual)) ⌝ }
-    ensures { λ r. ⌜ (r ≡ dualValue k (now (dy .entry)) (clamped lam (now (z .entry)))) × (now (dual .exit) ≡ put (now (dual .entry)) 0 (clamped lam (now (z .entry)))) ⌝ }
-{
-    if vectors::inside(z, lam) {
-        vectors::copy(dual, z);
-        return -0.5 * squares + dot;
-    }
-    clamp_into(dual, z, lam);
-    let m = z.len();
-    let a = differences::fall_squares(&dual[0..m], k);
-    let b = product(&dual[0..m], dy);
-    -0.5 * a + b
-}
-
-// The certificate at z, which stands in s after n places for the trend. dy begins with D y. The first places of dual become the clamped z.
-pub fn certify_l1(
+// The places of the trend from `from` up to `to`, with what they add to the sums c. inner says that they are away from the ends.
+fn pass(
     s: &mut [f64],
-    dual: &mut [f64],
     y: &[f64],
     dy: &[f64],
-    lam: f64,
     k: usize,
-) -> Pair
-    requires { ⌜ Ready k (now y) (now dy) (length (now y) + (length (now y) - k)) (length (now s)) × (length (now y) - k ≤ length (now dual)) ⌝ }
-    ensures { λ r. ⌜ Certified k (now (y .entry)) lam (now (s .entry)) (now (s .exit)) (now (dual .entry)) (now (dual .exit)) (r .primal) (r .dual) ⌝ }
+    from: usize,
+    to: usize,
+    c: Sums,
+    inner: bool,
+) -> Sums
+    requires { ⌜ Ahead k (length (now y)) (length (now s)) (length (now dy)) from to inner ⌝ }
+    ensures { λ r. ⌜ ((s₀ : List Float) → Passed k (now (y .entry)) (now (dy .entry)) s₀ (now (s .entry)) from c → Passed k (now (y .entry)) (now (dy .entry)) s₀ (now (s .exit)) to r) ⌝ }
 {
     let n = y.len();
     let e = n + (n - k);
-    let a = trend_into(s, y, k);
-    let b = add_up(s, dy, k, n);
-    let primal = 0.5 * a + lam * b.dx;
-    let g = dual_of(dual, &s[n..e], dy, lam, k, a, b.dot);
-    Pair {
-        primal: primal,
-        dual: g,
+    let mut a = c.squares;
+    let mut b = c.dx;
+    let mut g = c.dot;
+    let mut x1 = s[from - 1];
+    let mut x2 = s[from - k];
+    let mut j = from;
+    while j < to {
+        let d = fall(&s[n..e], k, j, inner);
+        let v = y[j] - d;
+        s[j] = v;
+        a = a + d * d;
+        let x = jump(k, v, x1, x2);
+        let t = float64::abs(x);
+        b = b + t;
+        g = g + s[n + j - k] * dy[j - k];
+        x2 = x1;
+        x1 = v;
+        j += 1;
     }
+    Sums {
+        squares: a,
+        dx: b,
+        dot: g,
+    }
+}
+
+// The first n places of s become the trend, and all its sums.
+pub fn passes(s: &mut [f64], y: &[f64], dy: &[f64], k: usize) -> Sums
+    requires { ⌜ Beside k (length (now y)) (length (now s)) (length (now dy)) ⌝ }
+    ensures { λ r. ⌜ Summed k (now (y .entry)) (now (dy .entry)) (now (s .entry)) (now (s .exit)) r ⌝ }
+{
+    let n = y.len();
+    let m = n - k;
+    let h = head(s, y, k);
+    let c = Sums {
+        squares: h,
+        dx: 0.0,
+        dot: 0.0,
+    };
+    if m <= k {
+        return pass(s, y, dy, k, k, n, c, false);
+    }
+    let d = pass(s, y, dy, k, k, m, c, true);
+    pass(s, y, dy, k, m, n, d, false)
 }

@@ -95,7 +95,7 @@ pub fn flat_path(
     let z = a + n;
     let e = z + m;
     vectors::copy_within(work, m * (k + 1), z, m);
-    let p = certificate::certify_l1(&mut work[a..e], dual, y, cycle, lam, k);
+    let p = certify::certify_l1(&mut work[a..e], dual, y, cycle, lam, k);
     let s = closed(p.primal - p.dual, p.primal);
     Finding {
         trend: Trend::Won(false),

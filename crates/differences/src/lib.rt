@@ -93,17 +93,25 @@ fn fall_here(v: &[f64], j: usize) -> f64
     if j <= v.len() { fall_at(v, j) } else { 0.0 }
 }
 
-// Place j of D' z, for order 1 and 2.
+// Place j of D' z away from the ends, for order 1 and 2.
+pub fn diff_t_inner(z: &[f64], k: usize, j: usize) -> f64
+    requires { ⌜ Order k × (k ≤ j) × (j < length (now z)) ⌝ }
+    ensures { λ r. ⌜ r ≡ at (diffKT k (now (z .entry))) j ⌝ }
+{
+    if k == 1 {
+        return z[j - 1] - z[j];
+    }
+    (z[j - 2] - z[j - 1]) - (z[j - 1] - z[j])
+}
+
+// Any place j of D' z.
 pub fn diff_t_at(z: &[f64], k: usize, j: usize) -> f64
     requires { ⌜ Order k × (j < length (now z) + k) ⌝ }
     ensures { λ r. ⌜ r ≡ at (diffKT k (now (z .entry))) j ⌝ }
 {
     if k <= j {
         if j < z.len() {
-            if k == 1 {
-                return z[j - 1] - z[j];
-            }
-            return (z[j - 2] - z[j - 1]) - (z[j - 1] - z[j]);
+            return diff_t_inner(z, k, j);
         }
     }
     if k == 1 {

@@ -1,2 +1,3 @@
 -- Laws of the direction and the step cap.
+pub mod Edges
 pub mod Laws

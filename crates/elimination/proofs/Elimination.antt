@@ -20,7 +20,7 @@ use Rattle.banded.specs.Run.{flat, look, ofRun, Keeps, Holds, Stands, Factored,
 use Rattle.banded.proofs.Laws.{within, one-row, above, entry-ext, length-rowTo, line-above, line-here, holds-none, holds-snoc, holds-kept, of-holds, unsound, part-stands, stands-part}
 use Rattle.banded.proofs.Forward.{forward-ext, length-forward, forward-rows}
 use Rattle.banded.proofs.Storing.{stored}
-use Rattle.elimination.specs.Decomposed.{Decomposed}
+use Rattle.elimination.specs.Decomposed.{Reached, Decomposed}
 
 -- ---- a row stored whole that is the factor's, and its place carried forward
 
@@ -52,12 +52,7 @@ eliminated-any {k} {m} {r} {s₀} {s} {x} {ok} q w has e is g =
     ∙ ap (λ (v : Float). forwardAt k (ofRun k (set s q x)) (λ j. at (set s q x) (m * (k + 1) + j)) v r) (ap (at s) e ∙ w .kept .above (m * (k + 1) + r) (omega arith)))
     g
 
--- ---- the first r rows of the factor of a, all pivots good, and after the m rows the first r places of v carried forward
-
-pub record Reached (k m r : ℕ) (a : Matrix) (v s : List Float) : Type 0 where
-  pub made : Holds k r (rows k a r) s
-  pub firm : sound k a r ≡ true
-  pub side : Stands (m * (k + 1)) (forward k (rows k a r) v r) s
+-- ---- the first rows of the factor: none
 
 pub reached-none : (k m : ℕ) (a : Matrix) (v s : List Float) → Reached k m 0 a v s
 unfolding rows sound forward

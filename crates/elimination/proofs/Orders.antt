@@ -1,35 +1,21 @@
--- Orders 1 and 2, away from the first rows: what the general definitions come to there. And the test of a pivot. Assumes nothing.
-use mathlib.Core.Bool.{true, false}
+-- Orders 1 and 2, away from the first rows: what the general definitions come to there. Assumes nothing.
 use mathlib.Core.List.{List, [], _∷_}
 use mathlib.Core.Path.{_≡_, refl, sym, ap, _∙_}
 use Prim.Native.Nat.{ℕ, _+_, _-_, _*_, _≤_, _<_}
 use native.Mathlib.Omega.{arith}
-use lib.Ieee.{Float, nan, inf, fin, lt, ofBits}
+use lib.Ieee.{Float}
 use borrow.Author.Tests.{lt-ltb, le-ltb}
-use Rattle.float64.specs.Helpers.{isFinite}
-use Rattle.float64.specs.Ops.{_⊖_, _⊗_, _⊘_, c0, infinity}
+use Rattle.float64.specs.Ops.{_⊖_, _⊗_, _⊘_}
 use Rattle.vectors.specs.Vec.{at}
 use Rattle.banded.specs.Rows.{Matrix, reduced, entry, placed, good}
 use Rattle.banded.specs.Solve.{forwardAt}
 use Rattle.banded.specs.Run.{ofRun, Stored, Eliminated}
 use Rattle.banded.proofs.Laws.{lessFrom-none, lessFrom-1, lessFrom-2, placed-at}
 use Rattle.banded.proofs.Storing.{first-two, first-three}
+use Rattle.elimination.specs.Next.{Next1Made, Next2Made}
+use Rattle.elimination.specs.declared.Row1.{Row1}
+use Rattle.elimination.specs.declared.Row2.{Row2}
 use Rattle.elimination.proofs.Elimination.{eliminated}
-
--- ---- a pivot
-
-pub above-0 : (x : Float) → lt c0 x ≡ true → lt x infinity ≡ good x
-unfolding lt isFinite ofBits
-above-0 nan e = refl
-above-0 (inf true) e = sym e
-above-0 (inf false) e = refl
-above-0 (fin s m d) e = sym e
-
-pub not-above-0 : (x : Float) → lt c0 x ≡ false → good x ≡ false
-unfolding isFinite
-not-above-0 nan e = refl
-not-above-0 (inf s) e = refl
-not-above-0 (fin s m d) e = e
 
 -- ---- a place left of the diagonal, column j, and the last place
 
@@ -89,38 +75,38 @@ module _ {k m r : ℕ} {v : ℕ → Float} {x : Float} {s t : List Float} (st : 
   here : (c j : ℕ) → c ≤ k → j ≡ r * (k + 1) + c → at t j ≡ v c
   here c j l e = ap (at t) e ∙ st .row c l
 
-module _ {m r : ℕ} {s t : List Float} {l e x : Float} (far : 1 ≤ r) (st : Stored 1 m r (at (l ∷ e ∷ [])) x s t)
-    (l-is : l ≡ at s (r * 2) ⊘ at s (r * 2 - 1)) (e-is : e ≡ at s (r * 2 + 1) ⊖ l ⊗ l ⊗ at s (r * 2 - 1)) (x-is : x ≡ at s (m * 2 + r) ⊖ l ⊗ at s (m * 2 + r - 1)) (h : r < m) where
-  pub eliminated-1 : Eliminated 1 m r s t (good e)
+-- the numbers that it was made of stood in the run
+module _ {m r : ℕ} {s t : List Float} {a b x d u : Float} {w : Row1} (far : 1 ≤ r) (h : r < m) (st : Stored 1 m r (at (w .left ∷ w .pivot ∷ [])) (w .side) s t) (new : Next1Made a b x d u w)
+    (a-is : at s (r * 2) ≡ a) (b-is : at s (r * 2 + 1) ≡ b) (x-is : at s (m * 2 + r) ≡ x) (d-is : at s (r * 2 - 1) ≡ d) (u-is : at s (m * 2 + r - 1) ≡ u) where
+  pub eliminated-1 : Eliminated 1 m r s t (good (w .pivot))
   eliminated-1 =
-      let z : ofRun 1 s r (r - 1) ≡ at s (r * 2) = ap (at s) (omega arith) in
-      let y : ofRun 1 s r r ≡ at s (r * 2 + 1) = ap (at s) (omega arith) in
-      let a : ofRun 1 t r (r - 1) ≡ l = here st 0 (r * 2 + (r - 1 + 1 - r)) (omega arith) (omega arith) in
-      let d : ofRun 1 t (r - 1) (r - 1) ≡ at s (r * 2 - 1) = up st (r * 2 - 1) ((r - 1) * 2 + (r - 1 + 1 - (r - 1))) (omega arith) (omega arith) in
-      let u : at t (m * 2 + (r - 1)) ≡ at s (m * 2 + r - 1) = beside st (m * 2 + r - 1) (m * 2 + (r - 1)) (omega arith) (omega arith) (omega arith) in
+      let z : ofRun 1 s r (r - 1) ≡ a = ap (at s) (omega arith) ∙ a-is in
+      let y : ofRun 1 s r r ≡ b = ap (at s) (omega arith) ∙ b-is in
+      let l : ofRun 1 t r (r - 1) ≡ w .left = here st 0 (r * 2 + (r - 1 + 1 - r)) (omega arith) (omega arith) in
+      let p : ofRun 1 t (r - 1) (r - 1) ≡ d = up st (r * 2 - 1) ((r - 1) * 2 + (r - 1 + 1 - (r - 1))) (omega arith) (omega arith) ∙ d-is in
+      let q : at t (m * 2 + (r - 1)) ≡ u = beside st (m * 2 + r - 1) (m * 2 + (r - 1)) (omega arith) (omega arith) (omega arith) ∙ u-is in
       eliminated st
-      (first-two (at (l ∷ e ∷ [])) (placed 1 (entry 1 (ofRun 1 s) (ofRun 1 t)) r) (l-is ∙ sym (entry-1-0 (ofRun 1 s) (ofRun 1 t) r far ∙ rw (z, d)))
-      (e-is ∙ sym (entry-1-1 (ofRun 1 s) (ofRun 1 t) r far ∙ rw (y, a, d))))
-      (x-is ∙ sym (forward-1 (ofRun 1 s) (ofRun 1 t) r far (λ j. at t (m * 2 + j)) (at s (m * 2 + r)) ∙ rw (a, u))) refl
+      (first-two (at (w .left ∷ w .pivot ∷ [])) (placed 1 (entry 1 (ofRun 1 s) (ofRun 1 t)) r) (new .left ∙ sym (entry-1-0 (ofRun 1 s) (ofRun 1 t) r far ∙ rw (z, p)))
+      (new .pivot ∙ sym (entry-1-1 (ofRun 1 s) (ofRun 1 t) r far ∙ rw (y, l, p))))
+      (new .side ∙ sym (forward-1 (ofRun 1 s) (ofRun 1 t) r far (λ j. at t (m * 2 + j)) (at s (m * 2 + r)) ∙ rw (l, q, x-is))) refl
 
-module _ {m r : ℕ} {s t : List Float} {b a e x : Float} (far : 2 ≤ r) (st : Stored 2 m r (at (b ∷ a ∷ e ∷ [])) x s t)
-    (b-is : b ≡ at s (r * 3) ⊘ at s (r * 3 - 4)) (a-is : a ≡ (at s (r * 3 + 1) ⊖ b ⊗ at s (r * 3 - 2) ⊗ at s (r * 3 - 4)) ⊘ at s (r * 3 - 1))
-    (e-is : e ≡ at s (r * 3 + 2) ⊖ b ⊗ b ⊗ at s (r * 3 - 4) ⊖ a ⊗ a ⊗ at s (r * 3 - 1))
-    (x-is : x ≡ at s (m * 3 + r) ⊖ b ⊗ at s (m * 3 + r - 2) ⊖ a ⊗ at s (m * 3 + r - 1)) (h : r < m) where
-  pub eliminated-2 : Eliminated 2 m r s t (good e)
+module _ {m r : ℕ} {s t : List Float} {a b c x d2 l d1 u2 u1 : Float} {w : Row2} (far : 2 ≤ r) (h : r < m) (st : Stored 2 m r (at (w .far ∷ w .left ∷ w .pivot ∷ [])) (w .side) s t)
+    (new : Next2Made a b c x d2 l d1 u2 u1 w) (a-is : at s (r * 3) ≡ a) (b-is : at s (r * 3 + 1) ≡ b) (c-is : at s (r * 3 + 2) ≡ c) (x-is : at s (m * 3 + r) ≡ x)
+    (d2-is : at s (r * 3 - 4) ≡ d2) (l-is : at s (r * 3 - 2) ≡ l) (d1-is : at s (r * 3 - 1) ≡ d1) (u2-is : at s (m * 3 + r - 2) ≡ u2) (u1-is : at s (m * 3 + r - 1) ≡ u1) where
+  pub eliminated-2 : Eliminated 2 m r s t (good (w .pivot))
   eliminated-2 =
-      let z : ofRun 2 s r (r - 2) ≡ at s (r * 3) = ap (at s) (omega arith) in
-      let y : ofRun 2 s r (r - 1) ≡ at s (r * 3 + 1) = ap (at s) (omega arith) in
-      let w : ofRun 2 s r r ≡ at s (r * 3 + 2) = ap (at s) (omega arith) in
-      let p : ofRun 2 t r (r - 2) ≡ b = here st 0 (r * 3 + (r - 2 + 2 - r)) (omega arith) (omega arith) in
-      let q : ofRun 2 t r (r - 1) ≡ a = here st 1 (r * 3 + (r - 1 + 2 - r)) (omega arith) (omega arith) in
-      let d2 : ofRun 2 t (r - 2) (r - 2) ≡ at s (r * 3 - 4) = up st (r * 3 - 4) ((r - 2) * 3 + (r - 2 + 2 - (r - 2))) (omega arith) (omega arith) in
-      let d1 : ofRun 2 t (r - 1) (r - 1) ≡ at s (r * 3 - 1) = up st (r * 3 - 1) ((r - 1) * 3 + (r - 1 + 2 - (r - 1))) (omega arith) (omega arith) in
-      let l1 : ofRun 2 t (r - 1) (r - 2) ≡ at s (r * 3 - 2) = up st (r * 3 - 2) ((r - 1) * 3 + (r - 2 + 2 - (r - 1))) (omega arith) (omega arith) in
-      let u2 : at t (m * 3 + (r - 2)) ≡ at s (m * 3 + r - 2) = beside st (m * 3 + r - 2) (m * 3 + (r - 2)) (omega arith) (omega arith) (omega arith) in
-      let u1 : at t (m * 3 + (r - 1)) ≡ at s (m * 3 + r - 1) = beside st (m * 3 + r - 1) (m * 3 + (r - 1)) (omega arith) (omega arith) (omega arith) in
+      let z : ofRun 2 s r (r - 2) ≡ a = ap (at s) (omega arith) ∙ a-is in
+      let y : ofRun 2 s r (r - 1) ≡ b = ap (at s) (omega arith) ∙ b-is in
+      let v : ofRun 2 s r r ≡ c = ap (at s) (omega arith) ∙ c-is in
+      let p : ofRun 2 t r (r - 2) ≡ w .far = here st 0 (r * 3 + (r - 2 + 2 - r)) (omega arith) (omega arith) in
+      let q : ofRun 2 t r (r - 1) ≡ w .left = here st 1 (r * 3 + (r - 1 + 2 - r)) (omega arith) (omega arith) in
+      let e2 : ofRun 2 t (r - 2) (r - 2) ≡ d2 = up st (r * 3 - 4) ((r - 2) * 3 + (r - 2 + 2 - (r - 2))) (omega arith) (omega arith) ∙ d2-is in
+      let e1 : ofRun 2 t (r - 1) (r - 1) ≡ d1 = up st (r * 3 - 1) ((r - 1) * 3 + (r - 1 + 2 - (r - 1))) (omega arith) (omega arith) ∙ d1-is in
+      let k : ofRun 2 t (r - 1) (r - 2) ≡ l = up st (r * 3 - 2) ((r - 1) * 3 + (r - 2 + 2 - (r - 1))) (omega arith) (omega arith) ∙ l-is in
+      let f2 : at t (m * 3 + (r - 2)) ≡ u2 = beside st (m * 3 + r - 2) (m * 3 + (r - 2)) (omega arith) (omega arith) (omega arith) ∙ u2-is in
+      let f1 : at t (m * 3 + (r - 1)) ≡ u1 = beside st (m * 3 + r - 1) (m * 3 + (r - 1)) (omega arith) (omega arith) (omega arith) ∙ u1-is in
       eliminated st
-      (first-three (at (b ∷ a ∷ e ∷ [])) (placed 2 (entry 2 (ofRun 2 s) (ofRun 2 t)) r) (b-is ∙ sym (entry-2-0 (ofRun 2 s) (ofRun 2 t) r far ∙ rw (z, d2)))
-      (a-is ∙ sym (entry-2-1 (ofRun 2 s) (ofRun 2 t) r far ∙ rw (y, p, l1, d2, d1)))
-      (e-is ∙ sym (entry-2-2 (ofRun 2 s) (ofRun 2 t) r far ∙ rw (w, p, q, d2, d1))))
-      (x-is ∙ sym (forward-2 (ofRun 2 s) (ofRun 2 t) r far (λ j. at t (m * 3 + j)) (at s (m * 3 + r)) ∙ rw (p, q, u2, u1))) refl
+      (first-three (at (w .far ∷ w .left ∷ w .pivot ∷ [])) (placed 2 (entry 2 (ofRun 2 s) (ofRun 2 t)) r) (new .far ∙ sym (entry-2-0 (ofRun 2 s) (ofRun 2 t) r far ∙ rw (z, e2)))
+      (new .left ∙ sym (entry-2-1 (ofRun 2 s) (ofRun 2 t) r far ∙ rw (y, p, k, e2, e1)))
+      (new .pivot ∙ sym (entry-2-2 (ofRun 2 s) (ofRun 2 t) r far ∙ rw (v, p, q, e2, e1))))
+      (new .side ∙ sym (forward-2 (ofRun 2 s) (ofRun 2 t) r far (λ j. at t (m * 3 + j)) (at s (m * 3 + r)) ∙ rw (p, q, f2, f1, x-is))) refl

@@ -1,2 +1,3 @@
 -- The definitions that the contracts of elimination cite.
 pub mod Decomposed
+pub mod Next

@@ -7,7 +7,7 @@ ghost use Rattle.banded.specs.Rows.{placed};
 ghost use Rattle.banded.specs.Layout.{Laid};
 ghost use Rattle.gram.specs.Gram.{gram, product as product_of};
 ghost use Rattle.gram.specs.Prepared.{preparation, System, Prepared};
-ghost use Rattle.differences.specs.Series.{Series};
+ghost use Rattle.differences.specs.Series.{Order, Series};
 
 // Place c of row r of D D'.
 fn gram_at(g: [f64; 3], k: usize, r: usize, c: usize) -> f64
@@ -97,7 +97,7 @@ fn product_any(z: &[f64], g: [f64; 3], k: usize, i: usize) -> f64
     v
 }
 
-// The same away from the ends, for order 1 and 2.
+// The same away from the ends, for order 1, and for order 2.
 fn product1(z: &[f64], g: [f64; 3], i: usize) -> f64
     requires { ⌜ (1 ≤ i) × (i + 1 < length (now z)) ⌝ }
     ensures { λ r. ⌜ r ≡ product_of 1 g (now (z .entry)) i ⌝ }
@@ -112,19 +112,25 @@ fn product2(z: &[f64], g: [f64; 3], i: usize) -> f64
     0.0 + g[2] * z[i - 2] + g[1] * z[i - 1] + g[0] * z[i] + g[1] * z[i + 1] + g[2] * z[i + 2]
 }
 
+// Place i of (D D') z away from the ends, for order 1 and 2.
+pub fn product_inner(z: &[f64], g: [f64; 3], k: usize, i: usize) -> f64
+    requires { ⌜ Order k × (k ≤ i) × (i + k < length (now z)) ⌝ }
+    ensures { λ r. ⌜ r ≡ product_of k g (now (z .entry)) i ⌝ }
+{
+    if k == 1 {
+        return product1(z, g, i);
+    }
+    product2(z, g, i)
+}
+
 // Place i of (D D') z.
 pub fn product(z: &[f64], g: [f64; 3], k: usize, i: usize) -> f64
-    requires { ⌜ (k ≤ 2) × (i < length (now z)) ⌝ }
+    requires { ⌜ Order k × (i < length (now z)) ⌝ }
     ensures { λ r. ⌜ r ≡ product_of k g (now (z .entry)) i ⌝ }
 {
     if k <= i {
         if i + k < z.len() {
-            if k == 1 {
-                return product1(z, g, i);
-            }
-            if k == 2 {
-                return product2(z, g, i);
-            }
+            return product_inner(z, g, k, i);
         }
     }
     product_any(z, g, k, i)

@@ -7,6 +7,7 @@ use native.Mathlib.Nat.{add-zero, mul-le-mul-left}
 use native.Mathlib.Omega.{arith}
 use lib.ListN.{length, take, drop}
 use lib.Ieee.{Float}
+use Rattle.vectors.specs.Sums.{inside}
 use Rattle.vectors.proofs.Parts.{putBack, kept-within}
 use Rattle.banded.specs.Rows.{sound}
 use Rattle.newton_system.specs.Newton.{system}
@@ -31,7 +32,7 @@ stepped-at k g dy lam inv-t a e m s x r size fits l w =
     let p = point-range m a e s (omega arith) in
     let f : a + (e - a) ≤ length s = omega arith in
     record {
-      answer = w .answer ∙ λ i. stepOf (sound k (system k g lam (p i)) m) (searchLine (dataOf k g dy lam inv-t) (p i) .step);
+      answer = w .answer ∙ λ i. stepOf (sound k (system k g lam (p i)) m) (inside lam (searchLine (dataOf k g dy lam inv-t) (p i) .point .z)) (searchLine (dataOf k g dy lam inv-t) (p i) .step);
       moves = point-put a (e - a) m s x f l (omega arith) ∙ w .moves ∙ λ i. cond (sound k (system k g lam (p i)) m) (nextPoint lam (p i) (searchLine (dataOf k g dy lam inv-t) (p i))) (p i);
       kept = rw add-zero at (kept-within a (e - a) 0 (stepArea k m) s x f l (w .kept));
     }

@@ -13,6 +13,7 @@ use Rattle.float64.proofs.Clash.{impossible}
 use Rattle.float64.specs.Ops.{_⊖_, _⊗_, _⊘_, c0, c0·99, c1, c1e-10, infinity}
 use Rattle.vectors.specs.Vec.{at}
 use Rattle.vectors.specs.Parts.{Kept, partOf, part, Written}
+use Rattle.vectors.specs.Sums.{inside}
 use Rattle.vectors.proofs.Laws.{kept-then, kept-none, list-ext, written-kept}
 use Rattle.vectors.proofs.Parts.{length-part, part-below, part-above}
 use Rattle.differences.specs.Diff.{diffK, gramRow}
@@ -32,24 +33,32 @@ use Rattle.dual_point.specs.Places.{point}
 use Rattle.dual_point.proofs.Points.{point-above}
 use Rattle.newton_step.specs.Stepped.{stepArea, stepOf, Stepped}
 use Rattle.newton_step.specs.declared.Step.{Step}
-use Rattle.newton_step.specs.declared.Step.the-variants.{Lost, Moved}
+use Rattle.newton_step.specs.declared.Step.the-variants.{Lost, Stayed, Moved}
 use Rattle.interior_point.specs.InteriorPoint.{State, nextT, move, problem, origin, interiorPoint}
-use Rattle.interior_point.specs.Account.{landed, stateOf, pointOf, Standing, Started, leftOf, testBy, testOf, improves, lostRun, Settled, Turned, searchOf, Found}
+use Rattle.interior_point.specs.Account.{landed, stateOf, pointOf, Standing, Started, leftOf, testBy, testOf, improves, lostRun, Settled, Turnable, Turned, searchOf, Found}
 use Rattle.interior_point.specs.declared.Run.{Run}
 use Rattle.interior_point.specs.declared.Test.the-variants.{Goes, Stops}
+use Rattle.interior_point.proofs.Places.{step-small}
 
 -- the account of the start, where v is its gap
 abbrev pub startRun : Float → Float → Run
 startRun v p = record { t = c1e-10; step = infinity; gap = v; primal = p; first = v; best = v; «n_iter» = 0; improvements = 0; stalled = 0; lost = false }
 
--- what a step's answer says
-was-moved : (b : Bool) (x step : Float) → stepOf b x ≡ Moved step → (b ≡ true) × (x ≡ step)
-was-moved true x step e = (refl, cc)
-was-moved false x step e = impossible cc
+-- what a step's answer says: whether the pivots are sound, whether the last trial is inside, and the step
+was-lost : (a b : Bool) (x : Float) → stepOf a b x ≡ Lost → a ≡ false
+was-lost false b x e = refl
+was-lost true false x e = impossible cc
+was-lost true true x e = impossible cc
 
-was-lost : (b : Bool) (x : Float) → stepOf b x ≡ Lost → b ≡ false
-was-lost true x e = impossible cc
-was-lost false x e = refl
+was-stayed : (a b : Bool) (x step : Float) → stepOf a b x ≡ Stayed step → (a ≡ true) × (b ≡ false) × (x ≡ step)
+was-stayed false b x step e = impossible cc
+was-stayed true false x step e = (refl, refl, cc)
+was-stayed true true x step e = impossible cc
+
+was-moved : (a b : Bool) (x step : Float) → stepOf a b x ≡ Moved step → (a ≡ true) × (b ≡ true) × (x ≡ step)
+was-moved false b x step e = impossible cc
+was-moved true false x step e = impossible cc
+was-moved true true x step e = (refl, refl, cc)
 
 -- what is so where another iteration is made
 pub record GoesOn (a b c d : Bool) : Type 0 where
@@ -182,9 +191,14 @@ module _ (k : ℕ) (y : List Float) (lam : Float) where
       let q : nextT (length (st .point .z)) v st ≡ t₁ = (λ i. nextT (l i) v st) ∙ sym f in
       λ i. cond (sound k (system k g lam (st .point)) (l i)) (moved (landed lam st (q i) (searchLine (dataOf k g (diffK k y) lam (c1 ⊘ q i)) (st .point)))) lost
 
-  module _ {g s₀ s₁ d₀ : List Float} {r : Run} {t₁ : Float} {w : Step}
-      (room : n + stepArea k m ≤ searchArea n) (stands : Standing k y lam s₀ d₀ r)
-      (next : t₁ ≡ nextT m (r .gap) (stateOf k y s₀ r)) (stepped : Stepped k g (diffK k y) lam (c1 ⊘ t₁) n m s₀ s₁ w) where
+  module _ {dy g s₀ s₁ d₀ : List Float} {r : Run} {t₁ : Float} {w : Step} (pre : Turnable k y dy lam s₀ d₀ r)
+      (next : (p : Dual) → t₁ ≡ nextT m (r .gap) (record { point = p; t = r .t; step = r .step })) (stepped : Stepped k g (diffK k y) lam (c1 ⊘ t₁) n m s₀ s₁ w) where
+    abbrev stands : Standing k y lam s₀ d₀ r
+    stands = pre .standing
+
+    room : n + stepArea k m ≤ searchArea n
+    room = step-small k m n (pre .ready .series .order .high) (omega arith)
+
     -- the line search of the step
     abbrev line : Trial
     line = searchLine (dataOf k g (diffK k y) lam (c1 ⊘ t₁)) (point n m s₀)
@@ -192,49 +206,60 @@ module _ (k : ℕ) (y : List Float) (lam : Float) where
     abbrev L : Problem State
     L = problem k g y lam
 
-    by-flag : (b : Bool) → sound k (system k g lam (point n m s₀)) m ≡ b
-        → L .move (gap L (stateOf k y s₀ r)) (stateOf k y s₀ r) ≡ cond b (moved (landed lam (stateOf k y s₀ r) t₁ line)) lost
+    -- its pivots are sound, and its last trial is inside the bounds
+    abbrev firm : Bool
+    firm = sound k (system k g lam (point n m s₀)) m
+
+    abbrev within : Bool
+    within = inside lam (line .point .z)
+
+    by-flag : (b : Bool) → firm ≡ b → L .move (gap L (stateOf k y s₀ r)) (stateOf k y s₀ r) ≡ cond b (moved (landed lam (stateOf k y s₀ r) t₁ line)) lost
     unfolding problem
     by-flag b e =
         (λ i. move k g y lam (sym (stands .gap) i) (stateOf k y s₀ r))
-        ∙ move-is g (stateOf k y s₀ r) (r .gap) t₁ (length-part n m s₀) next
+        ∙ move-is g (stateOf k y s₀ r) (r .gap) t₁ (length-part n m s₀) (next (point n m s₀))
         ∙ λ i. cond (e i) (moved (landed lam (stateOf k y s₀ r) t₁ line)) lost
+
+    -- where the point is as it was, so is its certificate
+    unmoved : point n m s₁ ≡ point n m s₀ → (x : Run) → x .primal ≡ r .primal → x .gap ≡ r .gap → Standing k y lam s₁ d₀ x
+    unmoved same x p v =
+        stands-at s₁ d₀ (part n m s₀) x (ap (λ (q : Dual). q .z) (sym same)) (part-below nan 0 n (stepped .kept) (omega arith) ∙ stands .trend) (stands .dual) (p ∙ stands .primal) (v ∙ stands .gap)
+
+    step-kept : Kept 0 (searchArea n) s₀ s₁
+    step-kept = kept-then 0 (searchArea n) (stepped .kept) (kept-none 0 0 s₁) (omega arith) (omega arith) (omega (arith, room)) (omega arith)
 
     -- a lost pivot
     pub turned-lost : w ≡ Lost → Turned k g y lam s₀ s₁ d₀ d₀ r (lostRun r)
     turned-lost e =
-        let b : sound k (system k g lam (point n m s₀)) m ≡ false = was-lost (sound k (system k g lam (point n m s₀)) m) (line .step) (sym (stepped .answer) ∙ e) in
+        let b : firm ≡ false = was-lost firm within (line .step) (sym (stepped .answer) ∙ e) in
         let same : point n m s₁ ≡ point n m s₀ = stepped .moves ∙ rw b in
         record {
           ahead = λ tol j q f. run-lost L tol j (pointOf k y s₀ r) (enough-is g tol stands ∙ q) f (by-flag false b)
               ∙ λ i. record { state = record { point = sym same i; t = r .t; step = r .step }; n-iter = sym (add-one (r .«n_iter»)) i; first = r .first; best = r .best; improvements = r .improvements; reason = PivotLost };
-          standing = stands-at s₁ d₀ (part n m s₀) (lostRun r) (ap (λ (p : Dual). p .z) (sym same)) (part-below nan 0 n (stepped .kept) (omega arith) ∙ stands .trend)
-              (stands .dual) (stands .primal) (stands .gap);
+          standing = unmoved same (lostRun r) refl refl;
           n-iter = refl;
           improvements = omega arith;
           stall = omega arith;
-          kept = kept-then 0 (searchArea n) (stepped .kept) (kept-none 0 0 s₁) (omega arith) (omega arith) (omega arith) (omega arith);
+          kept = step-kept;
           dual-kept = kept-none 0 m d₀;
         }
 
-    -- a step, and the certificate at the point that it left
-    module _ {step p q : Float} {s d : List Float} {x : Run} (c : Certified k y lam s₁ s d₀ d p q) (new : Settled r t₁ step p q x) where
-      after : Standing k y lam s d x
-      after = certified c x (new .primal) (new .gap)
-
-      gap-is : p ⊖ q ≡ gap L (stateOf k y s x)
+    -- a step that ended with p and the gap v, which are those of the point that stands in s
+    module _ {step p v : Float} {s d : List Float} {x : Run} (new : Settled r t₁ step p v x) (after : Standing k y lam s d x)
+        (sure : firm ≡ true) (there : point n m s ≡ point n m s₁) (len : line .step ≡ step) where
+      gap-is : v ≡ gap L (stateOf k y s x)
       unfolding problem
       gap-is = sym (new .gap) ∙ after .gap
 
-      improved-is : improved L (pointOf k y s₀ r) (stateOf k y s x) ≡ improves r p q
+      improved-is : improved L (pointOf k y s₀ r) (stateOf k y s x) ≡ improves r v
       improved-is = λ i. lt (sym gap-is i) (c0·99 ⊗ r .best)
 
-      advanced : (b : Bool) → improves r p q ≡ b → pointOf k y s x ≡ advance L (pointOf k y s₀ r) (stateOf k y s x) b
+      advanced : (b : Bool) → improves r v ≡ b → pointOf k y s x ≡ advance L (pointOf k y s₀ r) (stateOf k y s x) b
       advanced true e = λ i. record {
         state = stateOf k y s x;
         n-iter = (new .n-iter ∙ add-one (r .«n_iter»)) i;
         first = new .first i;
-        best = (new .best ∙ (λ j. cond (e j) (p ⊖ q) (r .best)) ∙ gap-is) i;
+        best = (new .best ∙ (λ j. cond (e j) v (r .best)) ∙ gap-is) i;
         improvements = (new .improvements ∙ (λ j. cond (e j) (r .improvements + 1) (r .improvements)) ∙ add-one (r .improvements)) i;
         stall = (new .stall ∙ λ j. cond (e j) 0 (r .stalled + 1)) i;
       }
@@ -242,7 +267,7 @@ module _ (k : ℕ) (y : List Float) (lam : Float) where
         state = stateOf k y s x;
         n-iter = (new .n-iter ∙ add-one (r .«n_iter»)) i;
         first = new .first i;
-        best = (new .best ∙ λ j. cond (e j) (p ⊖ q) (r .best)) i;
+        best = (new .best ∙ λ j. cond (e j) v (r .best)) i;
         improvements = (new .improvements ∙ λ j. cond (e j) (r .improvements + 1) (r .improvements)) i;
         stall = (new .stall ∙ (λ j. cond (e j) 0 (r .stalled + 1)) ∙ add-one (r .stalled)) i;
       }
@@ -251,29 +276,47 @@ module _ (k : ℕ) (y : List Float) (lam : Float) where
       at-most true a c h = omega arith
       at-most false a c h = h
 
-      landed-at : w ≡ Moved step → L .move (gap L (stateOf k y s₀ r)) (stateOf k y s₀ r) ≡ moved (stateOf k y s x)
-      landed-at e =
-          let b = was-moved (sound k (system k g lam (point n m s₀)) m) (line .step) step (sym (stepped .answer) ∙ e) in
-          let there : point n m s ≡ nextPoint lam (point n m s₀) line = point-above n m (c .kept) (omega arith) ∙ stepped .moves ∙ rw (b .0) in
-          by-flag true (b .0) ∙ λ i. moved (record { point = sym there i; t = sym (new .t) i; step = (b .1 ∙ sym (new .step)) i })
+      landed-at : L .move (gap L (stateOf k y s₀ r)) (stateOf k y s₀ r) ≡ moved (stateOf k y s x)
+      landed-at =
+          let q : point n m s ≡ nextPoint lam (point n m s₀) line = there ∙ stepped .moves ∙ rw sure in
+          by-flag true sure ∙ λ i. moved (record { point = sym q i; t = sym (new .t) i; step = (len ∙ sym (new .step)) i })
 
-      pub turned-moved : w ≡ Moved step → Turned k g y lam s₀ s d₀ d r x
-      turned-moved e = record {
-        ahead = λ tol j h f. run-moved L tol j (pointOf k y s₀ r) (stateOf k y s x) (improves r p q) (enough-is g tol stands ∙ h) f
-            (landed-at e) improved-is
-            ∙ sym (ap (run L tol j) (advanced (improves r p q) refl))
+      turned : Kept 0 n s₁ s → Kept 0 m d₀ d → Turned k g y lam s₀ s d₀ d r x
+      turned u z = record {
+        ahead = λ tol j h f. run-moved L tol j (pointOf k y s₀ r) (stateOf k y s x) (improves r v) (enough-is g tol stands ∙ h) f
+            landed-at improved-is
+            ∙ sym (ap (run L tol j) (advanced (improves r v) refl))
             ∙ sym (ap (leftOf L tol j (pointOf k y s x)) (new .lost));
         standing = after;
         n-iter = new .n-iter;
-        improvements = rw (new .improvements) (at-most (improves r p q) (r .improvements + 1) (r .improvements) (omega arith));
-        stall = rw (new .stall) (no-more (improves r p q));
-        kept = kept-then 0 (searchArea n) (stepped .kept) (c .kept) (omega arith) (omega arith) (omega arith) (omega arith);
-        dual-kept = c .dual-kept;
+        improvements = rw (new .improvements) (at-most (improves r v) (r .improvements + 1) (r .improvements) (omega arith));
+        stall = rw (new .stall) (no-more (improves r v));
+        kept = kept-then 0 (searchArea n) (stepped .kept) u (omega arith) (omega arith) (omega (arith, room)) (omega arith);
+        dual-kept = z;
       }
         where
           no-more : (b : Bool) → cond b 0 (r .stalled + 1) ≤ r .stalled + 1
           no-more true = omega arith
           no-more false = omega arith
+
+    -- the point stayed, and so did its P and gap
+    pub turned-stayed : {step : Float} {x : Run} → Settled r t₁ step (r .primal) (r .gap) x → w ≡ Stayed step → Turned k g y lam s₀ s₁ d₀ d₀ r x
+    turned-stayed {step} {x} new e =
+        let b = was-stayed firm within (line .step) step (sym (stepped .answer) ∙ e) in
+        let same : point n m s₁ ≡ point n m s₀ = stepped .moves ∙ rw (b .0, b .1) in
+        turned new (unmoved same x (new .primal) (new .gap)) (b .0) refl (b .2) (kept-none 0 n s₁) (kept-none 0 m d₀)
+
+    -- the point moved: it is inside the bounds, and then has its certificate
+    module _ {step : Float} (e : w ≡ Moved step) where
+      sure-in : (firm ≡ true) × (within ≡ true) × (line .step ≡ step)
+      sure-in = was-moved firm within (line .step) step (sym (stepped .answer) ∙ e)
+
+      pub moved-inside : inside lam (part n m s₁) ≡ true
+      moved-inside = let there : point n m s₁ ≡ line .point = stepped .moves ∙ rw (sure-in .0, sure-in .1) in ap (λ (q : Dual). inside lam (q .z)) there ∙ sure-in .1
+
+      pub turned-moved : {s d : List Float} {p q : Float} {x : Run} → Certified k y lam s₁ s d₀ d p q → Settled r t₁ step p (p ⊖ q) x → Turned k g y lam s₀ s d₀ d r x
+      turned-moved {x = x} c new =
+          turned new (certified c x (new .primal) (new .gap)) (sure-in .0) (point-above n m (c .kept) (omega arith)) (sure-in .2) (c .kept) (c .dual-kept)
 
   -- ---- the loop
 

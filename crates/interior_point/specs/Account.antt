@@ -6,7 +6,7 @@ use Prim.Native.Nat.{ℕ, suc, _+_, _-_, _≤_, _<_, _^_}
 use lib.Dec.{eqb, ltb}
 use lib.ListN.{length}
 use lib.Ieee.{Float, lt, le}
-use Rattle.float64.specs.Ops.{_⊖_, _⊗_, c0·99}
+use Rattle.float64.specs.Ops.{_⊗_, c0·99}
 use Rattle.vectors.specs.Parts.{Kept, part}
 use Rattle.differences.specs.Diff.{gramRow}
 use Rattle.certificate.specs.Certificate.{Certificate, certify, gapOf}
@@ -69,21 +69,21 @@ pub record Countable (r : Run) : Type 0 where
   pub improvements : r .improvements ≤ r .«n_iter»
   pub stall : r .stalled ≤ 10
 
--- an iteration that ends with P and G is an improvement
-abbrev pub improves : Run → Float → Float → Bool
-improves r p d = lt (p ⊖ d) (c0·99 ⊗ r .best)
+-- an iteration that ends with the gap v is an improvement
+abbrev pub improves : Run → Float → Bool
+improves r v = lt v (c0·99 ⊗ r .best)
 
--- what such an iteration adds to r
-pub record Settled (r : Run) (t₁ step₁ p d : Float) (x : Run) : Type 0 where
+-- what an iteration that ends with P and that gap adds to r
+pub record Settled (r : Run) (t₁ step₁ p v : Float) (x : Run) : Type 0 where
   pub t : x .t ≡ t₁
   pub step : x .step ≡ step₁
-  pub gap : x .gap ≡ p ⊖ d
+  pub gap : x .gap ≡ v
   pub primal : x .primal ≡ p
   pub first : x .first ≡ r .first
-  pub best : x .best ≡ cond (improves r p d) (p ⊖ d) (r .best)
+  pub best : x .best ≡ cond (improves r v) v (r .best)
   pub n-iter : x .«n_iter» ≡ r .«n_iter» + 1
-  pub improvements : x .improvements ≡ cond (improves r p d) (r .improvements + 1) (r .improvements)
-  pub stall : x .stalled ≡ cond (improves r p d) 0 (r .stalled + 1)
+  pub improvements : x .improvements ≡ cond (improves r v) (r .improvements + 1) (r .improvements)
+  pub stall : x .stalled ≡ cond (improves r v) 0 (r .stalled + 1)
   pub lost : x .lost ≡ false
 
 -- after a lost pivot: the iteration counts, and nothing else changes

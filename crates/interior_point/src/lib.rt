@@ -9,7 +9,6 @@ ghost use Rattle.dual_point.specs.Lanes.{searchArea};
 ghost use Rattle.newton_step.specs.Stepped.{Stepped};
 ghost use Rattle.interior_point.specs.InteriorPoint.{nextT};
 ghost use Rattle.interior_point.specs.Account.{Started, testOf, Countable, lostRun, Settled, Turnable, Turned, Found};
-use certificate::Pair;
 use newton_step::Step;
 use search::Reason;
 
@@ -43,7 +42,7 @@ fn start(work: &mut [f64], dual: &mut [f64], y: &[f64], dy: &[f64], lam: f64, k:
     let e = a + (n - k) + (n - k);
     vectors::fill(work, n, a, 0.0);
     vectors::fill(work, a, e, 1.0);
-    let p = certificate::certify_l1(work, dual, y, dy, lam, k);
+    let p = certify::certify_l1(work, dual, y, dy, lam, k);
     let gap = p.primal - p.dual;
     Run {
         t: 1e-10,
@@ -114,18 +113,17 @@ fn step_at(
     newton_step::newton_step(&mut work[n..e], &dy[0..m], lam, inv_t, g, k, m)
 }
 
-// The account after a step that ended with the pair p.
-fn settled(r: Run, t: f64, step: f64, p: Pair) -> Run
+// The account after a step that ended with this P and gap.
+fn settled(r: Run, t: f64, step: f64, primal: f64, gap: f64) -> Run
     requires { ⌜ Countable r ⌝ }
-    ensures { λ x. ⌜ Settled r t step (p .primal) (p .dual) x ⌝ }
+    ensures { λ x. ⌜ Settled r t step primal gap x ⌝ }
 {
-    let gap = p.primal - p.dual;
     if gap < 0.99 * r.best {
         return Run {
             t: t,
             step: step,
             gap: gap,
-            primal: p.primal,
+            primal: primal,
             first: r.first,
             best: gap,
             n_iter: r.n_iter + 1,
@@ -138,7 +136,7 @@ fn settled(r: Run, t: f64, step: f64, p: Pair) -> Run
         t: t,
         step: step,
         gap: gap,
-        primal: p.primal,
+        primal: primal,
         first: r.first,
         best: r.best,
         n_iter: r.n_iter + 1,
@@ -168,7 +166,7 @@ fn pivot_lost(r: Run) -> Run
     }
 }
 
-// One iteration: a Newton step with the next t, and the certificate at the point that it leaves.
+// One iteration: a Newton step with the next t, and the certificate at the point that it leaves; where the point stayed it is the one of before.
 fn iterate(
     work: &mut [f64],
     dual: &mut [f64],
@@ -185,11 +183,14 @@ fn iterate(
     let n = y.len();
     let t = next_t(r.t, r.step, r.gap, n - k);
     let w = step_at(work, y, dy, lam, 1.0 / t, g, k);
-    let Step::Moved(step) = w else {
-        return pivot_lost(r);
-    };
-    let p = certificate::certify_l1(work, dual, y, dy, lam, k);
-    settled(r, t, step, p)
+    match w {
+        Step::Lost => pivot_lost(r),
+        Step::Stayed(step) => settled(r, t, step, r.primal, r.gap),
+        Step::Moved(step) => {
+            let p = certify::certify_inside(work, dual, y, dy, lam, k);
+            settled(r, t, step, p.primal, p.primal - p.dual)
+        }
+    }
 }
 
 // The interior point search. work: the trend's n places; z, mu1, mu2; the trial's; the rows of the Newton system; dz, dmu1, dmu2. dual: the clamped z.

@@ -1,47 +1,107 @@
 // The line search along the direction of a Newton step. A point stands in a run as z, mu1, mu2, m places each.
 ghost use mathlib.Core.Path.{_≡_};
-ghost use Prim.Native.Nat.{_≤_, _+_, _*_};
+ghost use Prim.Native.Nat.{_+_, _*_};
 ghost use lib.ListN.{length};
-ghost use Rattle.vectors.specs.Parts.{Kept};
-ghost use Rattle.newton_system.specs.Newton.{residualSquare, residualNorm};
+ghost use Rattle.vectors.specs.Vec.{at};
+ghost use Rattle.vectors.specs.Sums.{sumTo};
+ghost use Rattle.vectors.specs.Parts.{Kept, Written};
+ghost use Rattle.differences.specs.Series.{Order};
+ghost use Rattle.gram.specs.Gram.{product};
+ghost use Rattle.newton_system.specs.Newton.{residualNorm};
 ghost use Rattle.newton_system.specs.Rows.{dataOf};
 ghost use Rattle.dual_point.specs.Places.{point};
-ghost use Rattle.line_search.specs.LineSearch.{along, sufficientDecrease};
-ghost use Rattle.line_search.specs.Places.{PointRoom, LineRoom, Attempted, Searched};
+ghost use Rattle.line_search.specs.LineSearch.{sufficientDecrease};
+ghost use Rattle.line_search.specs.Places.{MoveRoom, moved, TrialRoom, Stretch, Squares, LineRoom, Attempted, Searched};
 
-// The square of the residual at the point in the first places of s.
-fn residual(s: &[f64], dy: &[f64], lam: f64, inv_t: f64, g: [f64; 3], k: usize, m: usize) -> f64
-    requires { ⌜ PointRoom k m (length (now s)) (length (now dy)) ⌝ }
-    ensures { λ r. ⌜ r ≡ residualSquare (dataOf k g (now (dy .entry)) lam «inv_t») (point 0 m (now (s .entry))) ⌝ }
+// The places from `from` up to `to` of the trial at a step, which stands from c on. The point stands in the first places, the direction from b on.
+fn move_part(s: &mut [f64], from: usize, to: usize, b: usize, c: usize, step: f64)
+    requires { ⌜ MoveRoom from to b c (length (now s)) ⌝ }
+    ensures { λ _. ⌜ Written (c + from) (c + to) (moved b c step (now (s .entry))) (now (s .entry)) (now (s .exit)) ⌝ }
 {
-    let mut a = 0.0;
-    let mut i = 0;
-    while i < m {
-        let q = gram::product(&s[0..m], g, k, i);
-        let e = newton_system::residual_of(q, dy[i], s[i], s[m + i], s[m + m + i], lam, inv_t);
-        a = a + e;
-        i += 1;
-    }
-    a
-}
-
-// The point at a step from that in the first 3 m places, in the 3 m after them. From b on stands the direction.
-fn move_to(s: &mut [f64], b: usize, step: f64, m: usize)
-    requires { ⌜ (6 * m ≤ b) × (b + 3 * m ≤ length (now s)) ⌝ }
-    ensures { λ _. ⌜ (point (3 * m) m (now (s .exit)) ≡ along (point 0 m (now (s .entry))) (point b m (now (s .entry))) step)
-        × Kept (3 * m) (3 * m) (now (s .entry)) (now (s .exit)) ⌝ }
-{
-    let c = 3 * m;
-    let mut i = 0;
-    while i < c {
+    let mut i = from;
+    while i < to {
         s[c + i] = s[i] + step * s[b + i];
         i += 1;
     }
 }
 
-// Whether the norm of the residual at the trial in s is low enough against the old one.
+// Place i of (D D') z; inner says that it lies away from the ends.
+fn product_at(z: &[f64], g: [f64; 3], k: usize, i: usize, inner: bool) -> f64
+    requires { ⌜ Order k × Stretch k (length (now z)) i (i + 1) inner ⌝ }
+    ensures { λ r. ⌜ r ≡ product k g (now (z .entry)) i ⌝ }
+{
+    if inner {
+        return gram::product_inner(z, g, k, i);
+    }
+    gram::product(z, g, k, i)
+}
+
+// What the trial's places from `from` up to `to` add to the square of its residual, in the m places after the trial.
+// inner says that they lie away from the ends. It is a constant at each call, so that the compiler makes a loop for each.
+fn squares(
+    s: &mut [f64],
+    dy: &[f64],
+    lam: f64,
+    inv_t: f64,
+    g: [f64; 3],
+    k: usize,
+    m: usize,
+    from: usize,
+    to: usize,
+    inner: bool,
+)
+    requires { ⌜ TrialRoom k m (length (now s)) (length (now dy)) × Stretch k m from to inner ⌝ }
+    ensures { λ _. ⌜ Squares (dataOf k g (now (dy .entry)) lam «inv_t») m from to (now (s .entry)) (now (s .exit)) ⌝ }
+{
+    let c = 3 * m;
+    let d = 4 * m;
+    let mut i = from;
+    while i < to {
+        let q = product_at(&s[c..d], g, k, i, inner);
+        let x = newton_system::residual_of(
+            q,
+            dy[i],
+            s[c + i],
+            s[c + m + i],
+            s[c + m + m + i],
+            lam,
+            inv_t,
+        );
+        s[c + c + i] = x;
+        i += 1;
+    }
+}
+
+// The same for all its places: those near the first end, those away from the ends, those near the last end.
+fn squares_into(s: &mut [f64], dy: &[f64], lam: f64, inv_t: f64, g: [f64; 3], k: usize, m: usize)
+    requires { ⌜ TrialRoom k m (length (now s)) (length (now dy)) ⌝ }
+    ensures { λ _. ⌜ Squares (dataOf k g (now (dy .entry)) lam «inv_t») m 0 m (now (s .entry)) (now (s .exit)) ⌝ }
+{
+    if m <= k + k {
+        squares(s, dy, lam, inv_t, g, k, m, 0, m, false);
+        return;
+    }
+    squares(s, dy, lam, inv_t, g, k, m, 0, k, false);
+    squares(s, dy, lam, inv_t, g, k, m, k, m - k, true);
+    squares(s, dy, lam, inv_t, g, k, m, m - k, m, false);
+}
+
+// The sum of a vector, in order.
+fn sum(v: &[f64]) -> f64
+    ensures { λ r. ⌜ r ≡ sumTo (at (now (v .entry))) (length (now (v .entry))) ⌝ }
+{
+    let mut a = 0.0;
+    let mut i = 0;
+    while i < v.len() {
+        a = a + v[i];
+        i += 1;
+    }
+    a
+}
+
+// Whether the norm of the residual at the trial is low enough against the old one.
 fn low_enough(
-    s: &[f64],
+    s: &mut [f64],
     dy: &[f64],
     lam: f64,
     inv_t: f64,
@@ -51,10 +111,14 @@ fn low_enough(
     step: f64,
     old: f64,
 ) -> bool
-    requires { ⌜ PointRoom k m (length (now s)) (length (now dy)) ⌝ }
-    ensures { λ r. ⌜ r ≡ sufficientDecrease (residualNorm (dataOf k g (now (dy .entry)) lam «inv_t») (point 0 m (now (s .entry)))) step old ⌝ }
+    requires { ⌜ TrialRoom k m (length (now s)) (length (now dy)) ⌝ }
+    ensures { λ r. ⌜ (r ≡ sufficientDecrease (residualNorm (dataOf k g (now (dy .entry)) lam «inv_t») (point (3 * m) m (now (s .entry)))) step old)
+        × Kept (6 * m) m (now (s .entry)) (now (s .exit)) ⌝ }
 {
-    let a = residual(s, dy, lam, inv_t, g, k, m);
+    let e = 6 * m;
+    let f = 7 * m;
+    squares_into(s, dy, lam, inv_t, g, k, m);
+    let a = sum(&s[e..f]);
     square_root::sqrt(a) <= (1.0 - 0.01 * step) * old
 }
 
@@ -63,7 +127,7 @@ struct Tried {
     good: bool,
 }
 
-// One trial: the point at a step, whether it is inside, and whether it is accepted.
+// One trial: the point at a step, whether it is inside, and whether it is accepted. Its mu1 and mu2 are made only inside.
 fn attempt(
     s: &mut [f64],
     b: usize,
@@ -81,11 +145,11 @@ fn attempt(
 {
     let c = 3 * m;
     let d = c + m;
-    let e = c + c;
-    move_to(s, b, step, m);
+    move_part(s, 0, m, b, c, step);
     let within = vectors::inside(&s[c..d], lam);
     if within {
-        let low = low_enough(&s[c..e], dy, lam, inv_t, g, k, m, step, old);
+        move_part(s, m, c, b, c, step);
+        let low = low_enough(s, dy, lam, inv_t, g, k, m, step, old);
         return Tried {
             inside: true,
             good: low,
@@ -103,7 +167,7 @@ pub struct Trial {
     pub inside: bool,
 }
 
-// Up to 20 trials; the last stands after the point.
+// Up to 20 trials; the last stands after the point, if it is inside.
 pub fn line_search(
     s: &mut [f64],
     b: usize,

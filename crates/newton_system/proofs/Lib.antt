@@ -1,3 +1,2 @@
--- The laws of a row of the Newton system, and of the sweep over its rows.
+-- The laws of a row of the Newton system.
 pub mod Places
-pub mod Sweeps

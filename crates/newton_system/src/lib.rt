@@ -1,25 +1,22 @@
-// The Newton system of a dual point: made, factored and carried forward a row at a time, and then solved. And what a place adds to the residual.
+// The rows of the Newton system of a dual point, made and stored. And what a place adds to the residual.
 ghost use mathlib.Core.Path.{_≡_};
+ghost use Prim.Native.Nat.{_-_};
 ghost use lib.ListN.{length};
 ghost use lib.Ieee.{Float};
 ghost use Rattle.float64.specs.Ops.{_⊕_};
+ghost use Rattle.vectors.specs.Parts.{part};
 ghost use Rattle.differences.specs.Series.{Order};
 ghost use Rattle.banded.specs.Run.{HasRow, Stored};
+ghost use Rattle.gram.specs.Gram.{product};
 ghost use Rattle.dual_point.specs.Places.{point};
 ghost use Rattle.newton_system.specs.Newton.{diagonalShift, rhsAt, residualSquareAt};
-ghost use Rattle.newton_system.specs.Rows.{besides, AtRow, RowMade, AtSystem, Swept, NewtonSolved};
+ghost use Rattle.newton_system.specs.Rows.{besides, AtRow, RowMade};
 
 // A row of the system: its diagonal, its right side, and what its place adds to the square of the residual.
-struct Row {
-    diagonal: f64,
-    right: f64,
-    square: f64,
-}
-
-// The square of the residual, and whether every pivot was good.
-pub struct Solved {
-    pub acc: f64,
-    pub good: bool,
+pub struct Row {
+    pub diagonal: f64,
+    pub right: f64,
+    pub square: f64,
 }
 
 // What a place adds to the square of the residual: q is (D D') z there, inv_t is 1 / t.
@@ -52,8 +49,8 @@ fn rhs_of(q: f64, dy: f64, z: f64, lam: f64, inv_t: f64) -> f64
     -q + dy + inv_t / f1 - inv_t / f2
 }
 
-// Row r for the point in the first 3 m places of s.
-fn row_at(
+// Row r for the point in the first 3 m places of s, where q is (D D') z at place r.
+pub fn row_with(
     s: &[f64],
     dy: &[f64],
     lam: f64,
@@ -62,11 +59,11 @@ fn row_at(
     k: usize,
     m: usize,
     r: usize,
+    q: f64,
 ) -> Row
-    requires { ⌜ AtRow k m r (length (now s)) (length (now dy)) ⌝ }
+    requires { ⌜ AtRow k m r (length (now s)) (length (now dy)) × (q ≡ product k g (part 0 m (now s)) r) ⌝ }
     ensures { λ v. ⌜ RowMade k g (now (dy .entry)) lam «inv_t» (point 0 m (now (s .entry))) r v ⌝ }
 {
-    let q = gram::product(&s[0..m], g, k, r);
     let y = dy[r];
     let z = s[r];
     let mu1 = s[m + r];
@@ -81,8 +78,26 @@ fn row_at(
     }
 }
 
+// The same, with q.
+pub fn row_at(
+    s: &[f64],
+    dy: &[f64],
+    lam: f64,
+    inv_t: f64,
+    g: [f64; 3],
+    k: usize,
+    m: usize,
+    r: usize,
+) -> Row
+    requires { ⌜ AtRow k m r (length (now s)) (length (now dy)) ⌝ }
+    ensures { λ v. ⌜ RowMade k g (now (dy .entry)) lam «inv_t» (point 0 m (now (s .entry))) r v ⌝ }
+{
+    let q = gram::product(&s[0..m], g, k, r);
+    row_with(s, dy, lam, inv_t, g, k, m, r, q)
+}
+
 // Row r of m rows of the system, with d on the diagonal, and x in place r of the right side after them.
-fn put_row(s: &mut [f64], g: [f64; 3], k: usize, m: usize, r: usize, d: f64, x: f64)
+pub fn put_row(s: &mut [f64], g: [f64; 3], k: usize, m: usize, r: usize, d: f64, x: f64)
     requires { ⌜ Order k × HasRow k m r (length (now s)) ⌝ }
     ensures { λ _. ⌜ Stored k m r (besides k g d) x (now (s .entry)) (now (s .exit)) ⌝ }
 {
@@ -91,56 +106,4 @@ fn put_row(s: &mut [f64], g: [f64; 3], k: usize, m: usize, r: usize, d: f64, x: 
         return;
     }
     banded::store2(s, m, r, g[2], g[1], d, x);
-}
-
-// The system's rows from place a on, factored as they are made, with the right side carried forward after them. A bad pivot ends it.
-fn sweep(
-    s: &mut [f64],
-    a: usize,
-    dy: &[f64],
-    lam: f64,
-    inv_t: f64,
-    g: [f64; 3],
-    k: usize,
-    m: usize,
-) -> Solved
-    requires { ⌜ AtSystem k a m (length (now s)) (length (now dy)) ⌝ }
-    ensures { λ w. ⌜ Swept k g (now (dy .entry)) lam «inv_t» a m (now (s .entry)) (now (s .exit)) w ⌝ }
-{
-    let e = a + (m * (k + 1) + m);
-    let mut acc = 0.0;
-    let mut r = 0;
-    while r < m {
-        let v = row_at(s, dy, lam, inv_t, g, k, m, r);
-        put_row(&mut s[a..e], g, k, m, r, v.diagonal, v.right);
-        if !elimination::eliminate(&mut s[a..e], k, m, r) {
-            return Solved { acc, good: false };
-        }
-        acc = acc + v.square;
-        r += 1;
-    }
-    Solved { acc, good: true }
-}
-
-// The Newton system of the point in the first 3 m places, from place a on, solved: dz stands after its rows.
-pub fn newton_z(
-    s: &mut [f64],
-    a: usize,
-    dy: &[f64],
-    lam: f64,
-    inv_t: f64,
-    g: [f64; 3],
-    k: usize,
-    m: usize,
-) -> Solved
-    requires { ⌜ AtSystem k a m (length (now s)) (length (now dy)) ⌝ }
-    ensures { λ r. ⌜ NewtonSolved k g (now (dy .entry)) lam «inv_t» a m (now (s .entry)) (now (s .exit)) r ⌝ }
-{
-    let w = sweep(s, a, dy, lam, inv_t, g, k, m);
-    if !w.good {
-        return w;
-    }
-    let e = a + (m * (k + 1) + m);
-    substitution::solve(&mut s[a..e], k, m);
-    w
 }

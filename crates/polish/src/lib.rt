@@ -101,7 +101,7 @@ pub fn polish_l1(
     }
     let a = 11 * n;
     let e = 12 * n + m;
-    let c = certificate::certify_l1(&mut work[a..e], dual, y, dy, lam, k);
+    let c = certify::certify_l1(&mut work[a..e], dual, y, dy, lam, k);
     Candidate {
         there: true,
         gap: c.primal - c.dual,

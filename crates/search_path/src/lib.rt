@@ -28,7 +28,7 @@ fn keep(dual: &mut [f64], z: &[f64], lam: f64, second: bool)
     ensures { λ _. ⌜ now (dual .exit) ≡ cond second (now (dual .entry)) (put (now (dual .entry)) 0 (clamped lam (now (z .entry)))) ⌝ }
 {
     if !second {
-        certificate::clamp_into(dual, z, lam);
+        certify::clamp_into(dual, z, lam);
     }
 }
 

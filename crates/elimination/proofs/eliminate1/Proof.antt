@@ -1,5 +1,4 @@
 use borrow.Author.Needs.{needs}
-use native.Mathlib.Omega.{arith}
 use mathlib.Core.Path.{refl}
 use Rattle.elimination.proofs.Orders.{eliminated-1}
 use Rattle.elimination.proofs.eliminate1.Statement.{statement}
@@ -7,7 +6,9 @@ use Rattle.elimination.proofs.eliminate1.Tie as tie
 
 returns : tie.Need-returns
 returns c = let stored = c .before .before .before in
-    rw (c .is-good .ensures) (eliminated-1 (omega arith) (stored .store1 .ensures) refl refl refl (omega arith))
+    let made = stored .before .before in
+    let st = made .before .before .before .before .before .before .before in
+    rw (c .is-good .ensures) (eliminated-1 (st .pre .0) (st .pre .1 .row) (stored .store1 .ensures) (made .next1 .ensures) refl refl refl refl refl)
 
 pub eliminate1-spec : {M : Type 1} → statement M
 eliminate1-spec =
@@ -15,4 +16,5 @@ eliminate1-spec =
     (tie.spec (λ c. search needs) (λ c. search needs) (λ c. search needs) (λ c. search needs) (λ c. search needs)
     (λ c. search needs) (λ c. search needs) (λ c. search needs) (λ c. search needs) (λ c. search needs)
     (λ c. search needs) (λ c. search needs) (λ c. search needs) (λ c. search needs) (λ c. search needs)
-    (λ c. search needs) (λ c κs. search needs) (λ c κs. search needs) (λ c. search needs) returns)
+    (λ c. search needs) (λ c κs. search needs) (λ c κs. search needs) (λ c κs. search needs) (λ c. search needs)
+    returns)

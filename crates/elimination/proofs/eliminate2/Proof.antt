@@ -1,5 +1,4 @@
 use borrow.Author.Needs.{needs}
-use native.Mathlib.Omega.{arith}
 use mathlib.Core.Path.{refl}
 use Rattle.elimination.proofs.Orders.{eliminated-2}
 use Rattle.elimination.proofs.eliminate2.Statement.{statement}
@@ -7,7 +6,9 @@ use Rattle.elimination.proofs.eliminate2.Tie as tie
 
 returns : tie.Need-returns
 returns c = let stored = c .before .before .before in
-    rw (c .is-good .ensures) (eliminated-2 (omega arith) (stored .store2 .ensures) refl refl refl refl (omega arith))
+    let made = stored .before .before in
+    let st = made .before .before .before .before .before .before .before .before .before .before .before in
+    rw (c .is-good .ensures) (eliminated-2 (st .pre .0) (st .pre .1 .row) (stored .store2 .ensures) (made .next2 .ensures) refl refl refl refl refl refl refl refl refl)
 
 pub eliminate2-spec : {M : Type 1} → statement M
 eliminate2-spec =
@@ -18,4 +19,4 @@ eliminate2-spec =
     (λ c. search needs) (λ c. search needs) (λ c. search needs) (λ c. search needs) (λ c. search needs)
     (λ c. search needs) (λ c. search needs) (λ c. search needs) (λ c. search needs) (λ c. search needs)
     (λ c. search needs) (λ c. search needs) (λ c. search needs) (λ c κs. search needs) (λ c κs. search needs)
-    (λ c. search needs) returns)
+    (λ c κs. search needs) (λ c. search needs) returns)

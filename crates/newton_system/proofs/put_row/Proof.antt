@@ -1,6 +1,6 @@
 use mathlib.Core.Path.{_≡_}
 use native.Mathlib.Omega.{arith}
-use Rattle.newton_system.proofs.Sweeps.{put-1, put-2}
+use Rattle.newton_system.proofs.Places.{put-1, put-2}
 use borrow.Author.Needs.{needs}
 use Rattle.newton_system.proofs.put_row.Statement.{statement}
 use Rattle.newton_system.proofs.put_row.Tie as tie
