@@ -153,7 +153,7 @@ fn instructions(who: &str, order: u32) -> Option<f64> {
 }
 
 fn iterations(w: &Watch) {
-    let mut worst = [f64::NEG_INFINITY; 2];
+    let mut worst = [f64::NAN; 2];
     for order in 1..3 {
         let mut near = 0.0;
         for share in [0.5, 0.05, 0.01] {
