@@ -1,5 +1,5 @@
 -- What the places of a trial add to the square of its residual, and their sum. Assumes nothing.
-use mathlib.Core.Path.{_≡_, refl, sym, ap, _∙_}
+use mathlib.Core.Path.{_≡_, refl, ap, _∙_}
 use mathlib.Core.Bool.{false}
 use mathlib.Core.List.{List}
 use Prim.Native.Nat.{ℕ, _+_, _-_, _*_, _≤_, _<_}
@@ -12,24 +12,17 @@ use Rattle.vectors.specs.Vec.{at, list}
 use Rattle.vectors.specs.Sums.{sumTo}
 use Rattle.vectors.specs.Parts.{Kept}
 use Rattle.vectors.proofs.Laws.{length-list, at-list, up}
-use Rattle.vectors.proofs.Parts.{length-part, at-part, range-part, store-done}
+use Rattle.vectors.proofs.Parts.{length-part, range-part, store-done}
 use Rattle.vectors.proofs.Sums.{sum-ext}
 use Rattle.gram.specs.Gram.{product}
-use Rattle.dual_point.specs.Dual.{Dual, Values, valuesAt}
+use Rattle.dual_point.specs.Dual.{Dual}
 use Rattle.dual_point.specs.Places.{point}
 use Rattle.dual_point.proofs.Points.{point-ext}
 use Rattle.newton_system.specs.Newton.{NewtonData, residualSquareAt, residualSquare}
 use Rattle.newton_system.specs.Rows.{dataOf, residualSquareOf}
+use Rattle.newton_system.proofs.Places.{square-place}
 use Rattle.line_search.specs.Places.{Stretch, Squares}
 use Rattle.line_search.proofs.Moves.{written-then, written-within}
-
--- the three numbers at place i of the point from place a on
-values-at : (a m : ℕ) (s : List Float) (i : ℕ) → i < m → _≡_ {A = Values} (record { z = at s (a + i); mu1 = at s (a + m + i); mu2 = at s (a + m + m + i) }) (valuesAt (point a m s) i)
-values-at a m s i h = λ j. record {
-  z = sym (at-part a m s i (a + i) h refl) j;
-  mu1 = sym (at-part (a + m) m s i (a + m + i) h refl) j;
-  mu2 = sym (at-part (a + m + m) m s i (a + m + m + i) h refl) j;
-}
 
 -- places that may lie near the ends
 pub near : {k m from to : ℕ} → from ≤ to → to ≤ m → Stretch k m from to false
@@ -48,7 +41,7 @@ pub squares-more : (k : ℕ) (g dy : List Float) (lam inv-t : Float) (m from i :
 squares-more k g dy lam inv-t m from i s₀ s q x w o l n e h =
     let q-is : q ≡ product k g (point (3 * m) m s .z) i = e ∙ ap (λ (v : List Float). product k g v i) (range-part (3 * m) (4 * m) m s (omega arith) (omega arith)) in
     let x-is : x ≡ residualSquareOf (dataOf k g dy lam inv-t) (point (3 * m) m s₀) i =
-    h ∙ (λ j. residualSquareAt lam inv-t (q-is j) (at dy i) (values-at (3 * m) m s i l j)) ∙ ap (λ (p : Dual). residualSquareOf (dataOf k g dy lam inv-t) p i) (trial-stays w) in
+    h ∙ square-place k g dy lam inv-t (3 * m) m s i _ _ _ q l refl refl refl q-is ∙ ap (λ (p : Dual). residualSquareOf (dataOf k g dy lam inv-t) p i) (trial-stays w) in
     let to : 6 * m + (i + 1) ≡ 6 * m + i + 1 = omega arith in
     let place : 3 * m + 3 * m + i ≡ 6 * m + i = omega arith in
     let d : 6 * m + i - 6 * m ≡ i = omega arith in

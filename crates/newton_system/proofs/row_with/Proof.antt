@@ -1,6 +1,6 @@
 use mathlib.Core.Path.{refl, _∙_}
-use Rattle.newton_system.proofs.Places.{square-place, system-diagonal}
-use Rattle.newton_system.proofs.Places.{rhs-place}
+use native.Mathlib.Omega.{arith}
+use Rattle.newton_system.proofs.Places.{square-place, system-diagonal, rhs-place}
 use borrow.Author.Needs.{needs}
 use Rattle.newton_system.proofs.row_with.Statement.{statement}
 use Rattle.newton_system.proofs.row_with.Tie as tie
@@ -16,7 +16,7 @@ returns c = let side = c .before in
     record {
       diagonal = diagonal .diagonal-of .ensures ∙ system-diagonal (a .k) (a .t5) (a .lam) (a .m) s (a .r) _ h refl;
       side = side .rhs-of .ensures _ _ ∙ rhs-place (a .k) (a .t5) (a .dy .now) (a .lam) (a .inv-t) (a .m) s (a .r) (a .q) h q-is;
-      square = c .residual-of .ensures ∙ square-place (a .k) (a .t5) (a .dy .now) (a .lam) (a .inv-t) (a .m) s (a .r) (a .q) h q-is;
+      square = c .residual-of .ensures ∙ square-place (a .k) (a .t5) (a .dy .now) (a .lam) (a .inv-t) 0 (a .m) s (a .r) (a .r) _ _ (a .q) h (omega arith) (omega arith) (omega arith) q-is;
     }
 
 pub row-with-spec : {M : Type 1} → statement M
