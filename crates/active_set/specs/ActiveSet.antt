@@ -2,7 +2,7 @@
 use Rattle.std.specs.Prelude.{Bool, true, false, cond, List, ℕ, zero, suc, ◌+◌, ◌-◌, min, length, get_or, Float}
 use Rattle.std.specs.Float.Ieee.{neg, lt}
 use Rattle.float64.specs.Ops.{◌⊕◌, ◌⊖◌, ◌⊗◌, c0}
-use Rattle.vectors.specs.Vec.{at, apart, list, placesTo}
+use Rattle.vectors.specs.Vec.{at, apart, list, places_to}
 use Rattle.banded.specs.Rows.{Matrix, rows}
 use Rattle.banded.specs.Solve.{solve}
 use Rattle.gram.specs.Gram.{gram}
@@ -11,50 +11,50 @@ use Rattle.dual_point.specs.Dual.{Dual}
 -- how a place is held
 pub data Hold : Type 0 where
   free : Hold
-  at-lam : Hold
-  at-minus-lam : Hold
+  at_lam : Hold
+  at_minus_lam : Hold
 
 -- place i is held at lam if mu1 > lam - z, else at -lam if mu2 > lam + z
-unfoldable pub holdAt : Float → Dual → ℕ → Hold
-holdAt lam p i = cond (lt (lam ⊖ at p.z i) (at p.mu1 i)) at-lam (cond (lt (lam ⊕ at p.z i) (at p.mu2 i)) at-minus-lam free)
+unfoldable pub hold_at : Float → Dual → ℕ → Hold
+hold_at lam p i = cond (lt (lam ⊖ at p.z i) (at p.mu1 i)) at_lam (cond (lt (lam ⊕ at p.z i) (at p.mu2 i)) at_minus_lam free)
 
 -- whether it is free
-abbrev pub isFree : Hold → Bool
-isFree free = true
-isFree at-lam = false
-isFree at-minus-lam = false
+abbrev pub is_free : Hold → Bool
+is_free free = true
+is_free at_lam = false
+is_free at_minus_lam = false
 
 -- where it is held; +0 where it is free
 abbrev pub held_at : Float → Hold → Float
 held_at lam free = c0
-held_at lam at-lam = lam
-held_at lam at-minus-lam = neg lam
+held_at lam at_lam = lam
+held_at lam at_minus_lam = neg lam
 
 -- the free places below n, rising
-unfoldable pub freeTo : (ℕ → Hold) → ℕ → List ℕ
-freeTo h n = placesTo (λ i. isFree (h i)) n
+unfoldable pub free_to : (ℕ → Hold) → ℕ → List ℕ
+free_to h n = places_to (λ i. is_free (h i)) n
 
 -- the compressed system over the free places f: D D' between any two of them, at row i and a column j up to i
 unfoldable pub compressed : ℕ → List Float → List ℕ → Matrix
 compressed k g f i j = gram k g (get_or f i 0) (get_or f j 0)
 
 -- v, less g at |i - j| times where place j, held as t says, is held; v itself where j is free
-abbrev pub lessHeld : Float → List Float → ℕ → ℕ → Hold → Float → Float
-lessHeld lam g i j t v = cond (isFree t) v (v ⊖ at g (apart i j) ⊗ held_at lam t)
+abbrev pub less_held : Float → List Float → ℕ → ℕ → Hold → Float → Float
+less_held lam g i j t v = cond (is_free t) v (v ⊖ at g (apart i j) ⊗ held_at lam t)
 
 -- the same for each of the n places from lo on, upwards
-unfoldable pub lessTo : Float → List Float → (ℕ → Hold) → ℕ → ℕ → Float → ℕ → Float
-lessTo lam g h i lo v zero = v
-lessTo lam g h i lo v (suc n) = lessHeld lam g i (lo + n) (h (lo + n)) (lessTo lam g h i lo v n)
+unfoldable pub less_to : Float → List Float → (ℕ → Hold) → ℕ → ℕ → Float → ℕ → Float
+less_to lam g h i lo v zero = v
+less_to lam g h i lo v (suc n) = less_held lam g i (lo + n) (h (lo + n)) (less_to lam g h i lo v n)
 
 -- the right side at the free place i of m: D y less what the held places from i - k (subtraction stops at 0) to i + k account for
-unfoldable pub compressedRhsAt : ℕ → List Float → List Float → Float → (ℕ → Hold) → ℕ → ℕ → Float
-compressedRhsAt k g dy lam h m i = let lo = i - k in lessTo lam g h i lo (at dy i) (min (i + k + 1) m - lo)
+unfoldable pub compressed_rhs_at : ℕ → List Float → List Float → Float → (ℕ → Hold) → ℕ → ℕ → Float
+compressed_rhs_at k g dy lam h m i = let lo = i - k in less_to lam g h i lo (at dy i) (min (i + k + 1) m - lo)
 
 -- at each of the free places f
-abbrev pub compressedRhs : ℕ → List Float → List Float → Float → (ℕ → Hold) → ℕ → List ℕ → List Float
-compressedRhs k g dy lam h m f = list (length f) (λ r. compressedRhsAt k g dy lam h m (get_or f r 0))
+abbrev pub compressed_rhs : ℕ → List Float → List Float → Float → (ℕ → Hold) → ℕ → List ℕ → List Float
+compressed_rhs k g dy lam h m f = list (length f) (λ r. compressed_rhs_at k g dy lam h m (get_or f r 0))
 
 -- the solution, by the operations of the factor and the solve
 unfoldable pub solved : ℕ → List Float → List Float → Float → (ℕ → Hold) → ℕ → List Float
-solved k g dy lam h m = let f = freeTo h m in solve k (rows k (compressed k g f) (length f)) (compressedRhs k g dy lam h m f)
+solved k g dy lam h m = let f = free_to h m in solve k (rows k (compressed k g f) (length f)) (compressed_rhs k g dy lam h m f)

@@ -1,27 +1,27 @@
 -- The marks: how each place is held, in the run lent for them; and the compressed system on a run. For the contracts between our own crates.
 use Rattle.std.specs.Prelude.{◌≡◌, Bool, true, cond, List, ℕ, ◌+◌, ◌-◌, ◌*◌, ◌^◌, ◌≤◌, ◌<◌, eqb, length, get_or, Float}
 use Rattle.vectors.specs.Parts.{Kept, part}
-use Rattle.differences.specs.Diff.{gramRow}
+use Rattle.differences.specs.Diff.{gram_row}
 use Rattle.banded.specs.Rows.{sound}
-use Rattle.active_set.specs.ActiveSet.{Hold, free, at-lam, at-minus-lam, freeTo, compressed, solved}
+use Rattle.active_set.specs.ActiveSet.{Hold, free, at_lam, at_minus_lam, free_to, compressed, solved}
 
 -- the mark of each way to be held, and the way that a mark stands for
 abbrev pub mark_of : Hold → ℕ
 mark_of free = 0
-mark_of at-lam = 1
-mark_of at-minus-lam = 2
+mark_of at_lam = 1
+mark_of at_minus_lam = 2
 
-abbrev pub holdOf : ℕ → Hold
-holdOf x = cond (eqb x 0) free (cond (eqb x 1) at-lam at-minus-lam)
+abbrev pub hold_of : ℕ → Hold
+hold_of x = cond (eqb x 0) free (cond (eqb x 1) at_lam at_minus_lam)
 
 -- how place j is held by the marks from n on
-abbrev pub heldBy : ℕ → List ℕ → ℕ → Hold
-heldBy n v j = holdOf (get_or v (n + j) 0)
+abbrev pub held_by : ℕ → List ℕ → ℕ → Hold
+held_by n v j = hold_of (get_or v (n + j) 0)
 
 -- v begins with the q free places of m, and from n on tells how each place is held
 pub record Marks (h : ℕ → Hold) (n m : ℕ) (v : List ℕ) (q : ℕ) : Type 0 where
-  pub count : q ≡ length (freeTo h m)
-  pub free : (j : ℕ) → j < q → get_or v j 0 ≡ get_or (freeTo h m) j 0
+  pub count : q ≡ length (free_to h m)
+  pub free : (j : ℕ) → j < q → get_or v j 0 ≡ get_or (free_to h m) j 0
   pub held : (j : ℕ) → j < m → get_or v (n + j) 0 ≡ mark_of (h j)
 
 -- what the marking asks: a point of m numbers after n places of a run, and the marks' places
@@ -60,6 +60,6 @@ pub record Freed (k n : ℕ) (v : List ℕ) (known q : ℕ) : Type 0 where
 
 -- Whatever h the marks tell: ok says whether the pivots of its system are all good, and if so its solution stands in s after the rows.
 pub record Settled (k n : ℕ) (dy : List Float) (lam : Float) (v : List ℕ) (q : ℕ) (s₀ s : List Float) (ok : Bool) : Type 0 where
-  pub answer : (h : ℕ → Hold) → Marks h n (n - k) v q → ok ≡ sound k (compressed k (gramRow k) (freeTo h (n - k))) q
-  pub solution : (h : ℕ → Hold) → Marks h n (n - k) v q → ok ≡ true → part (q * (k + 1)) q s ≡ solved k (gramRow k) dy lam h (n - k)
+  pub answer : (h : ℕ → Hold) → Marks h n (n - k) v q → ok ≡ sound k (compressed k (gram_row k) (free_to h (n - k))) q
+  pub solution : (h : ℕ → Hold) → Marks h n (n - k) v q → ok ≡ true → part (q * (k + 1)) q s ≡ solved k (gram_row k) dy lam h (n - k)
   pub kept : Kept 0 (q * (k + 1) + q) s₀ s

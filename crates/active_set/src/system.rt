@@ -4,8 +4,8 @@ ghost use Rattle.vectors.specs.Vec.{list};
 ghost use Rattle.vectors.specs.Parts.{Kept, part, Written};
 ghost use Rattle.banded.specs.Rows.{placed};
 ghost use Rattle.banded.specs.Layout.{Laid};
-ghost use Rattle.active_set.specs.ActiveSet.{compressed, lessHeld, compressedRhsAt};
-ghost use Rattle.active_set.specs.Marks.{holdOf, heldBy, Cell, Bands, Side, Freed, Settled};
+ghost use Rattle.active_set.specs.ActiveSet.{compressed, less_held, compressed_rhs_at};
+ghost use Rattle.active_set.specs.Marks.{hold_of, held_by, Cell, Bands, Side, Freed, Settled};
 
 fn wide(x: u32) -> usize
     ensures { result ≡ x }
@@ -59,7 +59,7 @@ fn fill_bands(s: &mut [f64], free: &[u32], g: [f64; 3], k: usize, q: usize)
 // v less what place j, with the mark h, takes from the right side at place i.
 fn less_held(v: f64, g: [f64; 3], lam: f64, i: usize, j: usize, h: u32) -> f64
     requires { (i ≤ j + 2) × (j ≤ i + 2) }
-    ensures { result ≡ lessHeld lam g i j (holdOf h) v }
+    ensures { result ≡ less_held lam g i j (hold_of h) v }
 {
     if h == 0 {
         return v;
@@ -81,7 +81,7 @@ fn right_at(
     i: usize,
 ) -> f64
     requires { Side k n m i (length marks.now) (length dy.now) }
-    ensures { result ≡ compressedRhsAt k g dy.now lam (heldBy n marks.now) m i }
+    ensures { result ≡ compressed_rhs_at k g dy.now lam (held_by n marks.now) m i }
 {
     let lo = vectors::over(i, k);
     let hi = vectors::smaller(i + k + 1, m);
@@ -108,7 +108,7 @@ fn fill_right(
     q: usize,
 )
     requires { Freed k n marks.now (length dy.now) q × (b + q ≤ length s.old) }
-    ensures { (part b q s.new ≡ list q (λ r. compressedRhsAt k g dy.now lam (heldBy n marks.now) (n - k) (get_or marks.now r 0)))
+    ensures { (part b q s.new ≡ list q (λ r. compressed_rhs_at k g dy.now lam (held_by n marks.now) (n - k) (get_or marks.now r 0)))
         × Kept b q s.old s.new }
 {
     let mut p = 0;

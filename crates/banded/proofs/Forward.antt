@@ -8,15 +8,15 @@ use lib.ListN.{length, length-append}
 use lib.Ieee.{Float}
 use Rattle.vectors.specs.Vec.{at}
 use Rattle.banded.specs.Rows.{line}
-use Rattle.banded.specs.Solve.{forwardAt, forward}
+use Rattle.banded.specs.Solve.{forward_at, forward}
 use Rattle.banded.specs.Run.{look}
-use Rattle.banded.proofs.Laws.{lessFrom-ext}
+use Rattle.banded.proofs.Laws.{less_from_ext}
 
 -- what a place carried forward reads, p the places of rows
-pub forward-ext : (k i : ℕ) (p p' : ℕ → ℕ → Float) (u u' : ℕ → Float) (v : Float) → ((c : ℕ) → c < k → p i c ≡ p' i c) → ((j : ℕ) → j < i → u j ≡ u' j)
-    → forwardAt k (λ r t. p r (t + k - r)) u v i ≡ forwardAt k (λ r t. p' r (t + k - r)) u' v i
-unfolding forwardAt
-forward-ext k i p p' u u' v h g = lessFrom-ext v _ _ (i - k) i (λ j o b. rw (h (j + k - i) (omega arith), g j b))
+pub forward_ext : (k i : ℕ) (p p' : ℕ → ℕ → Float) (u u' : ℕ → Float) (v : Float) → ((c : ℕ) → c < k → p i c ≡ p' i c) → ((j : ℕ) → j < i → u j ≡ u' j)
+    → forward_at k (λ r t. p r (t + k - r)) u v i ≡ forward_at k (λ r t. p' r (t + k - r)) u' v i
+unfolding forward_at
+forward_ext k i p p' u u' v h g = less_from_ext v _ _ (i - k) i (λ j o b. rw (h (j + k - i) (omega arith), g j b))
 
 pub length-forward : (k : ℕ) (f : List (List Float)) (v : List Float) (n : ℕ) → length (forward k f v n) ≡ n
 unfolding forward
@@ -30,4 +30,4 @@ forward-rows k f g v zero h = refl
 forward-rows k f g v (suc n) h =
     rw (forward-rows k f g v n (λ i b. h i (omega arith)))
     (ap (λ (x : Float). forward k g v n ++ (x ∷ []))
-    (forward-ext k n (look f) (look g) (at (forward k g v n)) (at (forward k g v n)) (at v n) (λ c b. rw (h n (omega arith))) (λ j b. refl)))
+    (forward_ext k n (look f) (look g) (at (forward k g v n)) (at (forward k g v n)) (at v n) (λ c b. rw (h n (omega arith))) (λ j b. refl)))

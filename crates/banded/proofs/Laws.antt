@@ -14,10 +14,10 @@ use lib.Ieee.{Float, nan, binary64, of_bits, sub}
 use borrow.Author.Tests.{ltb-true, ltb-false, le-ltb}
 use Rattle.vectors.specs.Vec.{at}
 use Rattle.vectors.specs.Parts.{part}
-use Rattle.vectors.proofs.Laws.{cond-cong, kept-none}
+use Rattle.vectors.proofs.Laws.{cond_cong, kept-none}
 use Rattle.vectors.proofs.Parts.{length_part, at_part, partOf-range}
-use Rattle.banded.specs.Rows.{Matrix, line, less, lessFrom, reduced, entry, placed, rowTo, row, rows, sound}
-use Rattle.banded.specs.Run.{concat, flat, look, ofRun, Keeps, Shape, Holds, Stands, Factored, HasRow}
+use Rattle.banded.specs.Rows.{Matrix, line, less, less_from, reduced, entry, placed, row_to, row, rows, sound}
+use Rattle.banded.specs.Run.{concat, flat, look, of_run, Keeps, Shape, Holds, Stands, Factored, HasRow}
 
 -- ---- places of rows
 
@@ -37,8 +37,8 @@ rows_fit k r m n h g =
 pub row_fits : {k m r n : ℕ} → HasRow k m r n → (r + 1) * (k + 1) ≤ n
 row_fits {k} {m} {r} {n} h = let room = h.room in rows_fit k r m n h.row (omega arith)
 
-pub one-row : (k r : ℕ) → (r + 1) * (k + 1) ≡ r * (k + 1) + (k + 1)
-one-row k r = add-mul r 1 (k + 1) ∙ rw (one-mul (k + 1))
+pub one_row : (k r : ℕ) → (r + 1) * (k + 1) ≡ r * (k + 1) + (k + 1)
+one_row k r = add-mul r 1 (k + 1) ∙ rw (one-mul (k + 1))
 
 pub wide : (k r : ℕ) → r ≤ r * (k + 1)
 wide k r = omega (arith, rw (← add-one k) at (mul-suc r k))
@@ -58,10 +58,10 @@ above k r i j h g =
 
 -- ---- what a sum, and an entry, read
 
-less-ext : (v : Float) (f g : ℕ → Float) (n : ℕ) → ((i : ℕ) → i < n → f i ≡ g i) → less v f n ≡ less v g n
+less_ext : (v : Float) (f g : ℕ → Float) (n : ℕ) → ((i : ℕ) → i < n → f i ≡ g i) → less v f n ≡ less v g n
 unfolding less
-less-ext v f g zero h = refl
-less-ext v f g (suc n) h = rw (less-ext v f g n (λ i b. h i (omega arith)), h n (omega arith))
+less_ext v f g zero h = refl
+less_ext v f g (suc n) h = rw (less_ext v f g n (λ i b. h i (omega arith)), h n (omega arith))
 
 -- one more term
 less-more : (v : Float) (f : ℕ → Float) (n : ℕ) {n' : ℕ} {u x : Float} → u ≡ less v f n → x ≡ f n → n' ≡ suc n → sub binary64 u x ≡ less v f n'
@@ -69,33 +69,33 @@ unfolding less
 less-more v f n e h m = rw (m, e, h)
 
 -- the same from place lo on
-pub lessFrom-none : (v : Float) (f : ℕ → Float) (lo hi : ℕ) → hi ≤ lo → lessFrom v f lo hi ≡ v
-unfolding lessFrom less
-lessFrom-none v f lo hi h = let z : hi - lo ≡ 0 = omega arith in rw z
+pub less_from_none : (v : Float) (f : ℕ → Float) (lo hi : ℕ) → hi ≤ lo → less_from v f lo hi ≡ v
+unfolding less_from less
+less_from_none v f lo hi h = let z : hi - lo ≡ 0 = omega arith in rw z
 
-pub lessFrom-more : (v : Float) (f : ℕ → Float) (lo hi : ℕ) {hi' : ℕ} {u x : Float} → u ≡ lessFrom v f lo hi → x ≡ f hi → lo ≤ hi → hi' ≡ hi + 1 → sub binary64 u x ≡ lessFrom v f lo hi'
-unfolding lessFrom
-lessFrom-more v f lo hi e h g m = let z : lo + (hi - lo) ≡ hi = omega arith in less-more v (λ n. f (lo + n)) (hi - lo) e (h ∙ rw z) (omega arith)
+pub less_from-more : (v : Float) (f : ℕ → Float) (lo hi : ℕ) {hi' : ℕ} {u x : Float} → u ≡ less_from v f lo hi → x ≡ f hi → lo ≤ hi → hi' ≡ hi + 1 → sub binary64 u x ≡ less_from v f lo hi'
+unfolding less_from
+less_from-more v f lo hi e h g m = let z : lo + (hi - lo) ≡ hi = omega arith in less-more v (λ n. f (lo + n)) (hi - lo) e (h ∙ rw z) (omega arith)
 
-pub lessFrom-ext : (v : Float) (f g : ℕ → Float) (lo hi : ℕ) → ((t : ℕ) → lo ≤ t → t < hi → f t ≡ g t) → lessFrom v f lo hi ≡ lessFrom v g lo hi
-unfolding lessFrom
-lessFrom-ext v f g lo hi h = less-ext v _ _ (hi - lo) (λ n b. h (lo + n) (omega arith) (omega arith))
+pub less_from_ext : (v : Float) (f g : ℕ → Float) (lo hi : ℕ) → ((t : ℕ) → lo ≤ t → t < hi → f t ≡ g t) → less_from v f lo hi ≡ less_from v g lo hi
+unfolding less_from
+less_from_ext v f g lo hi h = less_ext v _ _ (hi - lo) (λ n b. h (lo + n) (omega arith) (omega arith))
 
 -- one term, and two
-pub lessFrom-1 : (v : Float) (f : ℕ → Float) (lo hi : ℕ) → hi ≡ lo + 1 → lessFrom v f lo hi ≡ sub binary64 v (f lo)
-lessFrom-1 v f lo hi e = sym (lessFrom-more v f lo lo (sym (lessFrom-none v f lo lo (omega arith))) refl (omega arith) e)
+pub less_from_1 : (v : Float) (f : ℕ → Float) (lo hi : ℕ) → hi ≡ lo + 1 → less_from v f lo hi ≡ sub binary64 v (f lo)
+less_from_1 v f lo hi e = sym (less_from-more v f lo lo (sym (less_from_none v f lo lo (omega arith))) refl (omega arith) e)
 
-pub lessFrom-2 : (v : Float) (f : ℕ → Float) (lo mid hi : ℕ) → mid ≡ lo + 1 → hi ≡ mid + 1 → lessFrom v f lo hi ≡ sub binary64 (sub binary64 v (f lo)) (f mid)
-lessFrom-2 v f lo mid hi e g = sym (lessFrom-more v f lo mid (sym (lessFrom-1 v f lo mid e)) refl (omega arith) g)
+pub less_from_2 : (v : Float) (f : ℕ → Float) (lo mid hi : ℕ) → mid ≡ lo + 1 → hi ≡ mid + 1 → less_from v f lo hi ≡ sub binary64 (sub binary64 v (f lo)) (f mid)
+less_from_2 v f lo mid hi e g = sym (less_from-more v f lo mid (sym (less_from_1 v f lo mid e)) refl (omega arith) g)
 
-cond-right : (b : Bool) (x y z : Float) → (b ≡ false → x ≡ y) → cond b z x ≡ cond b z y
-cond-right true x y z h = refl
-cond-right false x y z h = h refl
+cond_right : (b : Bool) (x y z : Float) → (b ≡ false → x ≡ y) → cond b z x ≡ cond b z y
+cond_right true x y z h = refl
+cond_right false x y z h = h refl
 
 -- a place that stands for no column does not read the matrix
-pub placed-ext : (k : ℕ) (a a' : Matrix) (i c : ℕ) → (k ≤ i + c → a i (i + c - k) ≡ a' i (i + c - k)) → placed k a i c ≡ placed k a' i c
+pub placed_ext : (k : ℕ) (a a' : Matrix) (i c : ℕ) → (k ≤ i + c → a i (i + c - k) ≡ a' i (i + c - k)) → placed k a i c ≡ placed k a' i c
 unfolding placed
-placed-ext k a a' i c h = cond-right (ltb (i + c) k) _ _ (of_bits binary64 0) (λ e. h (ltb-false (i + c) k e))
+placed_ext k a a' i c h = cond_right (ltb (i + c) k) _ _ (of_bits binary64 0) (λ e. h (ltb-false (i + c) k e))
 
 -- where it stands for one
 pub placed_at : (k : ℕ) (a : Matrix) (i c j : ℕ) → j + k ≡ i + c → placed k a i c ≡ a i j
@@ -121,34 +121,34 @@ module _ (k i c : ℕ) (a a' : Matrix) (p p' : ℕ → ℕ → Float) (b : c ≤
 
     reduced-ext : a i j ≡ a' i j → reduced k a l i j ≡ reduced k a' l' i j
     unfolding reduced
-    reduced-ext e = rw e (lessFrom-ext (a' i j) _ _ (i - k) j (λ t o q. rw (left (t + k - i) (omega arith), beside t o q, up t (t + k - t) (omega arith) (omega arith))))
+    reduced-ext e = rw e (less_from_ext (a' i j) _ _ (i - k) j (λ t o q. rw (left (t + k - i) (omega arith), beside t o q, up t (t + k - t) (omega arith) (omega arith))))
 
     column-ext : a i j ≡ a' i j → entry k a l i j ≡ entry k a' l' i j
     unfolding entry
-    column-ext e = rw (reduced-ext e) (cond-cong (ltb j i) _ _ _ (λ u. let t : j < i = ltb-true j i u in rw (up j (j + k - j) t (omega arith))))
+    column-ext e = rw (reduced-ext e) (cond_cong (ltb j i) _ _ _ (λ u. let t : j < i = ltb-true j i u in rw (up j (j + k - j) t (omega arith))))
 
   pub entry-ext : placed k (entry k a l) i c ≡ placed k (entry k a' l') i c
-  entry-ext = placed-ext k (entry k a l) (entry k a' l') i c (λ g. column-ext (i + c - k) (omega arith) (same g))
+  entry-ext = placed_ext k (entry k a l) (entry k a' l') i c (λ g. column-ext (i + c - k) (omega arith) (same g))
 
 -- ---- one more row
 
-pub length-rowTo : (k : ℕ) (a : Matrix) (f : List (List Float)) (r n : ℕ) → length (rowTo k a f r n) ≡ n
-unfolding rowTo
-length-rowTo k a f r zero = refl
-length-rowTo k a f r (suc n) = length-append (rowTo k a f r n) _ ∙ rw (length-rowTo k a f r n) (add-one n)
+pub length-row_to : (k : ℕ) (a : Matrix) (f : List (List Float)) (r n : ℕ) → length (row_to k a f r n) ≡ n
+unfolding row_to
+length-row_to k a f r zero = refl
+length-row_to k a f r (suc n) = length-append (row_to k a f r n) _ ∙ rw (length-row_to k a f r n) (add-one n)
 
-pub line-above : (f : List (List Float)) (p : List Float) (i : ℕ) → i < length f → line (f ++ (p ∷ [])) i ≡ line f i
-line-above f p i h = get_or-append f (p ∷ []) [] i h
+pub line_above : (f : List (List Float)) (p : List Float) (i : ℕ) → i < length f → line (f ++ (p ∷ [])) i ≡ line f i
+line_above f p i h = get_or-append f (p ∷ []) [] i h
 
 pub line-here : (f : List (List Float)) (p : List Float) (r : ℕ) → length f ≡ r → line (f ++ (p ∷ [])) r ≡ p
 line-here f p r h = get_or_at f p [] [] r h
 
-pub holds-none : (k : ℕ) (s : List Float) → Holds k 0 [] s
-holds-none k s = record { shape = record { count = refl; full = λ i h. absurd (omega arith) }; same = λ i j h g. absurd (omega arith) }
+pub holds_none : (k : ℕ) (s : List Float) → Holds k 0 [] s
+holds_none k s = record { shape = record { count = refl; full = λ i h. absurd (omega arith) }; same = λ i j h g. absurd (omega arith) }
 
-pub holds-snoc : {k r : ℕ} {f : List (List Float)} {s : List Float} (p : List Float) → Holds k r f s → length p ≡ k + 1
+pub holds_snoc : {k r : ℕ} {f : List (List Float)} {s : List Float} (p : List Float) → Holds k r f s → length p ≡ k + 1
     → ((j : ℕ) → j ≤ k → flat k s r j ≡ at p j) → Holds k (r + 1) (f ++ (p ∷ [])) s
-holds-snoc {k} {r} {f} {s} p h e q =
+holds_snoc {k} {r} {f} {s} p h e q =
     let n = h.shape.count in
     record {
       shape = record {
@@ -156,13 +156,13 @@ holds-snoc {k} {r} {f} {s} p h e q =
         full = λ i b.
             ⊎_elim
             (λ (c : i ≡ r). rw (c, line-here f p r n) e)
-            (λ (c : i < r). rw (line-above f p i (omega arith)) (h.shape.full i c))
+            (λ (c : i < r). rw (line_above f p i (omega arith)) (h.shape.full i c))
             (eq-or-lt_of_le (omega arith));
       };
       same = λ i j b g.
           ⊎_elim
           (λ (c : i ≡ r). rw (c, line-here f p r n) (q j g))
-          (λ (c : i < r). rw (line-above f p i (omega arith)) (h.same i j c g))
+          (λ (c : i < r). rw (line_above f p i (omega arith)) (h.same i j c g))
           (eq-or-lt_of_le (omega arith));
     }
 
@@ -171,11 +171,11 @@ pub holds_kept : {k r : ℕ} {f : List (List Float)} {s s' : List Float} → Hol
 holds_kept {k} {r} {f} {s} {s'} h e = record { shape = h.shape; same = λ i j b g. e (i * (k + 1) + j) (above k r i j b g) ∙ h.same i j b g }
 
 -- nothing stored yet; one more place, at q
-pub row-none : {k r : ℕ} {s : List Float} → Factored k r 0 s s
-row-none {k} {r} {s} = record { kept = kept-none (r * (k + 1)) 0 s; made = λ j b. absurd (omega arith) }
+pub row_none : {k r : ℕ} {s : List Float} → Factored k r 0 s s
+row_none {k} {r} {s} = record { kept = kept-none (r * (k + 1)) 0 s; made = λ j b. absurd (omega arith) }
 
 pub row_more : {k r c : ℕ} {s₀ s : List Float} {x : Float} (q : ℕ) → Factored k r c s₀ s → c ≤ k → q ≡ r * (k + 1) + c → q < length s
-    → x ≡ placed k (entry k (ofRun k s) (ofRun k s)) r c → Factored k r (c + 1) s₀ (set s q x)
+    → x ≡ placed k (entry k (of_run k s) (of_run k s)) r c → Factored k r (c + 1) s₀ (set s q x)
 row_more {k} {r} {c} {s₀} {s} {x} q w b e fits is =
     let up : (i j : ℕ) → i < r → j ≤ k → flat k s i j ≡ flat k (set s q x) i j = λ i j u g. sym (get_or-set_other s q (i * (k + 1) + j) x nan (ne_of_lt (omega (arith, above k r i j u g)))) in
     let left : (j : ℕ) → j < c → flat k s r j ≡ flat k (set s q x) r j = λ j u. sym (get_or-set_other s q (r * (k + 1) + j) x nan (ne_of_lt (omega arith))) in
@@ -189,10 +189,10 @@ row_more {k} {r} {c} {s₀} {s} {x} q w b e fits is =
           ⊎_elim
           (λ (z : j ≡ c).
           rw z (ap (at (set s q x)) (sym e) ∙ get_or-set_same s q x nan fits ∙ is
-          ∙ entry-ext k r c (ofRun k s) (ofRun k s₀) (flat k s) (flat k (set s q x)) b (λ g. w.kept.above (r * (k + 1) + (r + c - k + k - r)) (omega arith)) up left))
+          ∙ entry-ext k r c (of_run k s) (of_run k s₀) (flat k s) (flat k (set s q x)) b (λ g. w.kept.above (r * (k + 1) + (r + c - k + k - r)) (omega arith)) up left))
           (λ (z : j < c).
           sym (left j z) ∙ w.made j z
-          ∙ entry-ext k r j (ofRun k s₀) (ofRun k s₀) (flat k s) (flat k (set s q x)) (omega arith) (λ g. refl) up (λ i h. left i (omega arith)))
+          ∙ entry-ext k r j (of_run k s₀) (of_run k s₀) (flat k s) (flat k (set s q x)) (omega arith) (λ g. refl) up (λ i h. left i (omega arith)))
           (eq-or-lt_of_le (omega arith));
     }
 
@@ -242,21 +242,21 @@ module _ (k m : ℕ) (f : List (List Float)) (s : List Float) where
 
 -- ---- the rows of a factor
 
-pub shape-snoc : {k r : ℕ} {f : List (List Float)} (p : List Float) → Shape k r f → length p ≡ k + 1 → Shape k (r + 1) (f ++ (p ∷ []))
-shape-snoc {k} {r} {f} p h e =
+pub shape_snoc : {k r : ℕ} {f : List (List Float)} (p : List Float) → Shape k r f → length p ≡ k + 1 → Shape k (r + 1) (f ++ (p ∷ []))
+shape_snoc {k} {r} {f} p h e =
     record {
       count = length-append f (p ∷ []) ∙ rw h.count;
       full = λ i b.
           ⊎_elim
           (λ (c : i ≡ r). rw (c, line-here f p r h.count) e)
-          (λ (c : i < r). rw (line-above f p i (omega (arith, h.count))) (h.full i c))
+          (λ (c : i < r). rw (line_above f p i (omega (arith, h.count))) (h.full i c))
           (eq-or-lt_of_le (omega arith));
     }
 
-pub shape-rows : (k : ℕ) (a : Matrix) (m : ℕ) → Shape k m (rows k a m)
+pub shape_rows : (k : ℕ) (a : Matrix) (m : ℕ) → Shape k m (rows k a m)
 unfolding rows row
-shape-rows k a zero = record { count = refl; full = λ i h. absurd (omega arith) }
-shape-rows k a (suc m) = rw (← add-one m) (shape-snoc (rowTo k a (rows k a m) m (k + 1)) (shape-rows k a m) (length-rowTo k a (rows k a m) m (k + 1)))
+shape_rows k a zero = record { count = refl; full = λ i h. absurd (omega arith) }
+shape_rows k a (suc m) = rw (← add-one m) (shape_snoc (row_to k a (rows k a m) m (k + 1)) (shape_rows k a m) (length-row_to k a (rows k a m) m (k + 1)))
 
 -- once a pivot is bad
 pub unsound : (k : ℕ) (a : Matrix) (n m : ℕ) → sound k a n ≡ false → n ≤ m → sound k a m ≡ false
@@ -269,11 +269,11 @@ unsound k a n (suc m) e h =
     (eq-or-lt_of_le h)
 
 -- the n places from b on, as a list
-pub part-stands : (b n : ℕ) (s : List Float) → Stands b (part b n s) s
-part-stands b n s j h = sym (at_part b n s j (b + j) (omega (arith, length_part b n s)) refl)
+pub part_stands : (b n : ℕ) (s : List Float) → Stands b (part b n s) s
+part_stands b n s j h = sym (at_part b n s j (b + j) (omega (arith, length_part b n s)) refl)
 
-pub stands-part : (b n : ℕ) (x s : List Float) → length x ≡ n → Stands b x s → part b n s ≡ x
-stands-part b n x s e h =
+pub stands_part : (b n : ℕ) (x s : List Float) → length x ≡ n → Stands b x s → part b n s ≡ x
+stands_part b n x s e h =
     let l = length_part b n s in
     ext_get_or nan (part b n s) x (l ∙ sym e) (λ i u. at_part b n s i (b + i) (omega arith) refl ∙ h i (omega arith))
 

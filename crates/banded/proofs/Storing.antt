@@ -9,9 +9,9 @@ use lib.Seq.{get_or-set_same, get_or-set_other}
 use lib.Ieee.{Float, nan}
 use Rattle.vectors.specs.Vec.{at}
 use Rattle.vectors.specs.Parts.{Written}
-use Rattle.vectors.proofs.Laws.{none, up, store-more}
+use Rattle.vectors.proofs.Laws.{none, up, store_more}
 use Rattle.banded.specs.Run.{HasRow, Stored}
-use Rattle.banded.proofs.Laws.{one-row}
+use Rattle.banded.proofs.Laws.{one_row}
 
 -- row r written from place p on, and then x in place b
 pub stored : {k m r : ℕ} {v : ℕ → Float} {x : Float} {s₀ s : List Float} (p b : ℕ) → p ≡ r * (k + 1) → b ≡ m * (k + 1) + r → HasRow k m r (length s₀)
@@ -20,7 +20,7 @@ stored {k} {m} {r} {v} {x} {s₀} {s} p b at_p at_b has w =
     let h = has.row in
     let fits = has.room in
     let room : (r + 1) * (k + 1) ≤ m * (k + 1) = mul-le-mul_right (k + 1) (omega arith) in
-    let one = one-row k r in
+    let one = one_row k r in
     let n = w.size in
     record {
       elsewhere = record {
@@ -47,7 +47,7 @@ module _ (m r : ℕ) (s : List Float) (a b x : Float) where
       let v : ℕ → Float = at (a ∷ b ∷ []) in
       let n = length-set s (r * 2) a in
       stored (r * 2) (m * 2 + r) refl refl has
-      (store-more (r * 2) 1 v s (set s (r * 2) a) b (first (r * 2) v s a (omega arith) refl) (omega arith) refl)
+      (store_more (r * 2) 1 v s (set s (r * 2) a) b (first (r * 2) v s a (omega arith) refl) (omega arith) refl)
 
   pub stored-2 : (d : Float) → HasRow 2 m r (length s)
       → Stored 2 m r (at (a ∷ b ∷ d ∷ [])) x s (set (set (set (set s (r * 3) a) (r * 3 + 1) b) (r * 3 + 2) d) (m * 3 + r) x)
@@ -58,12 +58,12 @@ module _ (m r : ℕ) (s : List Float) (a b x : Float) where
       let n = length-set s (r * 3) a in
       let o = length-set (set s (r * 3) a) (r * 3 + 1) b in
       stored (r * 3) (m * 3 + r) refl refl has
-      (store-more (r * 3) 2 v s (set (set s (r * 3) a) (r * 3 + 1) b) d
-      (store-more (r * 3) 1 v s (set s (r * 3) a) b (first (r * 3) v s a (omega arith) refl) (omega arith) refl) (omega arith) refl)
+      (store_more (r * 3) 2 v s (set (set s (r * 3) a) (r * 3 + 1) b) d
+      (store_more (r * 3) 1 v s (set s (r * 3) a) b (first (r * 3) v s a (omega arith) refl) (omega arith) refl) (omega arith) refl)
 
 -- the same row, said otherwise
-pub stored-as : {k m r : ℕ} {v w : ℕ → Float} {x : Float} {s₀ s : List Float} → Stored k m r v x s₀ s → ((c : ℕ) → c ≤ k → v c ≡ w c) → Stored k m r w x s₀ s
-stored-as st e = record { elsewhere = st.elsewhere; row = λ c h. st.row c h ∙ e c h; side = st.side }
+pub stored_as : {k m r : ℕ} {v w : ℕ → Float} {x : Float} {s₀ s : List Float} → Stored k m r v x s₀ s → ((c : ℕ) → c ≤ k → v c ≡ w c) → Stored k m r w x s₀ s
+stored_as st e = record { elsewhere = st.elsewhere; row = λ c h. st.row c h ∙ e c h; side = st.side }
 
 pub first_two : (f g : ℕ → Float) → f 0 ≡ g 0 → f 1 ≡ g 1 → (c : ℕ) → c ≤ 1 → f c ≡ g c
 first_two f g p q zero h = p

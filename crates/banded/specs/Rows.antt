@@ -18,12 +18,12 @@ less v f zero = v
 less v f (suc n) = less v f n ⊖ f n
 
 -- v, less f lo, f (lo + 1), .. , f (hi - 1), in that order
-unfoldable pub lessFrom : Float → (ℕ → Float) → ℕ → ℕ → Float
-lessFrom v f lo hi = less v (λ n. f (lo + n)) (hi - lo)
+unfoldable pub less_from : Float → (ℕ → Float) → ℕ → ℕ → Float
+less_from v f lo hi = less v (λ n. f (lo + n)) (hi - lo)
 
 -- a i j, less L i t ⊗ L j t ⊗ d t for the columns t from i - k up to, not including, j
 unfoldable pub reduced : ℕ → Matrix → Matrix → Matrix
-reduced k a l i j = lessFrom (a i j) (λ t. l i t ⊗ l j t ⊗ l t t) (i - k) j
+reduced k a l i j = less_from (a i j) (λ t. l i t ⊗ l j t ⊗ l t t) (i - k) j
 
 -- L i j, which is divided by the pivot of its column; on the diagonal the pivot d i
 unfoldable pub entry : ℕ → Matrix → Matrix → Matrix
@@ -36,21 +36,21 @@ abbrev pub line : List (List Float) → ℕ → List Float
 line f i = get_or f i []
 
 -- the matrix that such rows keep
-abbrev pub ofRows : ℕ → List (List Float) → Matrix
-ofRows k f i j = at (line f i) (j + k - i)
+abbrev pub of_rows : ℕ → List (List Float) → Matrix
+of_rows k f i j = at (line f i) (j + k - i)
 
 -- what stands for the matrix a at place c of row i: +0 where there is no such column
 unfoldable pub placed : ℕ → Matrix → ℕ → ℕ → Float
 placed k a i c = cond (ltb (i + c) k) c0 (a i (i + c - k))
 
 -- the first n places of row i of the factor of a, left to right; f has the rows above
-unfoldable pub rowTo : ℕ → Matrix → List (List Float) → ℕ → ℕ → List Float
-rowTo k a f i zero = []
-rowTo k a f i (suc c) = let p = rowTo k a f i c in p ++ (placed k (entry k a (ofRows k (f ++ (p ∷ [])))) i c ∷ [])
+unfoldable pub row_to : ℕ → Matrix → List (List Float) → ℕ → ℕ → List Float
+row_to k a f i zero = []
+row_to k a f i (suc c) = let p = row_to k a f i c in p ++ (placed k (entry k a (of_rows k (f ++ (p ∷ [])))) i c ∷ [])
 
 -- row i: L from column i - k on, then its pivot
 unfoldable pub row : ℕ → Matrix → List (List Float) → ℕ → List Float
-row k a f i = rowTo k a f i (k + 1)
+row k a f i = row_to k a f i (k + 1)
 
 -- the first m rows
 unfoldable pub rows : ℕ → Matrix → ℕ → List (List Float)

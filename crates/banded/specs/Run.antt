@@ -4,7 +4,7 @@ use Rattle.std.specs.Prelude.{◌≡◌, Bool, List, [], ◌∷◌, ◌++◌, �
 use Rattle.vectors.specs.Vec.{at}
 use Rattle.vectors.specs.Parts.{Kept}
 use Rattle.banded.specs.Rows.{Matrix, line, placed, entry, good}
-use Rattle.banded.specs.Solve.{forwardAt}
+use Rattle.banded.specs.Solve.{forward_at}
 
 -- rows one after the other
 unfoldable pub concat : List (List Float) → List Float
@@ -19,12 +19,12 @@ abbrev pub look : List (List Float) → ℕ → ℕ → Float
 look f i c = at (line f i) c
 
 -- the matrix that a run keeps
-abbrev pub ofRun : ℕ → List Float → Matrix
-ofRun k s i j = flat k s i (j + k - i)
+abbrev pub of_run : ℕ → List Float → Matrix
+of_run k s i j = flat k s i (j + k - i)
 
 -- s begins with m rows that keep a; what stands where there is no column is free
 abbrev pub Keeps : ℕ → ℕ → Matrix → List Float → Type 0
-Keeps k m a s = (i j : ℕ) → i < m → j ≤ i → i ≤ j + k → ofRun k s i j ≡ a i j
+Keeps k m a s = (i j : ℕ) → i < m → j ≤ i → i ≤ j + k → of_run k s i j ≡ a i j
 
 -- f is m rows of k + 1 places
 pub record Shape (k m : ℕ) (f : List (List Float)) : Type 0 where
@@ -43,7 +43,7 @@ Stands b x s = (j : ℕ) → j < length x → at s (b + j) ≡ at x j
 -- s is s₀ but for the first n places of row r, which are now the factor's
 pub record Factored (k r n : ℕ) (s₀ s : List Float) : Type 0 where
   pub kept : Kept (r * (k + 1)) n s₀ s
-  pub made : (c : ℕ) → c < n → flat k s r c ≡ placed k (entry k (ofRun k s₀) (ofRun k s)) r c
+  pub made : (c : ℕ) → c < n → flat k s r c ≡ placed k (entry k (of_run k s₀) (of_run k s)) r c
 
 -- a run of n places has m rows and their right side, and row r is one of the m
 pub record HasRow (k m r n : ℕ) : Type 0 where
@@ -66,6 +66,6 @@ pub record Stored (k m r : ℕ) (v : ℕ → Float) (x : Float) (s₀ s : List F
 -- that row is now the factor's, and that place carried forward; ok says whether the row's pivot is good
 pub record Eliminated (k m r : ℕ) (s₀ s : List Float) (ok : Bool) : Type 0 where
   pub elsewhere : Elsewhere k m r s₀ s
-  pub made : (c : ℕ) → c ≤ k → flat k s r c ≡ placed k (entry k (ofRun k s₀) (ofRun k s)) r c
-  pub carried : at s (m * (k + 1) + r) ≡ forwardAt k (ofRun k s) (λ j. at s (m * (k + 1) + j)) (at s₀ (m * (k + 1) + r)) r
+  pub made : (c : ℕ) → c ≤ k → flat k s r c ≡ placed k (entry k (of_run k s₀) (of_run k s)) r c
+  pub carried : at s (m * (k + 1) + r) ≡ forward_at k (of_run k s) (λ j. at s (m * (k + 1) + j)) (at s₀ (m * (k + 1) + r)) r
   pub pivot : ok ≡ good (flat k s r k)

@@ -1,9 +1,11 @@
 // Rows of k + 1 numbers, flat in a run with the right side after them: a place of a row, a row stored, a row of the L D L' factor in its place, a place of the right side carried forward.
+#![tactic(auto)]
+
 ghost use Rattle.std.specs.Prelude.{◌≡◌, [], ◌∷◌, ◌≤◌, ◌<◌, ◌+◌, ◌*◌, length};
 ghost use Rattle.vectors.specs.Vec.{at};
 ghost use Rattle.banded.specs.Rows.{placed, entry};
-ghost use Rattle.banded.specs.Solve.{forwardAt};
-ghost use Rattle.banded.specs.Run.{ofRun, Factored, HasRow, Stored};
+ghost use Rattle.banded.specs.Solve.{forward_at};
+ghost use Rattle.banded.specs.Run.{of_run, Factored, HasRow, Stored};
 
 // Place c of row r of rows of w numbers.
 pub fn get(s: &[f64], w: usize, r: usize, c: usize) -> f64
@@ -16,7 +18,7 @@ pub fn get(s: &[f64], w: usize, r: usize, c: usize) -> f64
 // Place c of row r of the factor, from the matrix at that place and the factor before it.
 fn factor_entry(s: &[f64], k: usize, r: usize, c: usize) -> f64
     requires { ((r + 1) * (k + 1) ≤ length s.now) × (c ≤ k) }
-    ensures { result ≡ placed k (entry k (ofRun k s.now) (ofRun k s.now)) r c }
+    ensures { result ≡ placed k (entry k (of_run k s.now) (of_run k s.now)) r c }
 {
     if r + c < k {
         return 0.0;
@@ -56,7 +58,7 @@ pub fn factor_row(s: &mut [f64], k: usize, r: usize)
 // Place i of the right side, carried forward.
 pub fn forward_at(s: &[f64], k: usize, b: usize, i: usize) -> f64
     requires { ((i + 1) * (k + 1) ≤ length s.now) × (b + i < length s.now) }
-    ensures { result ≡ forwardAt k (ofRun k s.now) (λ j. at s.now (b + j)) (at s.now (b + i)) i }
+    ensures { result ≡ forward_at k (of_run k s.now) (λ j. at s.now (b + j)) (at s.now (b + i)) i }
 {
     let mut v = s[b + i];
     let mut t = vectors::over(k, i);

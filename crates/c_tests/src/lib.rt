@@ -1,12 +1,14 @@
 // Entries for the test drivers of tests/, which no product crate carries: the float helpers under names for C, and a banded solve.
+#![tactic(auto)]
+
 ghost use Rattle.std.specs.Prelude.{◌≡◌};
-ghost use Rattle.float64.specs.Helpers.{absOf, is_finite, max_of, minOf, clampOf};
-ghost use Rattle.square_root.specs.Sqrt.{sqrtOf};
+ghost use Rattle.float64.specs.Helpers.{abs_of, is_finite, max_of, min_of, clamp_of};
+ghost use Rattle.square_root.specs.Sqrt.{sqrt_of};
 ghost use Rattle.c_tests.specs.Answered.{Answered};
 
 #[unsafe(no_mangle)]
 pub extern "C" fn float64_sqrt(x: f64) -> f64
-    ensures { result ≡ sqrtOf x }
+    ensures { result ≡ sqrt_of x }
 {
     square_root::sqrt(x)
 }
@@ -20,7 +22,7 @@ pub extern "C" fn float64_is_finite(x: f64) -> bool
 
 #[unsafe(no_mangle)]
 pub extern "C" fn float64_abs(x: f64) -> f64
-    ensures { result ≡ absOf x }
+    ensures { result ≡ abs_of x }
 {
     float64::abs(x)
 }
@@ -34,14 +36,14 @@ pub extern "C" fn float64_max(a: f64, b: f64) -> f64
 
 #[unsafe(no_mangle)]
 pub extern "C" fn float64_min(a: f64, b: f64) -> f64
-    ensures { result ≡ minOf a b }
+    ensures { result ≡ min_of a b }
 {
     float64::min(a, b)
 }
 
 #[unsafe(no_mangle)]
 pub extern "C" fn float64_clamp(z: f64, lam: f64) -> f64
-    ensures { result ≡ clampOf z lam }
+    ensures { result ≡ clamp_of z lam }
 {
     float64::clamp(z, lam)
 }

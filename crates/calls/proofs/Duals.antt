@@ -8,10 +8,10 @@ use Rattle.questions.specs.Questions.{Asked}
 use Rattle.fit.specs.Outputs.{Outputs}
 use Rattle.fit.specs.Fit.{FitResult, Outcome, fitted, places, fit, after}
 use Rattle.fit.specs.Duals.{Rechecks}
-use Rattle.fit.proofs.Duals.{dual-point}
+use Rattle.fit.proofs.Duals.{dual_point}
 use Rattle.trend_filter.specs.declared.Summary.{Summary}
 use Rattle.trend_filter.specs.declared.Answer.{Answer}
-use Rattle.trend_filter.specs.Answers.{Buffers, lent, summaryOf, Answered}
+use Rattle.trend_filter.specs.Answers.{Buffers, lent, summary_of, Answered}
 use Rattle.calls.specs.Duals.{DualCalls}
 use Rattle.calls.proofs.TwoCalls.{came}
 
@@ -20,9 +20,9 @@ unfolding after
 handed a r b c h f e =
     take_put b.out.dual f.dual (places a) (ap (λ (o : Outputs). o.dual) (h.gives.out ∙ ap (λ (o : Outcome). after o b.out) e)) (h.sizes f e).dual
 
-pub dual-calls : DualCalls
-unfolding summaryOf
-dual-calls a r b c h x t =
+pub dual_calls : DualCalls
+unfolding summary_of
+dual_calls a r b c h x t =
     let g = came (fit a (lent b)) x (sym h.gives.answer ∙ t) in
-    let told = subst (λ (s : Summary). Rechecks a g.result.dual s.gap s.objective) g.told (dual-point a (lent b) g.result g.is) in
+    let told = subst (λ (s : Summary). Rechecks a g.result.dual s.gap s.objective) g.told (dual_point a (lent b) g.result g.is) in
     subst (λ (d : List Float). Rechecks a d x.gap x.objective) (sym (handed a r b c h g.result g.is)) told

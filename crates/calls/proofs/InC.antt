@@ -6,29 +6,29 @@ use native.Mathlib.Omega.{arith}
 use borrow.Author.Tests.{eqb-false}
 use lib.ListN.{get_or}
 use Rattle.questions.specs.declared.Needed.{Needed}
-use Rattle.questions.specs.Questions.{needsFor}
-use Rattle.questions.specs.Beforehand.{neededFor}
+use Rattle.questions.specs.Questions.{needs_for}
+use Rattle.questions.specs.Beforehand.{needed_for}
 use Rattle.fit.specs.Fit.{fit}
-use Rattle.fit.proofs.Passed.{refused-by}
+use Rattle.fit.proofs.Passed.{refused_by}
 use Rattle.trend_filter.specs.declared.Answer.{Answer}
 use Rattle.trend_filter.specs.declared.Answer.TheVariants.{Fit, Refused}
 use Rattle.trend_filter.specs.Answers.{lent, Answered}
-use Rattle.trend_filter.specs.Calls.{code_of, countsOf, filled}
-use Rattle.trend_filter.specs.Needs.{needsCode, needsIn}
+use Rattle.trend_filter.specs.Calls.{code_of, counts_of, filled}
+use Rattle.trend_filter.specs.Needs.{needs_code, needs_in}
 use Rattle.calls.specs.InC.{ForetellingInC, AskedFirstInC}
-use Rattle.calls.proofs.Needs.{refused-came, asked-first}
+use Rattle.calls.proofs.Needs.{refused_came, asked_first}
 
-pub asked-first-in-c : AskedFirstInC
-asked-first-in-c a q r b c v₀ v u₀ u w₀ w n h = go h.answer h.answered h.told.code h.told.counts
+pub asked_first_in_c : AskedFirstInC
+asked_first_in_c a q r b c v₀ v u₀ u w₀ w n h = go h.answer h.answered h.told.code h.told.counts
   where
-    go : (z : Answer) → Answered a z b c → r ≡ code_of z → u ≡ filled countsOf z u₀ → ForetellingInC q r w u
+    go : (z : Answer) → Answered a z b c → r ≡ code_of z → u ≡ filled counts_of z u₀ → ForetellingInC q r w u
     go (Refused p) d e k =
         -- no refusal has the number 0
-        let not0 : r ≡ 0 → ⊥ = λ t. eqb-false p 0 (refused-by a (lent b) p (omega (arith, e, t)) (refused-came (fit a (lent b)) p (sym d.gives.answer))).1 (sym e ∙ t) in
+        let not0 : r ≡ 0 → ⊥ = λ t. eqb-false p 0 (refused_by a (lent b) p (omega (arith, e, t)) (refused_came (fit a (lent b)) p (sym d.gives.answer))).1 (sym e ∙ t) in
         record { given = λ t. absurd (not0 t); ceiling = λ t. absurd (not0 t) }
     go (Fit x) d e k =
-        let f = asked-first (neededFor a) a (Fit x) b c (record { first = refl; second = d }) in
+        let f = asked_first (needed_for a) a (Fit x) b c (record { first = refl; second = d }) in
         let g = f.given x refl in
-        let told = ap (λ (s : List ℕ). get_or s 2 0) (n.array ∙ ap (λ (s : Needed). needsIn s w₀) g) in
+        let told = ap (λ (s : List ℕ). get_or s 2 0) (n.array ∙ ap (λ (s : Needed). needs_in s w₀) g) in
         let counted = ap (λ (s : List ℕ). get_or s 1 0) k in
-        record { given = λ t. n.code ∙ ap needsCode g; ceiling = λ t. omega (arith, told, counted, f.ceiling x refl (needsFor a) g) }
+        record { given = λ t. n.code ∙ ap needs_code g; ceiling = λ t. omega (arith, told, counted, f.ceiling x refl (needs_for a) g) }

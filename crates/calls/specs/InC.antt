@@ -1,7 +1,7 @@
 -- Document 02, A7, of two calls from C: trend_filter_needs, and trend_filter_fit for the same n, order, penalty and max_iter (`Rattle.calls.proofs.InC` proves it).
 use Rattle.std.specs.Prelude.{◌≡◌, List, ℕ, ◌≤◌, get_or, Float}
 use Rattle.questions.specs.Questions.{Asked}
-use Rattle.questions.specs.Beforehand.{neededFor}
+use Rattle.questions.specs.Beforehand.{needed_for}
 use Rattle.trend_filter.specs.Answers.{Buffers}
 use Rattle.trend_filter.specs.Calls.{Called}
 use Rattle.trend_filter.specs.Needs.{NeedsTold}
@@ -17,4 +17,4 @@ pub record ForetellingInC (q r : ℕ) (w u : List ℕ) : Type 0 where
 abbrev pub AskedFirstInC : Type 0
 AskedFirstInC =
     (a : Asked) (q r : ℕ) (b c : Buffers) (v₀ v : List Float) (u₀ u w₀ w : List ℕ)
-    → NeedsTold (neededFor a) q w₀ w → Called a r b c v₀ v u₀ u → ForetellingInC q r w u
+    → NeedsTold (needed_for a) q w₀ w → Called a r b c v₀ v u₀ u → ForetellingInC q r w u

@@ -11,7 +11,7 @@ use Rattle.calls.specs.TwoCalls.{TwoCalls, Agree}
 -- of any such calls
 pub record LastingCalls : Type 0 where
   -- If the first fits with a reason other than limit spent, and the second's max_iter is larger, they agree, in the reason too.
-  pub other-reason : (a : Asked) (other : ℕ) (r s : Answer) (b c d e : Buffers) → TwoCalls a other r s b c d e
-      → (x : Summary) → r ≡ Fit x → (x.reason ≡ LimitSpent → ⊥) → a.max-iter < other → Agree a r s c e
+  pub other_reason : (a : Asked) (other : ℕ) (r s : Answer) (b c d e : Buffers) → TwoCalls a other r s b c d e
+      → (x : Summary) → r ≡ Fit x → (x.reason ≡ LimitSpent → ⊥) → a.max_iter < other → Agree a r s c e
   -- If a call fits with the reason limit spent, its n_iter is its max_iter.
-  pub spent : (a : Asked) (r : Answer) (b c : Buffers) → Answered a r b c → (x : Summary) → r ≡ Fit x → x.reason ≡ LimitSpent → x.n_iter ≡ a.max-iter
+  pub spent : (a : Asked) (r : Answer) (b c : Buffers) → Answered a r b c → (x : Summary) → r ≡ Fit x → x.reason ≡ LimitSpent → x.n_iter ≡ a.max_iter

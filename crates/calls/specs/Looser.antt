@@ -2,7 +2,7 @@
 use Rattle.std.specs.Prelude.{◌≤◌, ◌≡◌, T, Float}
 use Rattle.std.specs.Float.Ieee.{le}
 use Rattle.questions.specs.Questions.{Asked}
-use Rattle.fit.specs.Looser.{withTol}
+use Rattle.fit.specs.Looser.{with_tol}
 use Rattle.trend_filter.specs.declared.Summary.{Summary}
 use Rattle.trend_filter.specs.declared.Answer.{Answer}
 use Rattle.trend_filter.specs.declared.Answer.TheVariants.{Fit}
@@ -11,5 +11,5 @@ use Rattle.trend_filter.specs.Answers.{Buffers, Answered}
 -- The first call asks a, answers r, finds b in the buffers and leaves c. The second asks the same with the tolerance `looser`, answers s, finds d and leaves e. Where both fit and looser is not below the first's tol, the second's n_iter is not above the first's. What the buffers held before may differ, and so may their lengths.
 abbrev pub LooserCalls : Type 0
 LooserCalls =
-    (a : Asked) (looser : Float) (r s : Answer) (b c d e : Buffers) → Answered a r b c → Answered (withTol looser a) s d e
+    (a : Asked) (looser : Float) (r s : Answer) (b c d e : Buffers) → Answered a r b c → Answered (with_tol looser a) s d e
     → T (le a.tol looser) → (x z : Summary) → r ≡ Fit x → s ≡ Fit z → z.n_iter ≤ x.n_iter

@@ -3,8 +3,8 @@ use Rattle.std.specs.Prelude.{◌≡◌, ℕ, ◌≤◌, length}
 use Rattle.questions.specs.declared.Figures.{Figures}
 use Rattle.questions.specs.declared.Needed.{Needed}
 use Rattle.questions.specs.declared.Needed.TheVariants as needed
-use Rattle.questions.specs.Questions.{Asked, needsFor, question}
-use Rattle.questions.specs.Beforehand.{neededFor}
+use Rattle.questions.specs.Questions.{Asked, needs_for, question}
+use Rattle.questions.specs.Beforehand.{needed_for}
 use Rattle.trend_filter.specs.declared.Summary.{Summary}
 use Rattle.trend_filter.specs.declared.Answer.{Answer}
 use Rattle.trend_filter.specs.declared.Answer.TheVariants.{Fit, Refused}
@@ -12,13 +12,13 @@ use Rattle.trend_filter.specs.Answers.{Buffers, lent, Scratch, Answered}
 
 -- Two calls: the first asks what a fit needs and answers s, the second asks for that fit (the same n, order, penalty and max_iter), answers r, finds b in the buffers and leaves c.
 pub record AskedFirst (s : Needed) (a : Asked) (r : Answer) (b c : Buffers) : Type 0 where
-  pub first : s ≡ neededFor a
+  pub first : s ≡ needed_for a
   pub second : Answered a r b c
 
 -- what the first tells of the second
 pub record Foretelling (s : Needed) (a : Asked) (r : Answer) (b c : Buffers) : Type 0 where
   -- whatever is fitted was given figures,
-  pub given : (x : Summary) → r ≡ Fit x → s ≡ needed.Given (needsFor a)
+  pub given : (x : Summary) → r ≡ Fit x → s ≡ needed.Given (needs_for a)
   -- and its n_iter is at most the ceiling given
   pub ceiling : (x : Summary) → r ≡ Fit x → (g : Figures) → s ≡ needed.Given g → x.n_iter ≤ g.steps
   -- whoever lends the places given is not refused with 9,

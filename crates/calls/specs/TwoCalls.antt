@@ -1,10 +1,10 @@
 -- Demand 3, of two calls of the entry: calls alike but for max_iter and for the buffers agree (`Rattle.calls.proofs.TwoCalls` proves it).
 use Rattle.std.specs.Prelude.{◌≡◌, ℕ, ◌≤◌, ◌<◌, length, take}
 use Rattle.fit.specs.Outputs.{Outputs}
-use Rattle.search.specs.Reasons.{atLimit}
-use Rattle.questions.specs.Questions.{Asked, needsFor, room}
+use Rattle.search.specs.Reasons.{at_limit}
+use Rattle.questions.specs.Questions.{Asked, needs_for, room}
 use Rattle.fit.specs.Fit.{places}
-use Rattle.fit.specs.Demand3.{withMaxIter}
+use Rattle.fit.specs.Demand3.{with_max_iter}
 use Rattle.trend_filter.specs.declared.Summary.{Summary}
 use Rattle.trend_filter.specs.declared.Answer.{Answer}
 use Rattle.trend_filter.specs.declared.Answer.TheVariants.{Fit}
@@ -15,8 +15,8 @@ use Rattle.trend_filter.specs.Answers.{Buffers, lent, Answered}
 -- What the buffers held before may differ, and so may their lengths, if questions 8 and 9 have one answer in both calls.
 pub record TwoCalls (a : Asked) (other : ℕ) (r s : Answer) (b c d e : Buffers) : Type 0 where
   pub first : Answered a r b c
-  pub second : Answered (withMaxIter other a) s d e
-  pub same-room : room (length a.y) (needsFor a) (lent d) ≡ room (length a.y) (needsFor a) (lent b)
+  pub second : Answered (with_max_iter other a) s d e
+  pub same_room : room (length a.y) (needs_for a) (lent d) ≡ room (length a.y) (needs_for a) (lent b)
 
 -- the first places are equal: n of trend and of cycle, count of knots, m of dual
 pub record SamePlaces (n count m : ℕ) (c e : Outputs) : Type 0 where
@@ -33,11 +33,11 @@ pub record Agree (a : Asked) (r s : Answer) (c e : Buffers) : Type 0 where
 -- when two calls agree
 pub record Agreement (a : Asked) (other : ℕ) (r s : Answer) (c e : Buffers) : Type 0 where
   -- If the first fits with n_iter below its max_iter, and the second's max_iter is above that n_iter, they agree, in the reason too;
-  pub alike : (x : Summary) → r ≡ Fit x → x.n_iter < a.max-iter → x.n_iter < other → Agree a r s c e
+  pub alike : (x : Summary) → r ≡ Fit x → x.n_iter < a.max_iter → x.n_iter < other → Agree a r s c e
   -- if it is that n_iter, and at least 1, they agree in all but the reason: what stalled has then spent its limit.
-  pub at-limit : (x : Summary) → r ≡ Fit x → x.n_iter < a.max-iter → 1 ≤ other → x.n_iter ≡ other → Agree a (Fit (reasoned (atLimit x.reason) x)) s c e
+  pub at_limit : (x : Summary) → r ≡ Fit x → x.n_iter < a.max_iter → 1 ≤ other → x.n_iter ≡ other → Agree a (Fit (reasoned (at_limit x.reason) x)) s c e
   -- If both limits are above 1,447,640, they agree, be it in a fit or in a refusal.
-  pub settled : 1447640 < a.max-iter → 1447640 < other → Agree a r s c e
+  pub settled : 1447640 < a.max_iter → 1447640 < other → Agree a r s c e
 
 -- of any two such calls
 abbrev pub TwoCallsAgree : Type 0

@@ -1,36 +1,36 @@
 -- Document 01, "Certificate at z": what it leaves in a run whose first places are for the trend and whose next hold z.
 use Rattle.std.specs.Prelude.{◌≡◌, Bool, true, List, ℕ, ◌+◌, ◌-◌, ◌≤◌, length, Float}
 use Rattle.float64.specs.Ops.{◌⊗◌}
-use Rattle.float64.specs.Helpers.{absOf}
+use Rattle.float64.specs.Helpers.{abs_of}
 use Rattle.vectors.specs.Vec.{at}
 use Rattle.vectors.specs.Parts.{Kept, Written, part}
-use Rattle.vectors.specs.Sums.{sum_to, norm2Sq, dot, sumAbs}
-use Rattle.differences.specs.Diff.{diffK, diffKT}
+use Rattle.vectors.specs.Sums.{sum_to, norm2_sq, dot, sum_abs}
+use Rattle.differences.specs.Diff.{diff_k, diff_kt}
 use Rattle.differences.specs.Series.{Series}
 use Rattle.certificate.specs.Certificate.{minus, certify}
 use Rattle.certificate.specs.declared.Sums.{Sums}
 
 -- z, after the n places of the trend
-abbrev pub dualOf : ℕ → List Float → List Float → List Float
-dualOf k y s = part (length y) (length y - k) s
+abbrev pub dual_of : ℕ → List Float → List Float → List Float
+dual_of k y s = part (length y) (length y - k) s
 
 -- D'z, and the trend x = y - D'z
-abbrev pub fallOf : ℕ → List Float → List Float → List Float
-fallOf k y s = diffKT k (dualOf k y s)
+abbrev pub fall_of : ℕ → List Float → List Float → List Float
+fall_of k y s = diff_kt k (dual_of k y s)
 
-abbrev pub trendOf : ℕ → List Float → List Float → List Float
-trendOf k y s = minus y (fallOf k y s)
+abbrev pub trend_of : ℕ → List Float → List Float → List Float
+trend_of k y s = minus y (fall_of k y s)
 
 -- the places of the trend below `to` are written, and Σ(D'z)² is added up over them; all else is as found
 pub record Trend (k : ℕ) (y s₀ s : List Float) (to : ℕ) (squares : Float) : Type 0 where
-  pub written : Written 0 to (at (trendOf k y s₀)) s₀ s
-  pub squared : squares ≡ sum_to (λ j. at (fallOf k y s₀) j ⊗ at (fallOf k y s₀) j) to
+  pub written : Written 0 to (at (trend_of k y s₀)) s₀ s
+  pub squared : squares ≡ sum_to (λ j. at (fall_of k y s₀) j ⊗ at (fall_of k y s₀) j) to
 
 -- and so are Σ|D x| and z·D y, over the places of D x and z that are known then
 pub record Passed (k : ℕ) (y dy s₀ s : List Float) (to : ℕ) (c : Sums) : Type 0 where
   pub trend : Trend k y s₀ s to c.squares
-  pub jumped : c.dx ≡ sum_to (λ j. absOf (at (diffK k (trendOf k y s₀)) j)) (to - k)
-  pub multiplied : c.dot ≡ sum_to (λ j. at (dualOf k y s₀) j ⊗ at dy j) (to - k)
+  pub jumped : c.dx ≡ sum_to (λ j. abs_of (at (diff_k k (trend_of k y s₀)) j)) (to - k)
+  pub multiplied : c.dot ≡ sum_to (λ j. at (dual_of k y s₀) j ⊗ at dy j) (to - k)
 
 -- x1 is the place of x before j, and x2 the one before it where order 2 reads it
 pub record Last (k : ℕ) (x : List Float) (j : ℕ) (x1 x2 : Float) : Type 0 where
@@ -53,17 +53,17 @@ pub record Ahead (k n s dy from to : ℕ) (inner : Bool) : Type 0 where
 
 -- the whole trend and its sums; all else is as found
 pub record Summed (k : ℕ) (y dy s₀ s : List Float) (c : Sums) : Type 0 where
-  pub trend : part 0 (length y) s ≡ trendOf k y s₀
-  pub squared : c.squares ≡ norm2Sq (fallOf k y s₀)
-  pub jumped : c.dx ≡ sumAbs (diffK k (trendOf k y s₀))
-  pub multiplied : c.dot ≡ dot (dualOf k y s₀) dy
+  pub trend : part 0 (length y) s ≡ trend_of k y s₀
+  pub squared : c.squares ≡ norm2_sq (fall_of k y s₀)
+  pub jumped : c.dx ≡ sum_abs (diff_k k (trend_of k y s₀))
+  pub multiplied : c.dot ≡ dot (dual_of k y s₀) dy
   pub kept : Kept 0 (length y) s₀ s
 
 -- the trend, P, G, and zc at the start of d; all else is as found
 pub record Certified (k : ℕ) (y : List Float) (lam : Float) (s₀ s d₀ d : List Float) (primal dual : Float) : Type 0 where
-  pub trend : part 0 (length y) s ≡ (certify k y lam (dualOf k y s₀)).trend
-  pub primal-is : primal ≡ (certify k y lam (dualOf k y s₀)).primal
-  pub dual-is : dual ≡ (certify k y lam (dualOf k y s₀)).dual
-  pub zc-is : part 0 (length y - k) d ≡ (certify k y lam (dualOf k y s₀)).zc
+  pub trend : part 0 (length y) s ≡ (certify k y lam (dual_of k y s₀)).trend
+  pub primal_is : primal ≡ (certify k y lam (dual_of k y s₀)).primal
+  pub dual_is : dual ≡ (certify k y lam (dual_of k y s₀)).dual
+  pub zc_is : part 0 (length y - k) d ≡ (certify k y lam (dual_of k y s₀)).zc
   pub kept : Kept 0 (length y) s₀ s
-  pub dual-kept : Kept 0 (length y - k) d₀ d
+  pub dual_kept : Kept 0 (length y - k) d₀ d

@@ -1,12 +1,14 @@
 // The pass of the certificate: the trend of a dual point, and its sums.
+#![tactic(auto)]
+
 ghost use Rattle.std.specs.Prelude.{◌≡◌, true, List, ℕ, ◌≤◌, ◌<◌, ◌-◌, ◌+◌, length, Float};
 ghost use Rattle.vectors.specs.Vec.{at};
-ghost use Rattle.differences.specs.Diff.{diffK, diffKT};
+ghost use Rattle.differences.specs.Diff.{diff_k, diff_kt};
 ghost use Rattle.differences.specs.Series.{Order, Series};
 ghost use Rattle.certificate.specs.Run.{Trend, Last, Ahead, Passed, Beside, Summed};
 
 // Σ(D'z)², Σ|D x| and typeof.z.D y, of the places passed so far.
-#[derive(Drop)]
+#[derive(Clone, Copy)]
 pub struct Sums {
     pub squares: f64,
     pub dx: f64,
@@ -16,7 +18,7 @@ pub struct Sums {
 // Place j of D'z; inner says that it is away from the ends.
 fn fall(z: &[f64], k: usize, j: usize, inner: bool) -> f64
     requires { Order k × (j < length z.now + k) × (inner ≡ true → (k ≤ j) × (j < length z.now)) }
-    ensures { result ≡ at (diffKT k z.now) j }
+    ensures { result ≡ at (diff_kt k z.now) j }
 {
     if inner {
         return differences::diff_t_inner(z, k, j);
@@ -45,7 +47,7 @@ fn head(s: &mut [f64], y: &[f64], k: usize) -> f64
 // The last place of D x, where x ends with x2, x1, v. x2 is not used for order 1.
 fn jump(k: usize, v: f64, x1: f64, x2: f64) -> f64
     requires { Order k }
-    ensures { (x : List Float) (j : ℕ) → k ≤ j → j < length x → v ≡ at x j → Last k x j x1 x2 → result ≡ at (diffK k x) (j - k) }
+    ensures { (x : List Float) (j : ℕ) → k ≤ j → j < length x → v ≡ at x j → Last k x j x1 x2 → result ≡ at (diff_k k x) (j - k) }
 {
     if k == 1 {
         return v - x1;

@@ -1,15 +1,17 @@
 // The certificate of a dual point: P, G and the clamped z.
+#![tactic(auto)]
+
 ghost use Rattle.std.specs.Prelude.{◌≡◌, true, ◌≤◌, ◌-◌, ◌+◌, length};
 ghost use Rattle.float64.specs.Ops.{◌⊕◌, ◌⊗◌, half};
 ghost use Rattle.vectors.specs.Vec.{put};
 ghost use Rattle.vectors.specs.Sums.{dot, inside};
 ghost use Rattle.differences.specs.Series.{Order};
-ghost use Rattle.certificate.specs.Certificate.{clamped, dualValue};
-ghost use Rattle.certificate.specs.Run.{dualOf, Certified};
+ghost use Rattle.certificate.specs.Certificate.{clamped, dual_value};
+ghost use Rattle.certificate.specs.Run.{dual_of, Certified};
 ghost use Rattle.certificate.specs.Ready.{Ready};
 
 // P and G.
-#[derive(Drop)]
+#[derive(Clone, Copy)]
 pub struct Pair {
     pub primal: f64,
     pub dual: f64,
@@ -44,7 +46,7 @@ fn product(v: &[f64], dy: &[f64]) -> f64
 // G at the clamped z, which the first places of dual become.
 fn dual_of(dual: &mut [f64], z: &[f64], dy: &[f64], lam: f64, k: usize) -> f64
     requires { Order k × (length z.now ≤ length dy.now) × (length z.now ≤ length dual.old) }
-    ensures { (result ≡ dualValue k dy.now (clamped lam z.now)) × (dual.new ≡ put dual.old 0 (clamped lam z.now)) }
+    ensures { (result ≡ dual_value k dy.now (clamped lam z.now)) × (dual.new ≡ put dual.old 0 (clamped lam z.now)) }
 {
     clamp_into(dual, z, lam);
     let m = z.len();
@@ -68,7 +70,7 @@ pub fn certify_inside(
     lam: f64,
     k: usize,
 ) -> Pair
-    requires { Ready k y.now dy.now (length y.now + (length y.now - k)) (length s.old) × (length y.now - k ≤ length dual.old) × (inside lam (dualOf k y.now s.old) ≡ true) }
+    requires { Ready k y.now dy.now (length y.now + (length y.now - k)) (length s.old) × (length y.now - k ≤ length dual.old) × (inside lam (dual_of k y.now s.old) ≡ true) }
     ensures { Certified k y.now lam s.old s.new dual.old dual.new result.primal result.dual }
 {
     let n = y.len();

@@ -2,14 +2,14 @@
 use Rattle.std.specs.Prelude.{◌≡◌, List, ℕ, ◌+◌, ◌-◌, ◌≤◌, length, take, Float}
 use Rattle.std.proofs.Math.Option.{Option, none}
 use Rattle.vectors.specs.Parts.{Kept, part}
-use Rattle.differences.specs.Diff.{diffK, gramRow}
+use Rattle.differences.specs.Diff.{diff_k, gram_row}
 use Rattle.differences.specs.Series.{Series}
-use Rattle.gram.specs.Gram.{zstar, lamMax}
-use Rattle.gram.specs.Prepared.{starLane, diffLane, preparation}
+use Rattle.gram.specs.Gram.{zstar, lam_max}
+use Rattle.gram.specs.Prepared.{star_lane, diff_lane, preparation}
 use Rattle.fit.specs.Fit.{Found}
 use Rattle.closed_paths.specs.declared.Finding.{Finding}
 use Rattle.closed_paths.specs.declared.Path.{Path}
-use Rattle.closed_paths.specs.Trends.{pathArea, pathMarks, reach, foundOf, said, reached}
+use Rattle.closed_paths.specs.Trends.{path_area, path_marks, reach, found_of, said, reached}
 
 -- ---- what is asked
 
@@ -22,8 +22,8 @@ pub record AsksL2 (k l n w : ℕ) : Type 0 where
 pub record AsksL1 (k l : ℕ) (y w c : List Float) : Type 0 where
   pub room : AsksL2 k l (length y) (length w)
   pub cycle : length y ≤ length c
-  pub star : part (starLane k (length y)) (length y - k) w ≡ zstar k (gramRow k) (length y - k) y
-  pub differences : part (diffLane (length y)) (length y - k) w ≡ diffK k y
+  pub star : part (star_lane k (length y)) (length y - k) w ≡ zstar k (gram_row k) (length y - k) y
+  pub differences : part (diff_lane (length y)) (length y - k) w ≡ diff_k k y
 
 -- the search asks too room for the dual point in d places, and for q marks
 pub record AsksSearch (k l q : ℕ) (y w c : List Float) (d : ℕ) (marks : List ℕ) : Type 0 where
@@ -33,14 +33,14 @@ pub record AsksSearch (k l q : ℕ) (y w c : List Float) (d : ℕ) (marks : List
 
 -- the choice of a path asks this of its penalty's area and marks, and that top is lam_max
 pub record AsksPath (k penalty : ℕ) (y : List Float) (top : Float) (w c : List Float) (d : ℕ) (marks : List ℕ) : Type 0 where
-  pub search : AsksSearch k (pathArea penalty (length y)) (pathMarks penalty (length y)) y w c d marks
-  pub top-is : top ≡ lamMax k (gramRow k) (length y - k) y
+  pub search : AsksSearch k (path_area penalty (length y)) (path_marks penalty (length y)) y w c d marks
+  pub top_is : top ≡ lam_max k (gram_row k) (length y - k) y
 
 -- ---- what is left
 
 -- c begins with D y; behind its first n places it is as found
 pub record Differences (k : ℕ) (y c₀ c : List Float) : Type 0 where
-  pub known : take (length y - k) c ≡ diffK k y
+  pub known : take (length y - k) c ≡ diff_k k y
   pub kept : Kept 0 (length y) c₀ c
 
 -- what may have changed: the l places of work behind the preparation, the first n of cycle, and the first n - k of dual
@@ -51,7 +51,7 @@ pub record Changed (k l n : ℕ) (w₀ w c₀ c d₀ d : List Float) : Type 0 wh
 
 -- r is what f says, for each i of what the path doesn't read
 pub record Finds {I : Type 0} (f : I → Found) (k l : ℕ) (y w₀ w c₀ c d₀ d : List Float) (r : Finding) : Type 0 where
-  pub says : (i : I) → foundOf k y w d r ≡ f i
+  pub says : (i : I) → found_of k y w d r ≡ f i
   pub stands : reach r.trend (length y) ≤ length w
   pub changed : Changed k l (length y) w₀ w c₀ c d₀ d
 

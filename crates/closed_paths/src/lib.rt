@@ -1,18 +1,20 @@
 // The closed paths of a prepared series: what they have in common, L1 with lam 0 and with lam at least lam_max, and L2. What a path answers, and where its trend stands.
 // work holds the preparation first; a path writes only behind it.
+#![tactic(auto)]
+
 ghost use Rattle.std.specs.Prelude.{◌≡◌, List, ℕ, ◌-◌, ◌≤◌, Float, length};
 ghost use Rattle.differences.specs.Series.{Series};
-ghost use Rattle.fit.specs.Fit.{closed, pathZero, pathFlat, pathL2};
+ghost use Rattle.fit.specs.Fit.{closed, path_zero, path_flat, path_l2};
 ghost use Rattle.questions.specs.Asking.{asking};
-ghost use Rattle.dual_point.specs.Lanes.{searchArea};
-ghost use Rattle.closed_paths.specs.Trends.{ridgeArea};
+ghost use Rattle.dual_point.specs.Lanes.{search_area};
+ghost use Rattle.closed_paths.specs.Trends.{ridge_area};
 ghost use Rattle.closed_paths.specs.Taken.{AsksL1, AsksL2, Differences, Finds, Took};
 
 use fit::Numbers;
 use search::Reason;
 
 // Where a trend stands: the series is the trend; after the system of L2; or in the search's area, the candidate's if it won and else the iterate's.
-#[derive(Drop)]
+#[derive(Clone, Copy)]
 pub enum Trend {
     Series,
     Solution,
@@ -20,14 +22,14 @@ pub enum Trend {
 }
 
 // What a path found: where its trend stands, and its numbers.
-#[derive(Drop)]
+#[derive(Clone, Copy)]
 pub struct Finding {
     pub trend: Trend,
     pub numbers: Numbers,
 }
 
 // A pivot of the system was bad, or what was found.
-#[derive(Drop)]
+#[derive(Clone, Copy)]
 pub enum Path {
     Lost,
     Done(Finding),
@@ -35,7 +37,7 @@ pub enum Path {
 
 // The first places of cycle become D y, which stands in the preparation.
 pub fn differences_to(cycle: &mut [f64], work: &[f64], y: &[f64], k: usize)
-    requires { AsksL1 k (searchArea (length y.now)) y.now work.now cycle.old }
+    requires { AsksL1 k (search_area (length y.now)) y.now work.now cycle.old }
     ensures { Differences k y.now cycle.old cycle.new }
 {
     let n = y.len();
@@ -63,7 +65,7 @@ pub fn closed(gap: f64, objective: f64) -> Numbers
 // L1 with lam 0: the series is the trend, and the dual point is 0.
 pub fn zero_path(dual: &mut [f64], y: &[f64], k: usize) -> Finding
     requires { Series k (length y.now) × (length y.now - k ≤ length dual.old) }
-    ensures { (l : ℕ) (w c : List Float) → Finds (λ (i : (Float × Float) × (ℕ × ℕ)). pathZero (asking y.now i.0.0 i.0.1 i.1.0 k i.1.1)) k l y.now
+    ensures { (l : ℕ) (w c : List Float) → Finds (λ (i : (Float × Float) × (ℕ × ℕ)). path_zero (asking y.now i.0.0 i.0.1 i.1.0 k i.1.1)) k l y.now
         w w c c dual.old dual.new result }
 {
     let m = y.len() - k;
@@ -84,8 +86,8 @@ pub fn flat_path(
     lam: f64,
     k: usize,
 ) -> Finding
-    requires { AsksL1 k (searchArea (length y.now)) y.now work.old cycle.old × (length y.now - k ≤ length dual.old) }
-    ensures { Finds (λ (i : Float × (ℕ × ℕ)). pathFlat (asking y.now lam i.0 i.1.0 k i.1.1)) k (searchArea (length y.now)) y.now
+    requires { AsksL1 k (search_area (length y.now)) y.now work.old cycle.old × (length y.now - k ≤ length dual.old) }
+    ensures { Finds (λ (i : Float × (ℕ × ℕ)). path_flat (asking y.now lam i.0 i.1.0 k i.1.1)) k (search_area (length y.now)) y.now
         work.old work.new cycle.old cycle.new dual.old dual.new result }
 {
     differences_to(cycle, work, y, k);
@@ -105,8 +107,8 @@ pub fn flat_path(
 
 // L2: lost where a pivot of its system is bad. The system's rows end where the trend is to stand.
 pub fn l2_path(work: &mut [f64], dual: &mut [f64], y: &[f64], lam: f64, k: usize) -> Path
-    requires { AsksL2 k (ridgeArea (length y.now)) (length y.now) (length work.old) × (length y.now - k ≤ length dual.old) }
-    ensures { (tol : Float) (max-iter penalty : ℕ) (c : List Float) → Took (pathL2 (asking y.now lam tol max-iter k penalty)) k (ridgeArea (length y.now)) y.now
+    requires { AsksL2 k (ridge_area (length y.now)) (length y.now) (length work.old) × (length y.now - k ≤ length dual.old) }
+    ensures { (tol : Float) (max_iter penalty : ℕ) (c : List Float) → Took (path_l2 (asking y.now lam tol max_iter k penalty)) k (ridge_area (length y.now)) y.now
         work.old work.new c c dual.old dual.new result }
 {
     let n = y.len();

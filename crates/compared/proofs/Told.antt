@@ -15,72 +15,72 @@ use Rattle.fit.specs.Fit.{FitResult, Outcome, refused, fitted, fit, after, place
 use Rattle.trend_filter.specs.declared.Summary.{Summary}
 use Rattle.trend_filter.specs.declared.Answer.{Answer}
 use Rattle.trend_filter.specs.declared.Answer.TheVariants as answers
-use Rattle.trend_filter.specs.Answers.{Buffers, lent, summaryOf, answer_of, Gives, Answered}
+use Rattle.trend_filter.specs.Answers.{Buffers, lent, summary_of, answer_of, Gives, Answered}
 use Rattle.stored.specs.Words.{word_at}
-use Rattle.compared.specs.Outcomes.{sameFit, sameOutcome, Compares}
-use Rattle.compared.specs.Inner.{Holds, sameAnswer, Room}
+use Rattle.compared.specs.Outcomes.{same_fit, same_outcome, Compares}
+use Rattle.compared.specs.Inner.{Holds, same_answer, Room}
 
-refused-at : (s : List ℕ) (i : ℕ) (o : Outcome) {q : ℕ} → answers.Refused q ≡ answer_of o → eqb q (word_at s i) ≡ sameOutcome o s i
-unfolding sameOutcome answer_of
-refused-at s i (refused j) e = ap (λ (q : ℕ). eqb q (word_at s i)) (let f : _ ≡ j = cc in f)
-refused-at s i (fitted f) e = impossible cc
+refused_at : (s : List ℕ) (i : ℕ) (o : Outcome) {q : ℕ} → answers.Refused q ≡ answer_of o → eqb q (word_at s i) ≡ same_outcome o s i
+unfolding same_outcome answer_of
+refused_at s i (refused j) e = ap (λ (q : ℕ). eqb q (word_at s i)) (let f : _ ≡ j = cc in f)
+refused_at s i (fitted f) e = impossible cc
 
 -- a refusal is compared by its number
-told-refused : (s : List ℕ) (i : ℕ) {a : Asked} {r : Answer} {b c : Buffers} {q : ℕ} → Answered a r b c → r ≡ answers.Refused q → eqb q (word_at s i) ≡ sameOutcome (fit a (lent b)) s i
-told-refused s i {a} {r} {b} h e = refused-at s i (fit a (lent b)) (sym e ∙ h.gives.answer)
+told_refused : (s : List ℕ) (i : ℕ) {a : Asked} {r : Answer} {b c : Buffers} {q : ℕ} → Answered a r b c → r ≡ answers.Refused q → eqb q (word_at s i) ≡ same_outcome (fit a (lent b)) s i
+told_refused s i {a} {r} {b} h e = refused_at s i (fit a (lent b)) (sym e ∙ h.gives.answer)
 
 -- an answer with the numbers f: the fit, and where its places stand
 record Told (a : Asked) (b c : Buffers) (f : Summary) : Type 0 where
   pub whole : FitResult
   pub outcome : fit a (lent b) ≡ fitted whole
-  pub numbers : f ≡ summaryOf whole
+  pub numbers : f ≡ summary_of whole
   pub trend : take (length a.y) c.out.trend ≡ whole.trend
   pub cycle : take (length a.y) c.out.cycle ≡ whole.cycle
   pub knots : take f.knots c.out.knots ≡ whole.knots
   pub dual : take (places a) c.out.dual ≡ whole.dual
-  pub trend-in : length a.y ≤ length c.out.trend
-  pub cycle-in : length a.y ≤ length c.out.cycle
-  pub knots-in : f.knots ≤ length c.out.knots
-  pub dual-in : places a ≤ length c.out.dual
+  pub trend_in : length a.y ≤ length c.out.trend
+  pub cycle_in : length a.y ≤ length c.out.cycle
+  pub knots_in : f.knots ≤ length c.out.knots
+  pub dual_in : places a ≤ length c.out.dual
   pub few : f.knots ≤ length a.y
 
 told_of : (a : Asked) (b c : Buffers) (o : Outcome) {r : Answer} {f : Summary} → fit a (lent b) ≡ o → r ≡ answers.Fit f → Gives o r b.out c.out
     → ((g : FitResult) → fit a (lent b) ≡ fitted g → Lengths a g) → Told a b c f
-unfolding answer_of after summaryOf
+unfolding answer_of after summary_of
 told_of a b c (refused q) {r} {f} e p h z =
     let m : answers.Fit f ≡ answer_of (refused q) = sym p ∙ h.answer in
     impossible cc
 told_of a b c (fitted g) {r} {f} e p h z =
     let m : answers.Fit f ≡ answer_of (fitted g) = sym p ∙ h.answer in
-    let n : f ≡ summaryOf g = cc in
+    let n : f ≡ summary_of g = cc in
     let k : f.knots ≡ length g.knots = ap (λ (x : Summary). x.knots) n in
     let l = z g e in
-    let trend-is = ap (λ (x : Outputs). x.trend) h.out in
+    let trend_is = ap (λ (x : Outputs). x.trend) h.out in
     let cycle-is = ap (λ (x : Outputs). x.cycle) h.out in
     let knots-is = ap (λ (x : Outputs). x.knots) h.out in
-    let dual-is = ap (λ (x : Outputs). x.dual) h.out in
+    let dual_is = ap (λ (x : Outputs). x.dual) h.out in
     record {
       whole = g;
       outcome = e;
       numbers = n;
-      trend = take_put b.out.trend g.trend (length a.y) trend-is l.trend;
+      trend = take_put b.out.trend g.trend (length a.y) trend_is l.trend;
       cycle = take_put b.out.cycle g.cycle (length a.y) cycle-is l.cycle;
       knots = take_put b.out.knots g.knots f.knots knots-is (sym k);
-      dual = take_put b.out.dual g.dual (places a) dual-is l.dual;
-      trend-in = omega (arith, put-fits b.out.trend g.trend trend-is, l.trend);
-      cycle-in = omega (arith, put-fits b.out.cycle g.cycle cycle-is, l.cycle);
-      knots-in = omega (arith, put-fits b.out.knots g.knots knots-is, k);
-      dual-in = omega (arith, put-fits b.out.dual g.dual dual-is, l.dual);
+      dual = take_put b.out.dual g.dual (places a) dual_is l.dual;
+      trend_in = omega (arith, put-fits b.out.trend g.trend trend_is, l.trend);
+      cycle_in = omega (arith, put-fits b.out.cycle g.cycle cycle-is, l.cycle);
+      knots_in = omega (arith, put-fits b.out.knots g.knots knots-is, k);
+      dual_in = omega (arith, put-fits b.out.dual g.dual dual_is, l.dual);
       few = omega (arith, l.knots, k);
     }
 
 told : {a : Asked} {b c : Buffers} {r : Answer} {f : Summary} → Answered a r b c → r ≡ answers.Fit f → Told a b c f
 told {a} {b} {c} h e = told_of a b c (fit a (lent b)) refl e h.gives h.sizes
 
-fit-told : (s : List ℕ) (i : ℕ) {a : Asked} {b c : Buffers} {f : Summary} {m : ℕ} → m ≡ places a → Told a b c f
-    → sameFit f (take (length a.y - 0) c.out.trend) (take (length a.y - 0) c.out.cycle) (take (f.knots - 0) c.out.knots) (take (m - 0) c.out.dual) s i ≡ sameOutcome (fit a (lent b)) s i
-unfolding sameOutcome
-fit-told s i {a} {b} {c} {f} {m} p t =
+fit_told : (s : List ℕ) (i : ℕ) {a : Asked} {b c : Buffers} {f : Summary} {m : ℕ} → m ≡ places a → Told a b c f
+    → same_fit f (take (length a.y - 0) c.out.trend) (take (length a.y - 0) c.out.cycle) (take (f.knots - 0) c.out.knots) (take (m - 0) c.out.dual) s i ≡ same_outcome (fit a (lent b)) s i
+unfolding same_outcome
+fit_told s i {a} {b} {c} {f} {m} p t =
     let e : length a.y - 0 ≡ length a.y = omega arith in
     let k : f.knots - 0 ≡ f.knots = omega arith in
     let d : m - 0 ≡ places a = omega (arith, p) in
@@ -92,29 +92,29 @@ module _ {a : Asked} {b c : Buffers} {m : ℕ} (e : m ≡ places a) where
   told-room (answers.Refused q) h w = tt
   told-room (answers.Fit f) h w =
       let t : Told a b c f = told h refl in
-      record { trend = t.trend-in; cycle = t.cycle-in; knots-in = t.knots-in; dual = omega (arith, t.dual-in, e); week = w; fewer = omega (arith, e); few = omega (arith, t.few) }
+      record { trend = t.trend_in; cycle = t.cycle_in; knots_in = t.knots_in; dual = omega (arith, t.dual_in, e); week = w; fewer = omega (arith, e); few = omega (arith, t.few) }
 
   -- an answer is compared as its outcome is
-  told_same : (s : List ℕ) (i : ℕ) (r : Answer) → Answered a r b c → sameAnswer r (length a.y) m c.out.trend c.out.cycle c.out.knots c.out.dual s i ≡ sameOutcome (fit a (lent b)) s i
-  unfolding sameAnswer
-  told_same s i (answers.Refused q) h = told-refused s i h refl
-  told_same s i (answers.Fit f) h = fit-told s i e (told h refl)
+  told_same : (s : List ℕ) (i : ℕ) (r : Answer) → Answered a r b c → same_answer r (length a.y) m c.out.trend c.out.cycle c.out.knots c.out.dual s i ≡ same_outcome (fit a (lent b)) s i
+  unfolding same_answer
+  told_same s i (answers.Refused q) h = told_refused s i h refl
+  told_same s i (answers.Fit f) h = fit_told s i e (told h refl)
 
-  pub told-compares : {s : List ℕ} {i : ℕ} {r : Answer} {z : Bool} → z ≡ sameAnswer r (length a.y) m c.out.trend c.out.cycle c.out.knots c.out.dual s i → Answered a r b c → Compares a z b c s i
+  pub told-compares : {s : List ℕ} {i : ℕ} {r : Answer} {z : Bool} → z ≡ same_answer r (length a.y) m c.out.trend c.out.cycle c.out.knots c.out.dual s i → Answered a r b c → Compares a z b c s i
   told-compares {s} {i} {r} p h = record { same = p ∙ told_same s i r h; answered = subst (λ (x : Answer). Answered a x b c) h.gives.answer h }
 
 -- slices that hold a fit, and their parts
 pub held : {r : Answer} {f : Summary} {n m t c k d : ℕ} → r ≡ answers.Fit f → Room r n m t c k d → Holds f.knots n m t c k d
 held {r} {f} {n} {m} {t} {c} {k} {d} e h = subst (λ (x : Answer). Room x n m t c k d) e h
 
-part-short : {A : Type 0} {n : ℕ} (v : List A) → n ≤ length v → n ≤ 168 → length (take (n - 0) v) ≤ 168
-part-short {A} {n} v h w = let e : n - 0 ≡ n = omega arith in rw e (omega (arith, length-take-le n v h, w))
+part_short : {A : Type 0} {n : ℕ} (v : List A) → n ≤ length v → n ≤ 168 → length (take (n - 0) v) ≤ 168
+part_short {A} {n} v h w = let e : n - 0 ≡ n = omega arith in rw e (omega (arith, length-take-le n v h, w))
 
-pub parts-short : {A B : Type 0} {q n m : ℕ} (t c : List A) (l : List B) (d : List A) → Holds q n m (length t) (length c) (length l) (length d)
+pub parts_short : {A B : Type 0} {q n m : ℕ} (t c : List A) (l : List B) (d : List A) → Holds q n m (length t) (length c) (length l) (length d)
     → (length (take (n - 0) t) ≤ 168) × (length (take (n - 0) c) ≤ 168) × (length (take (q - 0) l) ≤ 168) × (length (take (m - 0) d) ≤ 168)
-parts-short t c l d h = (
-  part-short t h.trend h.week,
-  part-short c h.cycle h.week,
-  part-short l h.knots-in h.few,
-  part-short d h.dual (omega (arith, h.fewer, h.week)),
+parts_short t c l d h = (
+  part_short t h.trend h.week,
+  part_short c h.cycle h.week,
+  part_short l h.knots_in h.few,
+  part_short d h.dual (omega (arith, h.fewer, h.week)),
 )

@@ -3,18 +3,18 @@ use Rattle.std.specs.Prelude.{ℕ, ◌-◌, ◌≤◌, Bool, List, take, eqb, Fl
 use Rattle.trend_filter.specs.declared.Answer.{Answer}
 use Rattle.trend_filter.specs.declared.Answer.TheVariants.{Fit, Refused}
 use Rattle.stored.specs.Words.{word_at}
-use Rattle.compared.specs.Outcomes.{sameFit}
+use Rattle.compared.specs.Outcomes.{same_fit}
 
 -- whether an answer is stored from word a on, where the places of a fit of n, with m differences, stand first in longer slices
-unfoldable pub sameAnswer : Answer → ℕ → ℕ → List Float → List Float → List ℕ → List Float → List ℕ → ℕ → Bool
-sameAnswer (Refused q) n m trend cycle knots dual s a = eqb q (word_at s a)
-sameAnswer (Fit f) n m trend cycle knots dual s a = sameFit f (take (n - 0) trend) (take (n - 0) cycle) (take (f.knots - 0) knots) (take (m - 0) dual) s a
+unfoldable pub same_answer : Answer → ℕ → ℕ → List Float → List Float → List ℕ → List Float → List ℕ → ℕ → Bool
+same_answer (Refused q) n m trend cycle knots dual s a = eqb q (word_at s a)
+same_answer (Fit f) n m trend cycle knots dual s a = same_fit f (take (n - 0) trend) (take (n - 0) cycle) (take (f.knots - 0) knots) (take (m - 0) dual) s a
 
 -- slices of t, c, k and d places hold a fit of n, which is a week's at most, with m differences and so many knots
 pub record Holds (knots n m t c k d : ℕ) : Type 0 where
   pub trend : n ≤ t
   pub cycle : n ≤ c
-  pub knots-in : knots ≤ k
+  pub knots_in : knots ≤ k
   pub dual : m ≤ d
   pub week : n ≤ 168
   pub fewer : m ≤ n

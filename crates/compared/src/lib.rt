@@ -1,15 +1,17 @@
 // The outcome of a fit, compared with what is stored.
+#![tactic(auto)]
+
 ghost use Rattle.std.specs.Prelude.{◌≡◌, ◌≤◌, ◌<◌, length};
 ghost use Rattle.questions.specs.Asking.{asking};
-ghost use Rattle.trend_filter.specs.Inner.{oneIf};
+ghost use Rattle.trend_filter.specs.Inner.{one_if};
 ghost use Rattle.trend_filter.specs.Answers.{buffers};
-ghost use Rattle.compared.specs.Outcomes.{sameSummary, sameFit, Compares};
-ghost use Rattle.compared.specs.Inner.{sameAnswer, Room};
+ghost use Rattle.compared.specs.Outcomes.{same_summary, same_fit, Compares};
+ghost use Rattle.compared.specs.Inner.{same_answer, Room};
 
 use trend_filter::{Answer, Summary, TrendFilterOptions, l1_trend_filter};
 
 fn one_if(b: bool) -> u64
-    ensures { result ≡ oneIf b }
+    ensures { result ≡ one_if b }
 {
     if b { 1 } else { 0 }
 }
@@ -23,7 +25,7 @@ fn wide(x: u32) -> u64
 // Whether the numbers of a fit are the words from a on.
 fn same_summary(f: Summary, s: &[u8; 131072], a: usize) -> bool
     requires { a < 32768 }
-    ensures { result ≡ sameSummary f s.now a }
+    ensures { result ≡ same_summary f s.now a }
 {
     let why = f.reason;
     let r = search::number(why);
@@ -47,7 +49,7 @@ fn same_fit(
 ) -> bool
     requires trend_len_bound { (length trend.now ≤ 168) × (length cycle.now ≤ 168) × (length knots.now ≤ 168) × (length dual.now ≤ 168) }
     requires a_bound { a < 32000 }
-    ensures { result ≡ sameFit f trend.now cycle.now knots.now dual.now s.now a }
+    ensures { result ≡ same_fit f trend.now cycle.now knots.now dual.now s.now a }
 {
     let w = stored::word(s, a);
     let n = same_summary(f, s, a + 1);
@@ -69,7 +71,7 @@ fn same_answer(
 ) -> bool
     requires room { Room r n m (length trend.now) (length cycle.now) (length knots.now) (length dual.now) }
     requires a_bound { a < 32000 }
-    ensures { result ≡ sameAnswer r n m trend.now cycle.now knots.now dual.now s.now a }
+    ensures { result ≡ same_answer r n m trend.now cycle.now knots.now dual.now s.now a }
 {
     match r {
         Answer::Refused(q) => wide(q) == stored::word(s, a),

@@ -7,7 +7,7 @@ use lib.Dec.{leb}
 use lib.Ieee.{Float}
 use borrow.Author.Tests.{leb-true, le-leb, lt-leb}
 use Rattle.float64.specs.Helpers.{is_finite}
-use Rattle.float64.proofs.Order.{and-off}
+use Rattle.float64.proofs.Order.{and_off}
 use Rattle.vectors.proofs.Sums.{both}
 use Rattle.questions.proofs.Laws.{past}
 use Rattle.crossings.specs.Crossings.{unlisted}
@@ -25,17 +25,17 @@ module _ (level : Float) (n places : ℕ) where
   unfolding unlisted
   level-refused f = rw f
 
-  pub size-refused : is_finite level ≡ true → (65536 < n) ⊎ (places < n) → unlisted level n places ≡ 19
+  pub size_refused : is_finite level ≡ true → (65536 < n) ⊎ (places < n) → unlisted level n places ≡ 19
   unfolding unlisted
-  size-refused f o = rw f
+  size_refused f o = rw f
       (⊎_elim
       (λ (h : 65536 < n). rw (lt-leb n 65536 h))
-      (λ (h : places < n). rw (lt-leb n places h, and-off (leb n 65536)))
+      (λ (h : places < n). rw (lt-leb n places h, and_off (leb n 65536)))
       o)
 
-  pub not-refused : is_finite level ≡ true → n ≤ 65536 → n ≤ places → unlisted level n places ≡ 0
+  pub not_refused : is_finite level ≡ true → n ≤ 65536 → n ≤ places → unlisted level n places ≡ 0
   unfolding unlisted
-  not-refused f h g = rw (f, le-leb n 65536 h, le-leb n places g)
+  not_refused f h g = rw (f, le-leb n 65536 h, le-leb n places g)
 
   -- what then is sure
   pub has_room : unlisted level n places ≡ 0 → (n ≤ places) × (n ≤ 65536)

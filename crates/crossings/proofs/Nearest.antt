@@ -11,49 +11,49 @@ use lib.ListN.{length, get_or, drop, drop_of_length-le}
 use lib.Seq.{drop-cons}
 use borrow.Author.Tests.{ltb-true, ltb-false, lt-ltb, le-ltb, le-leb, lt-leb}
 use Rattle.float64.proofs.Clash.{impossible}
-use Rattle.float64.proofs.Order.{and-off}
+use Rattle.float64.proofs.Order.{and_off}
 use Rattle.vectors.specs.Vec.{apart}
 use Rattle.vectors.specs.Rising.{Among}
 use Rattle.vectors.proofs.Parts.{split}
 use Rattle.crossings.specs.declared.Near.TheVariants.{Knot, NoKnot, Refused}
-use Rattle.crossings.specs.Nearest.{nearer, nearestOf, nearestIn, nearestKnot, NearestOne, AnswersNearest}
+use Rattle.crossings.specs.Nearest.{nearer, nearest_of, nearest_in, nearest_knot, NearestOne, AnswersNearest}
 
 -- ---- whether it is refused
 
-pub no_place : (p n : ℕ) (knots : List ℕ) → (65536 < n) ⊎ (n ≤ p) → nearestKnot p n knots ≡ Refused 19
-unfolding nearestKnot
+pub no_place : (p n : ℕ) (knots : List ℕ) → (65536 < n) ⊎ (n ≤ p) → nearest_knot p n knots ≡ Refused 19
+unfolding nearest_knot
 no_place p n knots o =
     ⊎_elim
     (λ (h : 65536 < n). rw (lt-leb n 65536 h))
-    (λ (h : n ≤ p). rw (le-ltb p n h, and-off (leb n 65536)))
+    (λ (h : n ≤ p). rw (le-ltb p n h, and_off (leb n 65536)))
     o
 
-pub a-place : (p n : ℕ) (knots : List ℕ) → n ≤ 65536 → p < n → nearestKnot p n knots ≡ nearestIn p knots
-unfolding nearestKnot
-a-place p n knots h g = rw (le-leb n 65536 h, lt-ltb p n g)
+pub a_place : (p n : ℕ) (knots : List ℕ) → n ≤ 65536 → p < n → nearest_knot p n knots ≡ nearest_in p knots
+unfolding nearest_knot
+a_place p n knots h g = rw (le-leb n 65536 h, lt-ltb p n g)
 
 -- ---- a loop over the knots
 
 -- one more looked at
-pub nearest-more : (p : ℕ) (knots : List ℕ) (i a : ℕ) {r k : ℕ} → nearestOf p a (drop i knots) ≡ k → i < length knots → r ≡ nearer p a (get_or knots i 0) → nearestOf p r (drop (i + 1) knots) ≡ k
-unfolding nearestOf
-nearest-more p knots i a e h s = rw (add-one i, s) (ap (nearestOf p a) (sym (drop-cons knots i 0 h)) ∙ e)
+pub nearest_more : (p : ℕ) (knots : List ℕ) (i a : ℕ) {r k : ℕ} → nearest_of p a (drop i knots) ≡ k → i < length knots → r ≡ nearer p a (get_or knots i 0) → nearest_of p r (drop (i + 1) knots) ≡ k
+unfolding nearest_of
+nearest_more p knots i a e h s = rw (add-one i, s) (ap (nearest_of p a) (sym (drop-cons knots i 0 h)) ∙ e)
 
 -- none is left
-pub nearest-done : (p : ℕ) (knots : List ℕ) (i : ℕ) {a k : ℕ} → nearestOf p a (drop i knots) ≡ k → length knots ≤ i → a ≡ k
-unfolding nearestOf
-nearest-done p knots i {a} e h = sym (ap (nearestOf p a) (drop_of_length-le knots h)) ∙ e
+pub nearest_done : (p : ℕ) (knots : List ℕ) (i : ℕ) {a k : ℕ} → nearest_of p a (drop i knots) ≡ k → length knots ≤ i → a ≡ k
+unfolding nearest_of
+nearest_done p knots i {a} e h = sym (ap (nearest_of p a) (drop_of_length-le knots h)) ∙ e
 
 -- with knots and with none
-pub nearest-some : (p : ℕ) (knots : List ℕ) → 0 < length knots → nearestIn p knots ≡ Knot (nearestOf p (get_or knots 0 0) (drop 1 knots))
-unfolding nearestIn
-nearest-some p [] h = absurd (omega arith)
-nearest-some p (a ∷ l) h = refl
+pub nearest_some : (p : ℕ) (knots : List ℕ) → 0 < length knots → nearest_in p knots ≡ Knot (nearest_of p (get_or knots 0 0) (drop 1 knots))
+unfolding nearest_in
+nearest_some p [] h = absurd (omega arith)
+nearest_some p (a ∷ l) h = refl
 
-pub nearest-none : (p : ℕ) (knots : List ℕ) → length knots ≡ 0 → nearestIn p knots ≡ NoKnot
-unfolding nearestIn
-nearest-none p [] h = refl
-nearest-none p (a ∷ l) h = absurd (omega arith)
+pub nearest_none : (p : ℕ) (knots : List ℕ) → length knots ≡ 0 → nearest_in p knots ≡ NoKnot
+unfolding nearest_in
+nearest_none p [] h = refl
+nearest_none p (a ∷ l) h = absurd (omega arith)
 
 -- ---- the order in which one is the nearest
 
@@ -107,13 +107,13 @@ taken p a b = go (ltb (apart p a) (apart p b)) (ltb (apart p b) (apart p a)) ref
 
 -- ---- the nearest of all
 
-against-each : (p a : ℕ) (l : List ℕ) (q : ℕ) → q < length (a ∷ l) → Holds-against p (nearestOf p a l) (get_or (a ∷ l) q 0)
-unfolding nearestOf
-against-each p a [] zero h = itself p a
-against-each p a [] (suc q) h = absurd (omega arith)
-against-each p a (b ∷ l) zero h = through (against-each p (nearer p a b) l 0 (omega arith)) (taken p a b).first
-against-each p a (b ∷ l) (suc zero) h = through (against-each p (nearer p a b) l 0 (omega arith)) (taken p a b).second
-against-each p a (b ∷ l) (suc (suc q)) h = against-each p (nearer p a b) l (suc q) (omega arith)
+against_each : (p a : ℕ) (l : List ℕ) (q : ℕ) → q < length (a ∷ l) → Holds-against p (nearest_of p a l) (get_or (a ∷ l) q 0)
+unfolding nearest_of
+against_each p a [] zero h = itself p a
+against_each p a [] (suc q) h = absurd (omega arith)
+against_each p a (b ∷ l) zero h = through (against_each p (nearer p a b) l 0 (omega arith)) (taken p a b).first
+against_each p a (b ∷ l) (suc zero) h = through (against_each p (nearer p a b) l 0 (omega arith)) (taken p a b).second
+against_each p a (b ∷ l) (suc (suc q)) h = against_each p (nearer p a b) l (suc q) (omega arith)
 
 at_head : (a : ℕ) (l : List ℕ) (k : ℕ) → k ≡ a → Among k (a ∷ l)
 at_head a l k e = record { place = 0; within = omega arith; holds = sym e }
@@ -121,13 +121,13 @@ at_head a l k e = record { place = 0; within = omega arith; holds = sym e }
 in_tail : (a : ℕ) (l : List ℕ) {k : ℕ} → Among k l → Among k (a ∷ l)
 in_tail a l m = record { place = suc m.place; within = omega (arith, m.within); holds = m.holds }
 
-is-listed : (p a : ℕ) (l : List ℕ) → Among (nearestOf p a l) (a ∷ l)
-unfolding nearestOf
-is-listed p a [] = at_head a [] a refl
-is-listed p a (b ∷ l) = let m = is-listed p (nearer p a b) l in go m.place m.within m.holds
+is_listed : (p a : ℕ) (l : List ℕ) → Among (nearest_of p a l) (a ∷ l)
+unfolding nearest_of
+is_listed p a [] = at_head a [] a refl
+is_listed p a (b ∷ l) = let m = is_listed p (nearer p a b) l in go m.place m.within m.holds
   where
     k : ℕ
-    k = nearestOf p (nearer p a b) l
+    k = nearest_of p (nearer p a b) l
 
     go : (q : ℕ) → q < length (nearer p a b ∷ l) → get_or (nearer p a b ∷ l) q 0 ≡ k → Among k (a ∷ b ∷ l)
     go zero h e = ⊎_elim
@@ -136,26 +136,26 @@ is-listed p a (b ∷ l) = let m = is-listed p (nearer p a b) l in go m.place m.w
         (taken p a b).one
     go (suc q) h e = in_tail a (b ∷ l) (in_tail b l (record { place = q; within = omega arith; holds = e }))
 
-against-all : (p a : ℕ) (l : List ℕ) (j : ℕ) → Among j (a ∷ l) → Holds-against p (nearestOf p a l) j
-against-all p a l j m = rw m.holds at (against-each p a l m.place m.within)
+against_all : (p a : ℕ) (l : List ℕ) (j : ℕ) → Among j (a ∷ l) → Holds-against p (nearest_of p a l) j
+against_all p a l j m = rw m.holds at (against_each p a l m.place m.within)
 
-nearest-one : (p a : ℕ) (l : List ℕ) → NearestOne p (a ∷ l) (nearestOf p a l)
-nearest-one p a l = record {
-  listed = is-listed p a l;
-  nearest = λ j h. omega (arith, (against-all p a l j h).near);
-  lowest = λ j h e. omega (arith, (against-all p a l j h).low e);
+nearest_one : (p a : ℕ) (l : List ℕ) → NearestOne p (a ∷ l) (nearest_of p a l)
+nearest_one p a l = record {
+  listed = is_listed p a l;
+  nearest = λ j h. omega (arith, (against_all p a l j h).near);
+  lowest = λ j h e. omega (arith, (against_all p a l j h).low e);
 }
 
-pub answers-nearest : (p : ℕ) (knots : List ℕ) → AnswersNearest p knots
-unfolding nearestIn
-answers-nearest p [] = record {
+pub answers_nearest : (p : ℕ) (knots : List ℕ) → AnswersNearest p knots
+unfolding nearest_in
+answers_nearest p [] = record {
   told = λ k e. impossible cc;
   only = λ k n. let w = n.listed.within in absurd (omega arith);
   none = λ e. refl;
 }
-answers-nearest p (a ∷ l) =
-    let m = nearestOf p a l in
-    let n = nearest-one p a l in
+answers_nearest p (a ∷ l) =
+    let m = nearest_of p a l in
+    let n = nearest_one p a l in
     record {
       told = λ k e. let s : m ≡ k = cc in rw s at n;
       only = λ k o.

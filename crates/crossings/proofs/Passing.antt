@@ -11,24 +11,24 @@ use lib.ListN.{length}
 use lib.Ieee.{Float, lt, le}
 use borrow.Author.Tests.{not-true}
 use Rattle.float64.specs.Helpers.{is_finite}
-use Rattle.float64.proofs.Order.{at-most-or-above, finite-no-nan}
+use Rattle.float64.proofs.Order.{at_most_or_above, finite_no_nan}
 use Rattle.vectors.specs.Vec.{at}
 use Rattle.vectors.specs.Rising.{Among}
 use Rattle.vectors.proofs.Sums.{both}
-use Rattle.vectors.proofs.Rising.{rising-within, none_between}
+use Rattle.vectors.proofs.Rising.{rising_within, none_between}
 use Rattle.vectors.proofs.Places.{places-rising, places-hold, places-all}
 use Rattle.crossings.specs.Crossings.{crosses_at, crossings}
 use Rattle.crossings.specs.Passing.{JustTheCrossings, NoNaN, crossing, PassesInTurn, Passing}
 
-just-the-crossings : (level : Float) (t : List Float) → JustTheCrossings level t
+just_the_crossings : (level : Float) (t : List Float) → JustTheCrossings level t
 unfolding crossings
-just-the-crossings level t =
+just_the_crossings level t =
     let p = crosses_at level t in
     let r = places-rising p (length t - 1) in
     record {
       each = λ i m. (omega (arith, m.holds, r.below m.place m.within), ap p (sym m.holds) ∙ places-hold p (length t - 1) m.place m.within);
       all = λ i h e. places-all p (length t - 1) i (omega arith) e;
-      rising = rising-within r (omega arith);
+      rising = rising_within r (omega arith);
     }
 
 -- ---- above the level or not, where nothing is a NaN
@@ -55,7 +55,7 @@ module _ (level : Float) (t : List Float) (finite : is_finite level ≡ true) (c
   over i = lt level (at t i)
 
   under : (i : ℕ) → i < length t → le (at t i) level ≡ not (over i)
-  under i h = at-most-or-above level (at t i) (finite-no-nan level finite) (clean i (omega (arith, h)))
+  under i h = at_most_or_above level (at t i) (finite_no_nan level finite) (clean i (omega (arith, h)))
 
   crosses-by : (i : ℕ) → i + 1 < length t → crosses_at level t i ≡ (not (over i) && over (i + 1)) || (over i && not (over (i + 1)))
   crosses-by i h = rw (under i (omega arith), under (i + 1) h)
@@ -76,7 +76,7 @@ module _ (level : Float) (t : List Float) (finite : is_finite level ≡ true) (c
       (i < i') × (i' + 1 < length t) × (over i' ≡ over (i + 1)) × (over (i' + 1) ≡ not (over (i + 1)))
   next_one j h =
       let l = crossings level t in
-      let w = just-the-crossings level t in
+      let w = just_the_crossings level t in
       let i = crossing level t j in
       let i' = crossing level t (j + 1) in
       let next : Among i' l = record { place = j + 1; within = h; holds = refl } in
@@ -91,7 +91,7 @@ module _ (level : Float) (t : List Float) (finite : is_finite level ≡ true) (c
   one-side-of e = go (over 0) refl
     where
       quiet : (i : ℕ) → i + 1 < length t → crosses_at level t i ≡ false
-      quiet i h = off (crosses_at level t i) (λ c. let m = (just-the-crossings level t).all i h c in omega (arith, m.within, ap length e))
+      quiet i h = off (crosses_at level t i) (λ c. let m = (just_the_crossings level t).all i h c in omega (arith, m.within, ap length e))
 
       start : (i : ℕ) → i < length t → over i ≡ over 0
       start i h = stays 0 i (omega arith) h (λ k a b. quiet k (omega arith))
@@ -102,11 +102,11 @@ module _ (level : Float) (t : List Float) (finite : is_finite level ≡ true) (c
 
   in-turn : PassesInTurn level t
   in-turn = record {
-    after-up = λ j h u.
+    after_up = λ j h u.
         let n = next_one j h in
         let e = (both (le (at t (crossing level t j)) level) _ u).1 in
         rw (under _ n.1, n.2 ∙ e, n.3 ∙ ap not e);
-    after-down = λ j h d.
+    after_down = λ j h d.
         let n = next_one j h in
         let i = crossing level t j in
         let e : over (i + 1) ≡ false = not-true _ (sym (under (i + 1) (omega (arith, n.0, n.1))) ∙ (both (over i) _ d).1) in
@@ -115,4 +115,4 @@ module _ (level : Float) (t : List Float) (finite : is_finite level ≡ true) (c
   }
 
 pub passing : Passing
-passing level t = (just-the-crossings level t, λ f n. in-turn level t f n)
+passing level t = (just_the_crossings level t, λ f n. in-turn level t f n)

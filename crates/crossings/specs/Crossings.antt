@@ -2,7 +2,7 @@
 use Rattle.std.specs.Prelude.{◌≡◌, Bool, cond, ◌&&◌, ◌||◌, List, ℕ, ◌+◌, ◌-◌, leb, eqb, length, Float}
 use Rattle.std.specs.Float.Ieee.{lt, le}
 use Rattle.float64.specs.Helpers.{is_finite}
-use Rattle.vectors.specs.Vec.{at, placesTo, put}
+use Rattle.vectors.specs.Vec.{at, places_to, put}
 use Rattle.questions.specs.Questions.{ask}
 use Rattle.crossings.specs.declared.Listed.{Listed}
 use Rattle.crossings.specs.declared.Listed.TheVariants.{Count, Refused}
@@ -16,20 +16,20 @@ abbrev pub downward : Float → Float → Float → Bool
 downward level a b = lt level a && le b level
 
 -- whether the trend t passes the level upward between the places i and i + 1
-abbrev pub risesAt : Float → List Float → ℕ → Bool
-risesAt level t i = upward level (at t i) (at t (i + 1))
+abbrev pub rises_at : Float → List Float → ℕ → Bool
+rises_at level t i = upward level (at t i) (at t (i + 1))
 
 -- whether it does downward
-abbrev pub fallsAt : Float → List Float → ℕ → Bool
-fallsAt level t i = downward level (at t i) (at t (i + 1))
+abbrev pub falls_at : Float → List Float → ℕ → Bool
+falls_at level t i = downward level (at t i) (at t (i + 1))
 
 -- whether it does one or the other
 abbrev pub crosses_at : Float → List Float → ℕ → Bool
-crosses_at level t i = risesAt level t i || fallsAt level t i
+crosses_at level t i = rises_at level t i || falls_at level t i
 
 -- the crossings: the i with i + 1 below n, the length of t, rising, at which it passes the level
 unfoldable pub crossings : Float → List Float → List ℕ
-crossings level t = placesTo (crosses_at level t) (length t - 1)
+crossings level t = places_to (crosses_at level t) (length t - 1)
 
 -- the first question answered no, and 0 where none is. 18: is the level finite? 19: is n at most 65,536, and has the list at least n places?
 unfoldable pub unlisted : Float → ℕ → ℕ → ℕ

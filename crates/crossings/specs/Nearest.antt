@@ -10,18 +10,18 @@ abbrev pub nearer : ℕ → ℕ → ℕ → ℕ
 nearer p a b = cond (ltb (apart p a) (apart p b)) a (cond (ltb (apart p b) (apart p a)) b (min a b))
 
 -- the nearest of the knot a and the knots that follow it
-unfoldable pub nearestOf : ℕ → ℕ → List ℕ → ℕ
-nearestOf p a [] = a
-nearestOf p a (b ∷ l) = nearestOf p (nearer p a b) l
+unfoldable pub nearest_of : ℕ → ℕ → List ℕ → ℕ
+nearest_of p a [] = a
+nearest_of p a (b ∷ l) = nearest_of p (nearer p a b) l
 
 -- the nearest of all knots, or that there is none
-unfoldable pub nearestIn : ℕ → List ℕ → Near
-nearestIn p [] = NoKnot
-nearestIn p (a ∷ l) = Knot (nearestOf p a l)
+unfoldable pub nearest_in : ℕ → List ℕ → Near
+nearest_in p [] = NoKnot
+nearest_in p (a ∷ l) = Knot (nearest_of p a l)
 
 -- the answer for a trend of n places; 19: is n at most 65,536, and p below n?
-unfoldable pub nearestKnot : ℕ → ℕ → List ℕ → Near
-nearestKnot p n knots = cond (leb n 65536 && ltb p n) (nearestIn p knots) (Refused 19)
+unfoldable pub nearest_knot : ℕ → ℕ → List ℕ → Near
+nearest_knot p n knots = cond (leb n 65536 && ltb p n) (nearest_in p knots) (Refused 19)
 
 -- k is one of the knots; none is nearer p, and none that is as near is lower
 pub record NearestOne (p : ℕ) (knots : List ℕ) (k : ℕ) : Type 0 where
@@ -32,8 +32,8 @@ pub record NearestOne (p : ℕ) (knots : List ℕ) (k : ℕ) : Type 0 where
 -- what is proved of the answer, for any knots (`Rattle.crossings.proofs.Nearest` proves it)
 pub record AnswersNearest (p : ℕ) (knots : List ℕ) : Type 0 where
   -- a knot that is told is such a one,
-  pub told : (k : ℕ) → nearestIn p knots ≡ Knot k → NearestOne p knots k
+  pub told : (k : ℕ) → nearest_in p knots ≡ Knot k → NearestOne p knots k
   -- whichever is such a one is told, so that there is but one,
-  pub only : (k : ℕ) → NearestOne p knots k → nearestIn p knots ≡ Knot k
+  pub only : (k : ℕ) → NearestOne p knots k → nearest_in p knots ≡ Knot k
   -- and that there is none is told only where no knot was lent
-  pub none : nearestIn p knots ≡ NoKnot → knots ≡ []
+  pub none : nearest_in p knots ≡ NoKnot → knots ≡ []

@@ -4,7 +4,7 @@ use Rattle.std.specs.Float.Ieee.{lt, le, is_nan}
 use Rattle.float64.specs.Helpers.{is_finite}
 use Rattle.vectors.specs.Vec.{at}
 use Rattle.vectors.specs.Rising.{Rising, Among}
-use Rattle.crossings.specs.Crossings.{risesAt, fallsAt, crosses_at, crossings}
+use Rattle.crossings.specs.Crossings.{rises_at, falls_at, crosses_at, crossings}
 
 -- every place listed is a crossing, every crossing is listed, and they rise strictly; for any level and any trend
 pub record JustTheCrossings (level : Float) (t : List Float) : Type 0 where
@@ -23,8 +23,8 @@ crossing level t j = get_or (crossings level t) j 0
 -- for a finite level and a trend with no NaN:
 pub record PassesInTurn (level : Float) (t : List Float) : Type 0 where
   -- in the list an upward crossing is followed by a downward one, and a downward one by an upward one
-  pub after-up : (j : ℕ) → j + 1 < length (crossings level t) → risesAt level t (crossing level t j) ≡ true → fallsAt level t (crossing level t (j + 1)) ≡ true
-  pub after-down : (j : ℕ) → j + 1 < length (crossings level t) → fallsAt level t (crossing level t j) ≡ true → risesAt level t (crossing level t (j + 1)) ≡ true
+  pub after_up : (j : ℕ) → j + 1 < length (crossings level t) → rises_at level t (crossing level t j) ≡ true → falls_at level t (crossing level t (j + 1)) ≡ true
+  pub after_down : (j : ℕ) → j + 1 < length (crossings level t) → falls_at level t (crossing level t j) ≡ true → rises_at level t (crossing level t (j + 1)) ≡ true
   -- with no crossing the whole trend is at or below the level, or all of it above
   pub one_side : crossings level t ≡ [] → ((i : ℕ) → i < length t → le (at t i) level ≡ true) ⊎ ((i : ℕ) → i < length t → lt level (at t i) ≡ true)
 

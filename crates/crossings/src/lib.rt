@@ -1,18 +1,20 @@
 // Where a trend passes a level, and the knot nearest a place. Nothing here alters a fit.
+#![tactic(auto)]
+
 ghost use Rattle.std.specs.Prelude.{◌≡◌, ◌||◌, ◌≤◌, ◌<◌, length, get_or, drop};
 ghost use Rattle.vectors.specs.Parts.{Wrote};
 ghost use Rattle.crossings.specs.Crossings.{upward, downward, crossings, unlisted, CrossingsListed};
-ghost use Rattle.crossings.specs.Nearest.{nearer, nearestOf, nearestKnot};
+ghost use Rattle.crossings.specs.Nearest.{nearer, nearest_of, nearest_knot};
 
 // How many places are listed, or a refusal's number.
-#[derive(Drop)]
+#[derive(Clone, Copy)]
 pub enum Listed {
     Count(usize),
     Refused(u32),
 }
 
 // The nearest knot, that there is none, or a refusal's number.
-#[derive(Drop)]
+#[derive(Clone, Copy)]
 pub enum Near {
     Knot(u32),
     NoKnot,
@@ -87,7 +89,7 @@ fn nearer(place: usize, a: u32, b: u32) -> u32
 // The nearest of the knots.
 fn nearest_of(place: usize, knots: &[u32]) -> u32
     requires { 0 < length knots.now }
-    ensures { result ≡ nearestOf place (get_or knots.now 0 0) (drop 1 knots.now) }
+    ensures { result ≡ nearest_of place (get_or knots.now 0 0) (drop 1 knots.now) }
 {
     let mut best = knots[0];
     let mut i = 1;
@@ -100,7 +102,7 @@ fn nearest_of(place: usize, knots: &[u32]) -> u32
 
 // The knot nearest a place of the trend, the lower at a tie.
 pub fn nearest_knot(place: u64, trend: &[f64], knots: &[u32]) -> Near
-    ensures { result ≡ nearestKnot place (length trend.now) knots.now }
+    ensures { result ≡ nearest_knot place (length trend.now) knots.now }
 {
     let n = trend.len();
     if 65536 < n {

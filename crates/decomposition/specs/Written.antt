@@ -1,7 +1,7 @@
 -- What the writing out of a fit asks of the buffers lent for it, and what it leaves in them. For the contracts between our own crates.
 use Rattle.std.specs.Prelude.{◌≡◌, List, ℕ, ◌≤◌, length, Float}
 use Rattle.vectors.specs.Vec.{put}
-use Rattle.differences.specs.Diff.{diffK}
+use Rattle.differences.specs.Diff.{diff_k}
 use Rattle.differences.specs.Series.{Series}
 use Rattle.certificate.specs.Certificate.{minus}
 use Rattle.decomposition.specs.Knots.{knots as knotsOf}
@@ -34,5 +34,5 @@ pub record Places (k : ℕ) (y x : List Float) (b : Decomposed) : Type 0 where
 pub record WroteOut (k : ℕ) (y x : List Float) (count : ℕ) (before after : Decomposed) : Type 0 where
   pub trend : after.trend ≡ put before.trend 0 x
   pub cycle : after.cycle ≡ put before.cycle 0 (minus y x)
-  pub knots : after.knots ≡ put before.knots 0 (knotsOf k y (diffK k x))
-  pub count-is : count ≡ length (knotsOf k y (diffK k x))
+  pub knots : after.knots ≡ put before.knots 0 (knotsOf k y (diff_k k x))
+  pub count_is : count ≡ length (knotsOf k y (diff_k k x))

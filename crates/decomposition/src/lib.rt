@@ -1,17 +1,19 @@
 // What is written of a trend: itself, its cycle and its knots.
+#![tactic(auto)]
+
 ghost use Rattle.std.specs.Prelude.{◌≡◌, ◌≤◌, length};
-ghost use Rattle.float64.specs.Helpers.{absOf};
+ghost use Rattle.float64.specs.Helpers.{abs_of};
 ghost use Rattle.vectors.specs.Vec.{at, put};
 ghost use Rattle.vectors.specs.Parts.{Wrote};
-ghost use Rattle.vectors.specs.Sums.{maxTo, maxAbs};
-ghost use Rattle.differences.specs.Diff.{diffK};
+ghost use Rattle.vectors.specs.Sums.{max_to, max_abs};
+ghost use Rattle.differences.specs.Diff.{diff_k};
 ghost use Rattle.certificate.specs.Certificate.{minus};
 ghost use Rattle.differences.specs.Series.{Series};
 ghost use Rattle.decomposition.specs.Knots.{threshold, knots as knotsOf};
 ghost use Rattle.decomposition.specs.Written.{decomposed, KnotPlaces, Places, WroteOut};
 
 // The greatest |D y| and the greatest |y|, from 0; NaN is ignored.
-#[derive(Drop)]
+#[derive(Clone, Copy)]
 struct Peaks {
     differences: f64,
     values: f64,
@@ -20,7 +22,7 @@ struct Peaks {
 // The greatest |y|, where top is that of the places below from.
 fn max_rest(y: &[f64], from: usize, top: f64) -> f64
     requires { from ≤ length y.now }
-    ensures { top ≡ maxTo (λ j. absOf (at y.now j)) from → result ≡ maxAbs y.now }
+    ensures { top ≡ max_to (λ j. abs_of (at y.now j)) from → result ≡ max_abs y.now }
 {
     let mut top = top;
     let mut i = from;
@@ -35,7 +37,7 @@ fn max_rest(y: &[f64], from: usize, top: f64) -> f64
 // Both, side by side as far as D y goes.
 fn greatest(y: &[f64], k: usize) -> Peaks
     requires { Series k (length y.now) }
-    ensures { (result.differences ≡ maxAbs (diffK k y.now)) × (result.values ≡ maxAbs y.now) }
+    ensures { (result.differences ≡ max_abs (diff_k k y.now)) × (result.values ≡ max_abs y.now) }
 {
     let m = y.len() - k;
     let mut a = 0.0;
@@ -68,7 +70,7 @@ fn threshold(y: &[f64], k: usize) -> f64
 // The first places of knots become the knots of the trend x of y; how many there are.
 fn find_knots(knots: &mut [u32], x: &[f64], y: &[f64], k: usize) -> usize
     requires { KnotPlaces k (length y.now) (length x.now) (length knots.old) }
-    ensures { Wrote knots.old 0 (knotsOf k y.now (diffK k x.now)) knots.new result }
+    ensures { Wrote knots.old 0 (knotsOf k y.now (diff_k k x.now)) knots.new result }
 {
     let t = threshold(y, k);
     let m = x.len() - k;

@@ -14,30 +14,30 @@ unfoldable pub diff : List Float → List Float
 diff w = list (length w - 1) (rise w)
 
 -- D: k successive ones
-unfoldable pub diffK : ℕ → List Float → List Float
-diffK zero w = w
-diffK (suc k) w = diff (diffK k w)
+unfoldable pub diff_k : ℕ → List Float → List Float
+diff_k zero w = w
+diff_k (suc k) w = diff (diff_k k w)
 
 -- w[j-1] - w[j] of a series of m places, +0 beyond either end
 abbrev pub fall : ℕ → (ℕ → Float) → ℕ → Float
 fall m w j = cond (ltb 0 j) (w (j - 1)) c0 ⊖ cond (ltb j m) (w j) c0
 
 -- the transposed first differences: one place more
-unfoldable pub diffT : List Float → List Float
-diffT w = list (length w + 1) (fall (length w) (at w))
+unfoldable pub diff_t : List Float → List Float
+diff_t w = list (length w + 1) (fall (length w) (at w))
 
 -- D': k successive ones
-unfoldable pub diffKT : ℕ → List Float → List Float
-diffKT zero w = w
-diffKT (suc k) w = diffT (diffKT k w)
+unfoldable pub diff_kt : ℕ → List Float → List Float
+diff_kt zero w = w
+diff_kt (suc k) w = diff_t (diff_kt k w)
 
 -- the stencil of D, a row of it, for order 1 and 2; the last place of order 1 is unused
 abbrev pub stencil : ℕ → List Float
 stencil k = cond (eqb k 1) (neg c1 ∷ c1 ∷ c0 ∷ []) (c1 ∷ neg c2 ∷ c1 ∷ [])
 
 -- the Gram row: D D' at distance 0, 1, 2 from its diagonal
-abbrev pub gramRow : ℕ → List Float
-gramRow k =
+abbrev pub gram_row : ℕ → List Float
+gram_row k =
     cond (eqb k 1)
     (c2 ∷ neg c1 ∷ c0 ∷ [])
     (of_bits binary64 0x4018_0000_0000_0000 ∷ neg (of_bits binary64 0x4010_0000_0000_0000) ∷ c1 ∷ [])

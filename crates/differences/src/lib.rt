@@ -1,8 +1,10 @@
 // The differences of a series and their transpose, the stencil and the Gram row.
+#![tactic(auto)]
+
 ghost use Rattle.std.specs.Prelude.{◌≡◌, ◌≤◌, ◌<◌, ◌-◌, ◌+◌, length};
 ghost use Rattle.vectors.specs.Vec.{at, put};
-ghost use Rattle.vectors.specs.Sums.{norm2Sq};
-ghost use Rattle.differences.specs.Diff.{diffK, fall, diffKT, stencil as stencil_of, gramRow};
+ghost use Rattle.vectors.specs.Sums.{norm2_sq};
+ghost use Rattle.differences.specs.Diff.{diff_k, fall, diff_kt, stencil as stencil_of, gram_row};
 ghost use Rattle.differences.specs.Ends.{before, here};
 ghost use Rattle.differences.specs.Series.{Order, Series};
 
@@ -19,7 +21,7 @@ pub fn stencil(k: usize) -> [f64; 3]
 
 // The numbers of D D' by their distance from its diagonal.
 pub fn gram_offsets(k: usize) -> [f64; 3]
-    ensures { result ≡ gramRow k }
+    ensures { result ≡ gram_row k }
 {
     if k == 1 {
         [2.0, -1.0, 0.0]
@@ -45,7 +47,7 @@ fn here(v: &[f64], m: usize, j: usize) -> f64
 // Place i of D y, for order 1 and 2.
 pub fn diff_at(y: &[f64], k: usize, i: usize) -> f64
     requires { Order k × (i + k < length y.now) }
-    ensures { result ≡ at (diffK k y.now) i }
+    ensures { result ≡ at (diff_k k y.now) i }
 {
     if k == 1 {
         return y[i + 1] - y[i];
@@ -56,7 +58,7 @@ pub fn diff_at(y: &[f64], k: usize, i: usize) -> f64
 // The first places of d become D y.
 pub fn diff_k(d: &mut [f64], y: &[f64], k: usize)
     requires { Series k (length y.now) × (length y.now - k ≤ length d.old) }
-    ensures { d.new ≡ put d.old 0 (diffK k y.now) }
+    ensures { d.new ≡ put d.old 0 (diff_k k y.now) }
 {
     let m = y.len() - k;
     let mut i = 0;
@@ -94,7 +96,7 @@ fn fall_here(v: &[f64], j: usize) -> f64
 // Place j of D' z away from the ends, for order 1 and 2.
 pub fn diff_t_inner(z: &[f64], k: usize, j: usize) -> f64
     requires { Order k × (k ≤ j) × (j < length z.now) }
-    ensures { result ≡ at (diffKT k z.now) j }
+    ensures { result ≡ at (diff_kt k z.now) j }
 {
     if k == 1 {
         return z[j - 1] - z[j];
@@ -105,7 +107,7 @@ pub fn diff_t_inner(z: &[f64], k: usize, j: usize) -> f64
 // Any place j of D' z.
 pub fn diff_t_at(z: &[f64], k: usize, j: usize) -> f64
     requires { Order k × (j < length z.now + k) }
-    ensures { result ≡ at (diffKT k z.now) j }
+    ensures { result ≡ at (diff_kt k z.now) j }
 {
     if k <= j {
         if j < z.len() {
@@ -123,7 +125,7 @@ pub fn diff_t_at(z: &[f64], k: usize, j: usize) -> f64
 // Σ(D'v)²
 pub fn fall_squares(v: &[f64], k: usize) -> f64
     requires { Order k }
-    ensures { result ≡ norm2Sq (diffKT k v.now) }
+    ensures { result ≡ norm2_sq (diff_kt k v.now) }
 {
     let n = v.len() + k;
     let mut sum = 0.0;

@@ -12,16 +12,16 @@ use Rattle.vectors.specs.Parts.{Kept, part}
 use Rattle.vectors.proofs.Laws.{list_ext, kept_then}
 use Rattle.vectors.proofs.Parts.{length_part, at_part, part-below}
 use Rattle.dual_point.specs.Places.{point}
-use Rattle.dual_point.proofs.Points.{point-below}
-use Rattle.direction.specs.Direction.{dmu1At, dmu2At, direction, stepCapBy, stepCapTo}
-use Rattle.direction.specs.Places.{dmuAt, Directed}
+use Rattle.dual_point.proofs.Points.{point_below}
+use Rattle.direction.specs.Direction.{dmu1_at, dmu2_at, direction, step_cap_by, step_cap_to}
+use Rattle.direction.specs.Places.{dmu_at, Directed}
 
 -- ---- the step cap
 
-pub cap-more : (b m : ℕ) (s : List Float) (i : ℕ) (x y : Float) → i < m → x ≡ stepCapTo (point 0 m s) (point b m s) i
-    → y ≡ stepCapBy x (at s (m + i)) (at s (b + m + i)) → stepCapBy y (at s (m + m + i)) (at s (b + m + m + i)) ≡ stepCapTo (point 0 m s) (point b m s) (i + 1)
-unfolding stepCapTo
-cap-more b m s i x y h e f =
+pub cap_more : (b m : ℕ) (s : List Float) (i : ℕ) (x y : Float) → i < m → x ≡ step_cap_to (point 0 m s) (point b m s) i
+    → y ≡ step_cap_by x (at s (m + i)) (at s (b + m + i)) → step_cap_by y (at s (m + m + i)) (at s (b + m + m + i)) ≡ step_cap_to (point 0 m s) (point b m s) (i + 1)
+unfolding step_cap_to
+cap_more b m s i x y h e f =
     rw (
       add-one i,
       f,
@@ -33,11 +33,11 @@ cap-more b m s i x y h e f =
     )
 
 -- what is below a number is a number
-pub less-number : (q step : Float) → lt q step ≡ true → is_nan q ≡ false
+pub less_number : (q step : Float) → lt q step ≡ true → is_nan q ≡ false
 unfolding lt is_nan
-less-number nan step e = sym e
-less-number (inf s) step e = refl
-less-number (fin s m d) step e = refl
+less_number nan step e = sym e
+less_number (inf s) step e = refl
+less_number (fin s m d) step e = refl
 
 pub one_number : is_nan (of_bits binary64 0x3ff0_0000_0000_0000) ≡ false
 unfolding is_nan of_bits
@@ -46,26 +46,26 @@ one_number = refl
 -- ---- the direction
 
 -- a multiplier's lane, as a part
-dmu-done : (lower : Bool) (b c x m : ℕ) (lam inv-t : Float) (s : List Float) → x ≡ c
-    → list m (λ i. dmuAt lower lam inv-t (at s i) (at s (c + i)) (at s (b + i))) ≡ list (length (part 0 m s)) (λ i. dmuAt lower lam inv-t (at (part 0 m s) i) (at (part x m s) i) (at (part b m s) i))
-dmu-done lower b c x m lam inv-t s e =
-    list_ext m (λ i. dmuAt lower lam inv-t (at s i) (at s (c + i)) (at s (b + i))) (λ i. dmuAt lower lam inv-t (at (part 0 m s) i) (at (part x m s) i) (at (part b m s) i))
+dmu_done : (lower : Bool) (b c x m : ℕ) (lam inv_t : Float) (s : List Float) → x ≡ c
+    → list m (λ i. dmu_at lower lam inv_t (at s i) (at s (c + i)) (at s (b + i))) ≡ list (length (part 0 m s)) (λ i. dmu_at lower lam inv_t (at (part 0 m s) i) (at (part x m s) i) (at (part b m s) i))
+dmu_done lower b c x m lam inv_t s e =
+    list_ext m (λ i. dmu_at lower lam inv_t (at s i) (at s (c + i)) (at s (b + i))) (λ i. dmu_at lower lam inv_t (at (part 0 m s) i) (at (part x m s) i) (at (part b m s) i))
     (λ j l. rw (at_part 0 m s j j l (omega arith), at_part x m s j (c + j) l (omega arith), at_part b m s j (b + j) l refl))
-    ∙ ap (λ (n : ℕ). list n (λ i. dmuAt lower lam inv-t (at (part 0 m s) i) (at (part x m s) i) (at (part b m s) i))) (sym (length_part 0 m s))
+    ∙ ap (λ (n : ℕ). list n (λ i. dmu_at lower lam inv_t (at (part 0 m s) i) (at (part x m s) i) (at (part b m s) i))) (sym (length_part 0 m s))
 
 -- dmu1 and then dmu2 written after dz
-pub directed : (b m : ℕ) (lam inv-t : Float) (s₀ s s' : List Float) (cap : Float) → m + m + m ≤ b
-    → part (b + m) m s ≡ list m (λ i. dmuAt false lam inv-t (at s₀ i) (at s₀ (m + i)) (at s₀ (b + i))) → Kept (b + m) m s₀ s
-    → part (b + (m + m)) m s' ≡ list m (λ i. dmuAt true lam inv-t (at s i) (at s (m + m + i)) (at s (b + i))) → Kept (b + (m + m)) m s s'
-    → cap ≡ stepCapTo (point 0 m s') (point b m s') m → Directed lam inv-t b m s₀ s' cap
-unfolding direction dmu1At dmu2At
-directed b m lam inv-t s₀ s s' cap o e v f w t =
+pub directed : (b m : ℕ) (lam inv_t : Float) (s₀ s s' : List Float) (cap : Float) → m + m + m ≤ b
+    → part (b + m) m s ≡ list m (λ i. dmu_at false lam inv_t (at s₀ i) (at s₀ (m + i)) (at s₀ (b + i))) → Kept (b + m) m s₀ s
+    → part (b + (m + m)) m s' ≡ list m (λ i. dmu_at true lam inv_t (at s i) (at s (m + m + i)) (at s (b + i))) → Kept (b + (m + m)) m s s'
+    → cap ≡ step_cap_to (point 0 m s') (point b m s') m → Directed lam inv_t b m s₀ s' cap
+unfolding direction dmu1_at dmu2_at
+directed b m lam inv_t s₀ s s' cap o e v f w t =
     let x : b + (m + m) ≡ b + m + m = omega arith in
-    let ways : point b m s' ≡ direction lam inv-t (point 0 m s₀) (part b m s₀) = λ i. record {
+    let ways : point b m s' ≡ direction lam inv_t (point 0 m s₀) (part b m s₀) = λ i. record {
       z = (part-below nan b m w (omega arith) ∙ part-below nan b m v (omega arith)) i;
-      mu1 = (part-below nan (b + m) m w (omega arith) ∙ e ∙ dmu-done false b m (0 + m) m lam inv-t s₀ (omega arith)) i;
-      mu2 = (ap (λ (q : ℕ). part q m s') (sym x) ∙ f ∙ dmu-done true b (m + m) (0 + m + m) m lam inv-t s (omega arith)
-          ∙ λ j. (direction lam inv-t (point-below 0 m v (omega arith) j) (part-below nan b m v (omega arith) j)).mu2) i;
+      mu1 = (part-below nan (b + m) m w (omega arith) ∙ e ∙ dmu_done false b m (0 + m) m lam inv_t s₀ (omega arith)) i;
+      mu2 = (ap (λ (q : ℕ). part q m s') (sym x) ∙ f ∙ dmu_done true b (m + m) (0 + m + m) m lam inv_t s (omega arith)
+          ∙ λ j. (direction lam inv_t (point_below 0 m v (omega arith) j) (part-below nan b m v (omega arith) j)).mu2) i;
     } in
     let both = kept_then (b + m) (m + m) v w (omega arith) (omega arith) (omega arith) (omega arith) in
-    record { ways = ways; cap-is = t ∙ (λ i. stepCapTo (point-below 0 m both (omega arith) i) (ways i) m); kept = both }
+    record { ways = ways; cap_is = t ∙ (λ i. step_cap_to (point_below 0 m both (omega arith) i) (ways i) m); kept = both }

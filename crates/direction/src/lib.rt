@@ -1,15 +1,17 @@
 // The direction of a Newton step from a dual point, and the step cap. A point stands in a run as z, mu1, mu2, m places each.
+#![tactic(auto)]
+
 ghost use Rattle.std.specs.Prelude.{◌≡◌, false, ◌≤◌, ◌+◌, length};
 ghost use Rattle.std.specs.Float.Ieee.{is_nan};
 ghost use Rattle.vectors.specs.Vec.{at, list};
 ghost use Rattle.vectors.specs.Parts.{Kept, part};
 ghost use Rattle.dual_point.specs.Places.{point};
-ghost use Rattle.direction.specs.Direction.{stepCapBy, stepCapTo};
-ghost use Rattle.direction.specs.Places.{dmuAt, Edge, Lane, Directed};
+ghost use Rattle.direction.specs.Direction.{step_cap_by, step_cap_to};
+ghost use Rattle.direction.specs.Places.{dmu_at, Edge, Lane, Directed};
 
 // How the multiplier of the upper bound, or of the lower one, moves at a place where z moves by dz.
 fn dmu_at(z: f64, mu: f64, dz: f64, lam: f64, inv_t: f64, lower: bool) -> f64
-    ensures { result ≡ dmuAt lower lam inv_t z mu dz }
+    ensures { result ≡ dmu_at lower lam inv_t z mu dz }
 {
     if lower {
         let f2 = -z - lam;
@@ -22,7 +24,7 @@ fn dmu_at(z: f64, mu: f64, dz: f64, lam: f64, inv_t: f64, lower: bool) -> f64
 // The lesser of step and the step at which mu is left at a hundredth, if it falls: document 01's min, of which a number on the left leaves one comparison.
 fn cap_of(step: f64, mu: f64, dmu: f64) -> f64
     requires { is_nan step ≡ false }
-    ensures { (result ≡ stepCapBy step mu dmu) × (is_nan result ≡ false) }
+    ensures { (result ≡ step_cap_by step mu dmu) × (is_nan result ≡ false) }
 {
     if dmu < 0.0 {
         let q = 0.99 * (-mu / dmu);
@@ -47,7 +49,7 @@ fn edge_of(step: f64) -> f64
 }
 
 // A step and an edge of it.
-#[derive(Drop)]
+#[derive(Clone, Copy)]
 struct Edged {
     step: f64,
     edge: f64,
@@ -56,7 +58,7 @@ struct Edged {
 // The step capped by mu. It divides only where mu is not past the edge.
 fn capped(c: Edged, mu: f64, dmu: f64) -> Edged
     requires { (is_nan c.step ≡ false) × Edge c.step c.edge }
-    ensures { (result.step ≡ stepCapBy c.step mu dmu) × (is_nan result.step ≡ false) × Edge result.step result.edge }
+    ensures { (result.step ≡ step_cap_by c.step mu dmu) × (is_nan result.step ≡ false) × Edge result.step result.edge }
 {
     if c.edge * -dmu < mu {
         return c;
@@ -69,7 +71,7 @@ fn capped(c: Edged, mu: f64, dmu: f64) -> Edged
 // The greatest step, for the point in s and the direction from b on.
 fn cap(s: &[f64], b: usize, m: usize) -> f64
     requires { (m + m + m ≤ b) × (b + m + m + m ≤ length s.now) }
-    ensures { result ≡ stepCapTo (point 0 m s.now) (point b m s.now) m }
+    ensures { result ≡ step_cap_to (point 0 m s.now) (point b m s.now) m }
 {
     let mut c = Edged {
         step: 1.0,
@@ -87,7 +89,7 @@ fn cap(s: &[f64], b: usize, m: usize) -> f64
 // How the multipliers that stand from c on move, m places from b + c on. From b on stands dz.
 fn fill_dmu(s: &mut [f64], b: usize, c: usize, lam: f64, inv_t: f64, m: usize, lower: bool)
     requires { Lane m c b (length s.old) }
-    ensures { (part (b + c) m s.new ≡ list m (λ i. dmuAt lower lam inv_t (at s.old i) (at s.old (c + i)) (at s.old (b + i))))
+    ensures { (part (b + c) m s.new ≡ list m (λ i. dmu_at lower lam inv_t (at s.old i) (at s.old (c + i)) (at s.old (b + i))))
         × Kept (b + c) m s.old s.new }
 {
     let mut i = 0;

@@ -15,5 +15,5 @@ pub record Values : Type 0 where
   pub mu2 : Float
 
 -- those at place i
-abbrev pub valuesAt : Dual → ℕ → Values
-valuesAt p i = record { z = at p.z i; mu1 = at p.mu1 i; mu2 = at p.mu2 i }
+abbrev pub values_at : Dual → ℕ → Values
+values_at p i = record { z = at p.z i; mu1 = at p.mu1 i; mu2 = at p.mu2 i }

@@ -14,30 +14,30 @@ use Rattle.float64.proofs.Clash.{clash}
 use Rattle.vectors.specs.Vec.{at}
 use Rattle.vectors.specs.Parts.{part}
 use Rattle.vectors.proofs.Parts.{length_part}
-use Rattle.banded.specs.Rows.{Matrix, entry, placed, rowTo, row, rows, sound, good}
-use Rattle.banded.specs.Solve.{forwardAt, forward}
-use Rattle.banded.specs.Run.{flat, look, ofRun, Keeps, Holds, Stands, Factored, HasRow, Stored, Eliminated}
-use Rattle.banded.proofs.Laws.{within, one-row, above, entry-ext, length-rowTo, line-above, line-here, holds-none, holds-snoc, holds_kept, of-holds, unsound, part-stands, stands-part}
-use Rattle.banded.proofs.Forward.{forward-ext, length-forward, forward-rows}
+use Rattle.banded.specs.Rows.{Matrix, entry, placed, row_to, row, rows, sound, good}
+use Rattle.banded.specs.Solve.{forward_at, forward}
+use Rattle.banded.specs.Run.{flat, look, of_run, Keeps, Holds, Stands, Factored, HasRow, Stored, Eliminated}
+use Rattle.banded.proofs.Laws.{within, one_row, above, entry-ext, length-row_to, line_above, line-here, holds_none, holds_snoc, holds_kept, of-holds, unsound, part_stands, stands_part}
+use Rattle.banded.proofs.Forward.{forward_ext, length-forward, forward-rows}
 use Rattle.banded.proofs.Storing.{stored}
 use Rattle.elimination.specs.Decomposed.{Reached, Decomposed}
 
 -- ---- a row stored whole that is the factor's, and its place carried forward
 
 pub eliminated : {k m r : ℕ} {v : ℕ → Float} {x : Float} {s₀ s : List Float} {ok : Bool} → Stored k m r v x s₀ s
-    → ((c : ℕ) → c ≤ k → v c ≡ placed k (entry k (ofRun k s₀) (ofRun k s)) r c) → x ≡ forwardAt k (ofRun k s) (λ j. at s (m * (k + 1) + j)) (at s₀ (m * (k + 1) + r)) r
+    → ((c : ℕ) → c ≤ k → v c ≡ placed k (entry k (of_run k s₀) (of_run k s)) r c) → x ≡ forward_at k (of_run k s) (λ j. at s (m * (k + 1) + j)) (at s₀ (m * (k + 1) + r)) r
     → ok ≡ good (v k) → Eliminated k m r s₀ s ok
 eliminated {k} st made is g =
     record { elsewhere = st.elsewhere; made = λ c h. st.row c h ∙ made c h; carried = st.side ∙ is; pivot = g ∙ ap good (sym (st.row k (omega arith))) }
 
 -- a row in its place, and then the right side
-pub eliminated-any : {k m r : ℕ} {s₀ s : List Float} {x : Float} {ok : Bool} (q : ℕ) → Factored k r (k + 1) s₀ s → HasRow k m r (length s₀) → q ≡ m * (k + 1) + r
-    → x ≡ forwardAt k (ofRun k s) (λ j. at s (m * (k + 1) + j)) (at s q) r → ok ≡ good (flat k s r k) → Eliminated k m r s₀ (set s q x) ok
-eliminated-any {k} {m} {r} {s₀} {s} {x} {ok} q w has e is g =
+pub eliminated_any : {k m r : ℕ} {s₀ s : List Float} {x : Float} {ok : Bool} (q : ℕ) → Factored k r (k + 1) s₀ s → HasRow k m r (length s₀) → q ≡ m * (k + 1) + r
+    → x ≡ forward_at k (of_run k s) (λ j. at s (m * (k + 1) + j)) (at s q) r → ok ≡ good (flat k s r k) → Eliminated k m r s₀ (set s q x) ok
+eliminated_any {k} {m} {r} {s₀} {s} {x} {ok} q w has e is g =
     let p = r * (k + 1) in
     let h = has.row in
     let room : (r + 1) * (k + 1) ≤ m * (k + 1) = mul-le-mul_right (k + 1) (omega arith) in
-    let one = one-row k r in
+    let one = one_row k r in
     let here : (i j : ℕ) → i ≤ r → j ≤ k → flat k s i j ≡ flat k (set s q x) i j =
     λ i j u h. sym (get_or-set_other s q (i * (k + 1) + j) x nan (ne_of_lt (omega (arith, within k r i j (m * (k + 1)) room u h)))) in
     let same : (j : ℕ) → p ≤ j → at s j ≡ at s (p + (j - p)) = λ j a. let z : j ≡ p + (j - p) = omega arith in ap (at s) z in
@@ -45,48 +45,48 @@ eliminated-any {k} {m} {r} {s₀} {s} {x} {ok} q w has e is g =
     (stored {s = s} p q refl e has (record { size = w.kept.size; inside = λ j a b. same j a; below = w.kept.below; above = w.kept.above }))
     (λ c u.
     w.made c (omega arith)
-    ∙ entry-ext k r c (ofRun k s₀) (ofRun k s₀) (flat k s) (flat k (set s q x)) u (λ h. refl) (λ i j h l. here i j (omega arith) l) (λ j h. here r j (omega arith) (omega arith)))
+    ∙ entry-ext k r c (of_run k s₀) (of_run k s₀) (flat k s) (flat k (set s q x)) u (λ h. refl) (λ i j h l. here i j (omega arith) l) (λ j h. here r j (omega arith) (omega arith)))
     (is
-    ∙ forward-ext k r (flat k s) (flat k (set s q x)) (λ j. at s (m * (k + 1) + j)) (λ j. at (set s q x) (m * (k + 1) + j)) (at s q)
+    ∙ forward_ext k r (flat k s) (flat k (set s q x)) (λ j. at s (m * (k + 1) + j)) (λ j. at (set s q x) (m * (k + 1) + j)) (at s q)
     (λ c h. here r c (omega arith) (omega arith)) (λ j h. sym (get_or-set_other s q (m * (k + 1) + j) x nan (ne_of_lt (omega arith))))
-    ∙ ap (λ (v : Float). forwardAt k (ofRun k (set s q x)) (λ j. at (set s q x) (m * (k + 1) + j)) v r) (ap (at s) e ∙ w.kept.above (m * (k + 1) + r) (omega arith)))
+    ∙ ap (λ (v : Float). forward_at k (of_run k (set s q x)) (λ j. at (set s q x) (m * (k + 1) + j)) v r) (ap (at s) e ∙ w.kept.above (m * (k + 1) + r) (omega arith)))
     g
 
 -- ---- the first rows of the factor: none
 
-pub reached-none : (k m : ℕ) (a : Matrix) (v s : List Float) → Reached k m 0 a v s
+pub reached_none : (k m : ℕ) (a : Matrix) (v s : List Float) → Reached k m 0 a v s
 unfolding rows sound forward
-reached-none k m a v s = record { made = holds-none k s; firm = refl; side = λ j h. absurd (omega arith) }
+reached_none k m a v s = record { made = holds_none k s; firm = refl; side = λ j h. absurd (omega arith) }
 
 -- what lies ahead may change
-pub reached-kept : {k m r : ℕ} {a : Matrix} {v s s' : List Float} → Reached k m r a v s → ((q : ℕ) → q < r * (k + 1) → at s' q ≡ at s q)
+pub reached_kept : {k m r : ℕ} {a : Matrix} {v s s' : List Float} → Reached k m r a v s → ((q : ℕ) → q < r * (k + 1) → at s' q ≡ at s q)
     → ((j : ℕ) → j < r → at s' (m * (k + 1) + j) ≡ at s (m * (k + 1) + j)) → Reached k m r a v s'
-reached-kept {k} {m} {r} {a} {v} h e g = record { made = holds_kept h.made e; firm = h.firm; side = λ j u. g j (omega (arith, length-forward k (rows k a r) v r)) ∙ h.side j u }
+reached_kept {k} {m} {r} {a} {v} h e g = record { made = holds_kept h.made e; firm = h.firm; side = λ j u. g j (omega (arith, length-forward k (rows k a r) v r)) ∙ h.side j u }
 
 -- one more row: the run kept row r of a in its place, and had place r of v after the rows
 module _ {k m r : ℕ} {a : Matrix} {v s₀ s : List Float} {ok : Bool} (h : Reached k m r a v s₀) (e : Eliminated k m r s₀ s ok) (b : r < m)
-    (had : (j : ℕ) → j ≤ r → r ≤ j + k → ofRun k s₀ r j ≡ a r j) (right : at s₀ (m * (k + 1) + r) ≡ at v r) where
+    (had : (j : ℕ) → j ≤ r → r ≤ j + k → of_run k s₀ r j ≡ a r j) (right : at s₀ (m * (k + 1) + r) ≡ at v r) where
   abbrev f : List (List Float)
   f = rows k a r
 
-  places : (n : ℕ) → n ≤ k + 1 → (j : ℕ) → j < n → flat k s r j ≡ at (rowTo k a f r n) j
-  unfolding rowTo
+  places : (n : ℕ) → n ≤ k + 1 → (j : ℕ) → j < n → flat k s r j ≡ at (row_to k a f r n) j
+  unfolding row_to
   places zero u j w = absurd (omega arith)
   places (suc n) u j w =
-      let p = rowTo k a f r n in
+      let p = row_to k a f r n in
       ⊎_elim
       (λ (z : j ≡ n).
       rw z (e.made n (omega arith)
-      ∙ entry-ext k r n (ofRun k s₀) a (flat k s) (look (f ++ (p ∷ []))) (omega arith) (λ g. had (r + n - k) (omega arith) (omega arith))
-      (λ i c x g. e.elsewhere.below (i * (k + 1) + c) (above k r i c x g) ∙ h.made.same i c x g ∙ sym (ap (λ (l : List Float). at l c) (line-above f p i (omega (arith, h.made.shape.count)))))
+      ∙ entry-ext k r n (of_run k s₀) a (flat k s) (look (f ++ (p ∷ []))) (omega arith) (λ g. had (r + n - k) (omega arith) (omega arith))
+      (λ i c x g. e.elsewhere.below (i * (k + 1) + c) (above k r i c x g) ∙ h.made.same i c x g ∙ sym (ap (λ (l : List Float). at l c) (line_above f p i (omega (arith, h.made.shape.count)))))
       (λ c x. places n (omega arith) c x ∙ sym (ap (λ (l : List Float). at l c) (line-here f p r h.made.shape.count)))
-      ∙ sym (get_or_at p _ [] nan n (length-rowTo k a f r n))))
-      (λ (z : j < n). places n (omega arith) j z ∙ sym (get_or-append p _ nan j (omega (arith, length-rowTo k a f r n))))
+      ∙ sym (get_or_at p _ [] nan n (length-row_to k a f r n))))
+      (λ (z : j < n). places n (omega arith) j z ∙ sym (get_or-append p _ nan j (omega (arith, length-row_to k a f r n))))
       (eq-or-lt_of_le (le_of_suc-le-suc w))
 
   next : Holds k (r + 1) (f ++ (row k a f r ∷ [])) s
   unfolding row
-  next = holds-snoc (rowTo k a f r (k + 1)) (holds_kept h.made e.elsewhere.below) (length-rowTo k a f r (k + 1)) (λ j g. places (k + 1) (omega arith) j (omega arith))
+  next = holds_snoc (row_to k a f r (k + 1)) (holds_kept h.made e.elsewhere.below) (length-row_to k a f r (k + 1)) (λ j g. places (k + 1) (omega arith) j (omega arith))
 
   pivot : flat k s r k ≡ at (row k a f r) k
   pivot = next.same r k (omega arith) (omega arith) ∙ ap (λ (l : List Float). at l k) (line-here f (row k a f r) r h.made.shape.count)
@@ -95,7 +95,7 @@ module _ {k m r : ℕ} {a : Matrix} {v s₀ s : List Float} {ok : Bool} (h : Rea
   unfolding forward
   carried j u =
       let g = f ++ (row k a f r ∷ []) in
-      let same : forward k g v r ≡ forward k f v r = forward-rows k g f v r (λ i x. line-above f (row k a f r) i (omega (arith, h.made.shape.count))) in
+      let same : forward k g v r ≡ forward k f v r = forward-rows k g f v r (λ i x. line_above f (row k a f r) i (omega (arith, h.made.shape.count))) in
       let n = length-forward k f v r in
       let room : (r + 1) * (k + 1) ≤ m * (k + 1) = mul-le-mul_right (k + 1) (omega arith) in
       let old : (i : ℕ) → i < r → at s (m * (k + 1) + i) ≡ at (forward k f v r) i = λ i x. e.elsewhere.between (m * (k + 1) + i) (omega arith) (omega arith) ∙ h.side i (omega arith) in
@@ -103,7 +103,7 @@ module _ {k m r : ℕ} {a : Matrix} {v s₀ s : List Float} {ok : Bool} (h : Rea
       (⊎_elim
       (λ (z : j ≡ r).
       rw z (e.carried ∙ rw right
-      (forward-ext k r (flat k s) (look g) (λ i. at s (m * (k + 1) + i)) (at (forward k f v r)) (at v r) (λ c x. next.same r c (omega arith) (omega arith)) old)
+      (forward_ext k r (flat k s) (look g) (λ i. at s (m * (k + 1) + i)) (at (forward k f v r)) (at v r) (λ c x. next.same r c (omega arith) (omega arith)) old)
       ∙ sym (get_or_at (forward k f v r) _ [] nan r n)))
       (λ (z : j < r). old j z ∙ sym (get_or-append (forward k f v r) _ nan j (omega arith)))
       (eq-or-lt_of_le (omega (arith, length-forward k g v (suc r)))))
@@ -125,8 +125,8 @@ pub record Factoring (k m r : ℕ) (s₀ s : List Float) : Type 0 where
   pub later : (q : ℕ) → m * (k + 1) + r ≤ q → at s q ≡ at s₀ q
   pub done : (a : Matrix) (v : List Float) → Keeps k m a s₀ → Stands (m * (k + 1)) v s₀ → length v ≡ m → Reached k m r a v s
 
-pub factoring-none : (k m : ℕ) (s : List Float) → Factoring k m 0 s s
-factoring-none k m s = record { some = omega arith; size = refl; lower = λ q h g. refl; later = λ q h. refl; done = λ a v h st l. reached-none k m a v s }
+pub factoring_none : (k m : ℕ) (s : List Float) → Factoring k m 0 s s
+factoring_none k m s = record { some = omega arith; size = refl; lower = λ q h g. refl; later = λ q h. refl; done = λ a v h st l. reached_none k m a v s }
 
 module _ {k m r : ℕ} {s₀ s s' : List Float} {ok : Bool} (w : Factoring k m r s₀ s) (e : Eliminated k m r s s' ok) (b : r < m) where
   later_more : (q : ℕ) → m * (k + 1) + (r + 1) ≤ q → at s' q ≡ at s₀ q
@@ -136,7 +136,7 @@ module _ {k m r : ℕ} {s₀ s s' : List Float} {ok : Bool} (w : Factoring k m r
   size-more = e.elsewhere.size ∙ w.size
 
   module _ (a : Matrix) (v : List Float) (h : Keeps k m a s₀) (st : Stands (m * (k + 1)) v s₀) (l : length v ≡ m) where
-    had : (j : ℕ) → j ≤ r → r ≤ j + k → ofRun k s r j ≡ a r j
+    had : (j : ℕ) → j ≤ r → r ≤ j + k → of_run k s r j ≡ a r j
     had j g z = w.lower (r * (k + 1) + (j + k - r)) (omega arith) (above k m r (j + k - r) b (omega arith)) ∙ h r j b g z
 
     right : at s (m * (k + 1) + r) ≡ at v r
@@ -144,7 +144,7 @@ module _ {k m r : ℕ} {s₀ s s' : List Float} {ok : Bool} (w : Factoring k m r
 
   pub factoring-more : ok ≡ true → Factoring k m (r + 1) s₀ s'
   factoring-more t =
-      let one = one-row k r in
+      let one = one_row k r in
       record {
         some = omega arith;
         size = size-more;
@@ -160,7 +160,7 @@ module _ {k m r : ℕ} {s₀ s s' : List Float} {ok : Bool} (w : Factoring k m r
         let n = m * (k + 1) in
         let v = part n m s₀ in
         let l = length_part n m s₀ in
-        let st = part-stands n m s₀ in
+        let st = part_stands n m s₀ in
         sym (reached-bad (w.done a v g st l) e b (had a v g st l) (right a v g st l) t);
     factor = λ a g y. absurd (clash y refl);
     side = λ a g y. absurd (clash y refl);
@@ -170,7 +170,7 @@ module _ {k m r : ℕ} {s₀ s : List Float} (w : Factoring k m r s₀ s) (z : r
   all : (a : Matrix) → Keeps k m a s₀ → Reached k m m a (part (m * (k + 1)) m s₀) s
   all a g =
       let n = m * (k + 1) in
-      rw z at (w.done a (part n m s₀) g (part-stands n m s₀) (length_part n m s₀))
+      rw z at (w.done a (part n m s₀) g (part_stands n m s₀) (length_part n m s₀))
 
   pub factoring-done : Decomposed k m s₀ s true
   factoring-done =
@@ -180,5 +180,5 @@ module _ {k m r : ℕ} {s₀ s : List Float} (w : Factoring k m r s₀ s) (z : r
         kept = record { size = w.size; below = λ j h. absurd (omega arith); above = λ q h. w.later q (omega arith) };
         answer = λ a g. sym (all a g).firm;
         factor = λ a g y. of-holds k m (rows k a m) s (all a g).made;
-        side = λ a g y. stands-part n m (forward k (rows k a m) v m) s (length-forward k (rows k a m) v m) (all a g).side;
+        side = λ a g y. stands_part n m (forward k (rows k a m) v m) s (length-forward k (rows k a m) v m) (all a g).side;
       }

@@ -1,4 +1,6 @@
 // The L D L' factor of a banded symmetric matrix, in place, a row at a time, with the right side carried forward beside it.
+#![tactic(auto)]
+
 ghost use Rattle.std.specs.Prelude.{◌≡◌, ◌≤◌, ◌+◌, ◌*◌, length};
 ghost use Rattle.banded.specs.Rows.{good};
 ghost use Rattle.banded.specs.Run.{HasRow, Eliminated};
@@ -6,7 +8,7 @@ ghost use Rattle.elimination.specs.Decomposed.{Decomposed};
 ghost use Rattle.elimination.specs.Next.{Next1Made, Next2Made};
 
 // A row of the factor of order 1, and its place of the right side carried forward: left of the diagonal, the pivot, the right side.
-#[derive(Drop)]
+#[derive(Clone, Copy)]
 pub struct Row1 {
     pub left: f64,
     pub pivot: f64,
@@ -14,7 +16,7 @@ pub struct Row1 {
 }
 
 // The same of order 2: far is two places left of the diagonal.
-#[derive(Drop)]
+#[derive(Clone, Copy)]
 pub struct Row2 {
     pub far: f64,
     pub left: f64,

@@ -8,11 +8,11 @@ use native.Mathlib.Nat.{mod-eq_of_lt, pow-le-pow_right}
 use lib.Dec.{leb, ltb, lit<}
 use borrow.Author.Tests.{ltb-true, ltb-false, leb-true, leb-false}
 use Rattle.io.specs.Digits.{hex_digit_ascii, last_digits, IsDigitCount}
-use Rattle.fields.specs.Fields.{decimalIn}
+use Rattle.fields.specs.Fields.{decimal_in}
 
 -- no more digits than hold it
-pub fewest-le : (b least n r k : ℕ) → 0 < b → least ≤ k → n < b ^ k → IsDigitCount b least n r → r ≤ k
-fewest-le b least n r k hb hl hn f = go (leb r k) refl
+pub fewest_le : (b least n r k : ℕ) → 0 < b → least ≤ k → n < b ^ k → IsDigitCount b least n r → r ≤ k
+fewest_le b least n r k hb hl hn f = go (leb r k) refl
   where
     go : (t : Bool) → leb r k ≡ t → r ≤ k
     go true e = leb-true r k e
@@ -48,10 +48,10 @@ choose : (n r : ℕ) (l : List ℕ) (t : Bool) → ltb n 10 ≡ t → IsDigitCou
 choose n r l true e f g = one n r (ltb-true n 10 e) f
 choose n r l false e f g = ap (λ (k : List ℕ). k ++ (hex_digit_ascii (n % 10) ∷ [])) (g (ltb-false n 10 e))
 
-pub fewest-decimal : (most r n : ℕ) → n < 10 ^ suc most → IsDigitCount 10 1 n r → last_digits 10 r n ≡ decimalIn (suc most) n
-unfolding decimalIn
-fewest-decimal most zero n h f = absurd (omega (arith, f.0))
-fewest-decimal zero (suc r) n h f = choose n r [] (ltb n 10) refl f (λ k. absurd (omega arith))
-fewest-decimal (suc most) (suc r) n h f =
-    choose n r (decimalIn (suc most) (n / 10)) (ltb n 10) refl f
-    (λ k. fewest-decimal most r (n / 10) (omega (arith, pow_step 10 (suc most))) (off n r k f))
+pub fewest_decimal : (most r n : ℕ) → n < 10 ^ suc most → IsDigitCount 10 1 n r → last_digits 10 r n ≡ decimal_in (suc most) n
+unfolding decimal_in
+fewest_decimal most zero n h f = absurd (omega (arith, f.0))
+fewest_decimal zero (suc r) n h f = choose n r [] (ltb n 10) refl f (λ k. absurd (omega arith))
+fewest_decimal (suc most) (suc r) n h f =
+    choose n r (decimal_in (suc most) (n / 10)) (ltb n 10) refl f
+    (λ k. fewest_decimal most r (n / 10) (omega (arith, pow_step 10 (suc most))) (off n r k f))

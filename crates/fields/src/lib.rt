@@ -1,6 +1,8 @@
 // Numbers as bytes: each function writes from a place on and answers the place past it.
+#![tactic(auto)]
+
 ghost use Rattle.std.specs.Prelude.{[], ◌∷◌, ◌+◌, ◌≤◌, ◌<◌, length};
-ghost use Rattle.fields.specs.Fields.{decimal, hexOf, field, hexField};
+ghost use Rattle.fields.specs.Fields.{decimal, hex_of, field, hex_field};
 ghost use Rattle.fields.specs.Puts.{Puts};
 
 // One byte.
@@ -38,7 +40,7 @@ fn put_decimal(out: &mut [u8], at: usize, n: u64) -> usize
 // A double as sixteen hexadecimal digits.
 pub fn put_hex(out: &mut [u8], at: usize, x: f64) -> usize
     requires { at + 16 ≤ length out.old }
-    ensures { Puts out.old at (hexOf x) out.new result 16 }
+    ensures { Puts out.old at (hex_of x) out.new result 16 }
 {
     let mut text = [0u8; 16];
     let k = io::hex(float64::pattern(x), 16, &mut text);
@@ -56,7 +58,7 @@ pub fn put_field(out: &mut [u8], at: usize, n: u64) -> usize
 
 pub fn put_hex_field(out: &mut [u8], at: usize, x: f64) -> usize
     requires { at + 17 ≤ length out.old }
-    ensures { Puts out.old at (hexField x) out.new result 17 }
+    ensures { Puts out.old at (hex_field x) out.new result 17 }
 {
     let a = put_byte(out, at, 32);
     put_hex(out, a, x)

@@ -8,141 +8,141 @@ use mathlib.Core.Option.{Option, none, some, some-injective}
 use mathlib.Core.Logic.{◌⊎◌, inl, inr}
 use lib.Dec.{T, eqb, eqb→eq}
 use lib.Ieee.{Float}
-use Rattle.differences.specs.Diff.{gramRow}
+use Rattle.differences.specs.Diff.{gram_row}
 use Rattle.certificate.specs.Certificate.{Certificate}
 use Rattle.float64.proofs.Clash.{impossible}
 use Rattle.search.specs.declared.Reason.{Reason}
 use Rattle.search.specs.declared.Reason.TheVariants.{ClosedPath, LimitSpent}
-use Rattle.search.specs.Reasons.{atLimit}
+use Rattle.search.specs.Reasons.{at_limit}
 use Rattle.search.specs.Search.{Problem, Ended}
 use Rattle.search.specs.Bounds.{Bounded}
 use Rattle.search.specs.Demand3 as search
-use Rattle.search.specs.Looser.{finiteAbove0}
+use Rattle.search.specs.Looser.{finite_above0}
 use Rattle.search.proofs.Demand.{demand3, never-closed, bounded_closed}
-use Rattle.search.proofs.Looser.{tol-positive}
-use Rattle.interior_point.specs.InteriorPoint.{State, problem, origin, interiorPoint}
-use Rattle.l2.specs.L2.{soundL2}
+use Rattle.search.proofs.Looser.{tol_positive}
+use Rattle.interior_point.specs.InteriorPoint.{State, problem, origin, interior_point}
+use Rattle.l2.specs.L2.{sound_l2}
 use Rattle.questions.specs.Questions.{Asked, Lent, question}
 use Rattle.questions.proofs.Laws as questions
-use Rattle.fit.specs.Fit.{Found, FitResult, Outcome, refused, fitted, places, closed, pathL2, pathZero, pathFlat, polished, searchOf, keptOf, pathEnd, pathL1, path, written, outcome, fit}
-use Rattle.fit.specs.Ways.{lamZero, lamHigh, soundDD}
-use Rattle.fit.specs.Reasons.{numbersWith, withReason}
-use Rattle.fit.specs.Demand3.{Bounds, withMaxIter, Demand3}
+use Rattle.fit.specs.Fit.{Found, FitResult, Outcome, refused, fitted, places, closed, path_l2, path_zero, path_flat, polished, search_of, kept_of, path_end, path_l1, path, written, outcome, fit}
+use Rattle.fit.specs.Ways.{lam_zero, lam_high, sound_dd}
+use Rattle.fit.specs.Reasons.{numbers_with, with_reason}
+use Rattle.fit.specs.Demand3.{Bounds, with_max_iter, Demand3}
 use Rattle.fit.specs.Lasting.{Lasting}
-use Rattle.fit.proofs.Sign.{lam-positive, primal-clear}
-use Rattle.fit.proofs.Passed.{same-questions, fit_passed, outcome-some, Passed, passed, found-has}
+use Rattle.fit.proofs.Sign.{lam_positive, primal_clear}
+use Rattle.fit.proofs.Passed.{same_questions, fit_passed, outcome_some, Passed, passed, found_has}
 
 -- ---- the search of a fit
-abbrev pub problemOf : Asked → Problem State
-problemOf a = problem a.order (gramRow a.order) a.y a.lam
+abbrev pub problem_of : Asked → Problem State
+problem_of a = problem a.order (gram_row a.order) a.y a.lam
 
 abbrev Searches : Asked → Type 0
-Searches a = search.SearchDemand3 (problemOf a) a.tol (origin (places a))
+Searches a = search.SearchDemand3 (problem_of a) a.tol (origin (places a))
 
 -- what questions 5 and 6 make sure of
-pub tol-passed : (a : Asked) (l : Lent) → questions.Passed a l → T (finiteAbove0 a.tol)
-tol-passed a l q = subst T (sym (λ i. q.tol-finite i && q.tol-above i)) tt
+pub tol_passed : (a : Asked) (l : Lent) → questions.Passed a l → T (finite_above0 a.tol)
+tol_passed a l q = subst T (sym (λ i. q.tol_finite i && q.tol_above i)) tt
 
-pub sign-passed : (a : Asked) (l : Lent) → questions.Passed a l → lamZero a ≡ false → (s : State) → T (search.clear ((problemOf a).primal s))
-sign-passed a l q z = primal-clear a.order (gramRow a.order) a.y a.lam (lam-positive a.lam q.lam-finite q.lam-not-below z)
+pub sign_passed : (a : Asked) (l : Lent) → questions.Passed a l → lam_zero a ≡ false → (s : State) → T (search.clear ((problem_of a).primal s))
+sign_passed a l q z = primal_clear a.order (gram_row a.order) a.y a.lam (lam_positive a.lam q.lam_finite q.lam_not_below z)
 
-searches : (a : Asked) (l : Lent) → questions.Passed a l → lamZero a ≡ false → Searches a
-searches a l q z = demand3 (problemOf a) a.tol (tol-positive a.tol (tol-passed a l q)) (sign-passed a l q z) (origin (places a))
+searches : (a : Asked) (l : Lent) → questions.Passed a l → lam_zero a ≡ false → Searches a
+searches a l q z = demand3 (problem_of a) a.tol (tol_positive a.tol (tol_passed a l q)) (sign_passed a l q z) (origin (places a))
 
 -- ---- the numeric bounds
 
 -- the same four bounds of what a path finds
 abbrev FoundBounds : ℕ → Found → Type 0
-FoundBounds max-iter f = Bounded max-iter f.numbers.n_iter f.numbers.improvements f.numbers.first_gap f.numbers.best_gap
+FoundBounds max_iter f = Bounded max_iter f.numbers.n_iter f.numbers.improvements f.numbers.first_gap f.numbers.best_gap
 
-bounded-end : (a : Asked) → Searches a → FoundBounds a.max-iter (pathEnd a (searchOf a))
-unfolding pathEnd searchOf interiorPoint
-bounded-end a s = s.bounded a.max-iter
+bounded_end : (a : Asked) → Searches a → FoundBounds a.max_iter (path_end a (search_of a))
+unfolding path_end search_of interior_point
+bounded_end a s = s.bounded a.max_iter
 
-found-bounds : (a : Asked) (l : Lent) (f : FitResult) (p : Passed a l f) → FoundBounds a.max-iter p.found
-unfolding pathZero pathFlat
-found-bounds a l f p =
-    let shut = bounded_closed a.max-iter in
-    found-has a l f (FoundBounds a.max-iter) p
-    (record { squared = λ _ gap objective. shut gap; zero = λ _. shut _; flat = λ _. shut _; searched = λ z. bounded-end a (searches a l (questions.passed a l p.asked) z) })
+found_bounds : (a : Asked) (l : Lent) (f : FitResult) (p : Passed a l f) → FoundBounds a.max_iter p.found
+unfolding path_zero path_flat
+found_bounds a l f p =
+    let shut = bounded_closed a.max_iter in
+    found_has a l f (FoundBounds a.max_iter) p
+    (record { squared = λ _ gap objective. shut gap; zero = λ _. shut _; flat = λ _. shut _; searched = λ z. bounded_end a (searches a l (questions.passed a l p.asked) z) })
 
-pub bounds : (a : Asked) (l : Lent) (f : FitResult) → fit a l ≡ fitted f → Bounds a.max-iter f
+pub bounds : (a : Asked) (l : Lent) (f : FitResult) → fit a l ≡ fitted f → Bounds a.max_iter f
 unfolding written
-bounds a l f e = let p = passed a l f e in subst (Bounds a.max-iter) (sym p.made) (found-bounds a l f p)
+bounds a l f e = let p = passed a l f e in subst (Bounds a.max_iter) (sym p.made) (found_bounds a l f p)
 
 -- ---- a spent limit
 abbrev Spent : ℕ → Found → Type 0
-Spent max-iter f = f.numbers.reason ≡ LimitSpent → f.numbers.n_iter ≡ max-iter
+Spent max_iter f = f.numbers.reason ≡ LimitSpent → f.numbers.n_iter ≡ max_iter
 
-spent-end : (a : Asked) → Searches a → Spent a.max-iter (pathEnd a (searchOf a))
-unfolding pathEnd searchOf interiorPoint
-spent-end a s = s.spent a.max-iter
+spent_end : (a : Asked) → Searches a → Spent a.max_iter (path_end a (search_of a))
+unfolding path_end search_of interior_point
+spent_end a s = s.spent a.max_iter
 
 not-closed : {C : Type 0} → ◌≡◌ {A = Reason} ClosedPath LimitSpent → C
 not-closed e = impossible cc
 
-found-spent : (a : Asked) (l : Lent) (f : FitResult) (p : Passed a l f) → Spent a.max-iter p.found
-unfolding pathZero pathFlat
-found-spent a l f p =
-    found-has a l f (Spent a.max-iter) p
-    (record { squared = λ _ gap objective. not-closed; zero = λ _. not-closed; flat = λ _. not-closed; searched = λ z. spent-end a (searches a l (questions.passed a l p.asked) z) })
+found_spent : (a : Asked) (l : Lent) (f : FitResult) (p : Passed a l f) → Spent a.max_iter p.found
+unfolding path_zero path_flat
+found_spent a l f p =
+    found_has a l f (Spent a.max_iter) p
+    (record { squared = λ _ gap objective. not-closed; zero = λ _. not-closed; flat = λ _. not-closed; searched = λ z. spent_end a (searches a l (questions.passed a l p.asked) z) })
 
-pub spent : (a : Asked) (l : Lent) (f : FitResult) → fit a l ≡ fitted f → f.numbers.reason ≡ LimitSpent → f.numbers.n_iter ≡ a.max-iter
+pub spent : (a : Asked) (l : Lent) (f : FitResult) → fit a l ≡ fitted f → f.numbers.reason ≡ LimitSpent → f.numbers.n_iter ≡ a.max_iter
 unfolding written
 spent a l f e =
     let p = passed a l f e in
-    subst (λ (x : FitResult). x.numbers.reason ≡ LimitSpent → x.numbers.n_iter ≡ a.max-iter) (sym p.made) (found-spent a l f p)
+    subst (λ (x : FitResult). x.numbers.reason ≡ LimitSpent → x.numbers.n_iter ≡ a.max_iter) (sym p.made) (found_spent a l f p)
 
 -- ---- a closed path
 abbrev Closed : Asked → Found → Type 0
-Closed a f = f.numbers.reason ≡ ClosedPath → (eqb a.penalty 2 ≡ true) ⊎ ((lamZero a ≡ true) ⊎ (lamHigh a ≡ true))
+Closed a f = f.numbers.reason ≡ ClosedPath → (eqb a.penalty 2 ≡ true) ⊎ ((lam_zero a ≡ true) ⊎ (lam_high a ≡ true))
 
-end-not-closed : (a : Asked) → (pathEnd a (searchOf a)).numbers.reason ≡ ClosedPath → ⊥
-unfolding pathEnd searchOf interiorPoint
-end-not-closed a = never-closed (problemOf a) a.tol (origin (places a)) a.max-iter
+end_not-closed : (a : Asked) → (path_end a (search_of a)).numbers.reason ≡ ClosedPath → ⊥
+unfolding path_end search_of interior_point
+end_not-closed a = never-closed (problem_of a) a.tol (origin (places a)) a.max_iter
 
-pub closed-path : (a : Asked) (l : Lent) (f : FitResult) → fit a l ≡ fitted f → f.numbers.reason ≡ ClosedPath → (eqb a.penalty 2 ≡ true) ⊎ ((lamZero a ≡ true) ⊎ (lamHigh a ≡ true))
+pub closed-path : (a : Asked) (l : Lent) (f : FitResult) → fit a l ≡ fitted f → f.numbers.reason ≡ ClosedPath → (eqb a.penalty 2 ≡ true) ⊎ ((lam_zero a ≡ true) ⊎ (lam_high a ≡ true))
 unfolding written
 closed-path a l f e r =
     let p = passed a l f e in
-    found-has a l f (Closed a) p
-    (record { squared = λ h gap objective _. inl h; zero = λ h _. inr (inl h); flat = λ h _. inr (inr h); searched = λ _ q. absurd (end-not-closed a q) })
+    found_has a l f (Closed a) p
+    (record { squared = λ h gap objective _. inl h; zero = λ h _. inr (inl h); flat = λ h _. inr (inr h); searched = λ _ q. absurd (end_not-closed a q) })
     (sym (ap (λ (x : FitResult). x.numbers.reason) p.made) ∙ r)
 
 -- ---- another limit
-polished-other : (m : ℕ) (a : Asked) (c : Certificate) (z : Option (List Float)) → polished (withMaxIter m a) c z ≡ polished a c z
+polished_other : (m : ℕ) (a : Asked) (c : Certificate) (z : Option (List Float)) → polished (with_max_iter m a) c z ≡ polished a c z
 unfolding polished
-polished-other m a c none = refl
-polished-other m a c (some z) = refl
+polished_other m a c none = refl
+polished_other m a c (some z) = refl
 
-end-other : (m : ℕ) (a : Asked) (e : Ended State) → pathEnd (withMaxIter m a) e ≡ pathEnd a e
-unfolding pathEnd keptOf
-end-other m a e = rw polished-other
+end_other : (m : ℕ) (a : Asked) (e : Ended State) → path_end (with_max_iter m a) e ≡ path_end a e
+unfolding path_end kept_of
+end_other m a e = rw polished_other
 
 -- what the path finds, given where the search ended
-abbrev pathWith : Asked → Found → Option Found
-pathWith a x = cond (eqb a.penalty 2) (pathL2 a) (some (cond (lamZero a) (pathZero a) (cond (lamHigh a) (pathFlat a) x)))
+abbrev path_with : Asked → Found → Option Found
+path_with a x = cond (eqb a.penalty 2) (path_l2 a) (some (cond (lam_zero a) (path_zero a) (cond (lam_high a) (path_flat a) x)))
 
-path-is : (a : Asked) → path a ≡ pathWith a (pathEnd a (searchOf a))
-unfolding path pathL1
-path-is a = refl
+path_is : (a : Asked) → path a ≡ path_with a (path_end a (search_of a))
+unfolding path path_l1
+path_is a = refl
 
-path-other : (n : ℕ) (a : Asked) → path (withMaxIter n a) ≡ pathWith a (pathEnd a (searchOf (withMaxIter n a)))
-unfolding path pathL1 pathZero pathFlat pathL2
-path-other n a = ap (pathWith a) (end-other n a (searchOf (withMaxIter n a)))
+path_other : (n : ℕ) (a : Asked) → path (with_max_iter n a) ≡ path_with a (path_end a (search_of (with_max_iter n a)))
+unfolding path path_l1 path_zero path_flat path_l2
+path_other n a = ap (path_with a) (end_other n a (search_of (with_max_iter n a)))
 
-outcome-other : (n : ℕ) (a : Asked) (o : Option Found) → outcome (withMaxIter n a) o ≡ outcome a o
+outcome_other : (n : ℕ) (a : Asked) (o : Option Found) → outcome (with_max_iter n a) o ≡ outcome a o
 unfolding outcome written
-outcome-other n a none = refl
-outcome-other n a (some f) = refl
+outcome_other n a none = refl
+outcome_other n a (some f) = refl
 
 -- where two searches end alike, or none is made, the same is found
-same-with : (p z m : Bool) (l2 : Option Found) (o c x y : Found) → (p ≡ false → z ≡ false → m ≡ false → x ≡ y)
+same_with : (p z m : Bool) (l2 : Option Found) (o c x y : Found) → (p ≡ false → z ≡ false → m ≡ false → x ≡ y)
     → cond p l2 (some (cond z o (cond m c x))) ≡ cond p l2 (some (cond z o (cond m c y)))
-same-with true z m l2 o c x y h = refl
-same-with false true m l2 o c x y h = refl
-same-with false false true l2 o c x y h = refl
-same-with false false false l2 o c x y h = ap some (h refl refl refl)
+same_with true z m l2 o c x y h = refl
+same_with false true m l2 o c x y h = refl
+same_with false false true l2 o c x y h = refl
+same_with false false false l2 o c x y h = ap some (h refl refl refl)
 
 -- how many iterations a path reports: the search's, and 0 on the other paths
 abbrev pub iterations : Option Found → ℕ
@@ -150,59 +150,59 @@ iterations none = 0
 iterations (some f) = f.numbers.n_iter
 
 abbrev pub on_path : Asked → ℕ → ℕ
-on_path a n = cond (eqb a.penalty 2) 0 (cond (lamZero a) 0 (cond (lamHigh a) 0 n))
+on_path a n = cond (eqb a.penalty 2) 0 (cond (lam_zero a) 0 (cond (lam_high a) 0 n))
 
-l2-idle : (a : Asked) → iterations (pathL2 a) ≡ 0
-unfolding pathL2
-l2-idle a = go (soundL2 a.order a.y a.lam) _ refl
+l2_idle : (a : Asked) → iterations (path_l2 a) ≡ 0
+unfolding path_l2
+l2_idle a = go (sound_l2 a.order a.y a.lam) _ refl
   where
     go : (b : Bool) (f : Found) → f.numbers.n_iter ≡ 0 → iterations (cond b (some f) none) ≡ 0
     go true f e = e
     go false f e = refl
 
-pub path-steps : (a : Asked) → iterations (path a) ≡ on_path a (searchOf a).n-iter
-unfolding path pathL1 pathZero pathFlat pathEnd
-path-steps a = go (eqb a.penalty 2) (lamZero a) (lamHigh a)
+pub path_steps : (a : Asked) → iterations (path a) ≡ on_path a (search_of a).n_iter
+unfolding path path_l1 path_zero path_flat path_end
+path_steps a = go (eqb a.penalty 2) (lam_zero a) (lam_high a)
   where
-    go : (p z m : Bool) → iterations (cond p (pathL2 a) (some (cond z (pathZero a) (cond m (pathFlat a) (pathEnd a (searchOf a)))))) ≡ cond p 0 (cond z 0 (cond m 0 (searchOf a).n-iter))
-    go true z m = l2-idle a
+    go : (p z m : Bool) → iterations (cond p (path_l2 a) (some (cond z (path_zero a) (cond m (path_flat a) (path_end a (search_of a)))))) ≡ cond p 0 (cond z 0 (cond m 0 (search_of a).n_iter))
+    go true z m = l2_idle a
     go false true m = refl
     go false false true = refl
     go false false false = refl
 
 -- where the search is made, it gives what is found
-end_is : (a : Asked) (f : Found) → path a ≡ some f → eqb a.penalty 2 ≡ false → lamZero a ≡ false → lamHigh a ≡ false → pathEnd a (searchOf a) ≡ f
-end_is a f e p z m = some-injective _ _ ((λ i. cond (sym p i) (pathL2 a) (some (cond (sym z i) (pathZero a) (cond (sym m i) (pathFlat a) (pathEnd a (searchOf a)))))) ∙ sym (path-is a) ∙ e)
+end_is : (a : Asked) (f : Found) → path a ≡ some f → eqb a.penalty 2 ≡ false → lam_zero a ≡ false → lam_high a ≡ false → path_end a (search_of a) ≡ f
+end_is a f e p z m = some-injective _ _ ((λ i. cond (sym p i) (path_l2 a) (some (cond (sym z i) (path_zero a) (cond (sym m i) (path_flat a) (path_end a (search_of a)))))) ∙ sym (path_is a) ∙ e)
 
-end-told : (a : Asked) (f : Found) → pathEnd a (searchOf a) ≡ f → ((searchOf a).n-iter ≡ f.numbers.n_iter) × ((searchOf a).reason ≡ f.numbers.reason)
-unfolding pathEnd
-end-told a f e = (ap (λ (x : Found). x.numbers.n_iter) e, ap (λ (x : Found). x.numbers.reason) e)
+end_told : (a : Asked) (f : Found) → path_end a (search_of a) ≡ f → ((search_of a).n_iter ≡ f.numbers.n_iter) × ((search_of a).reason ≡ f.numbers.reason)
+unfolding path_end
+end_told a f e = (ap (λ (x : Found). x.numbers.n_iter) e, ap (λ (x : Found). x.numbers.reason) e)
 
 -- the search under another limit
-ends_above : (a : Asked) (other : ℕ) → Searches a → ((searchOf a).reason ≡ LimitSpent → ⊥) → (searchOf a).n-iter < other → searchOf (withMaxIter other a) ≡ searchOf a
-unfolding searchOf interiorPoint
-ends_above a other s r g = s.alike a.max-iter other r g
+ends_above : (a : Asked) (other : ℕ) → Searches a → ((search_of a).reason ≡ LimitSpent → ⊥) → (search_of a).n_iter < other → search_of (with_max_iter other a) ≡ search_of a
+unfolding search_of interior_point
+ends_above a other s r g = s.alike a.max_iter other r g
 
-ends_at : (a : Asked) (n : ℕ) → Searches a → (searchOf a).n-iter ≡ n → n < a.max-iter → searchOf (withMaxIter n a) ≡ search.retold (searchOf a) (atLimit (searchOf a).reason)
-unfolding searchOf interiorPoint
+ends_at : (a : Asked) (n : ℕ) → Searches a → (search_of a).n_iter ≡ n → n < a.max_iter → search_of (with_max_iter n a) ≡ search.retold (search_of a) (at_limit (search_of a).reason)
+unfolding search_of interior_point
 ends_at a n s e h =
-    ap (λ (x : ℕ). searchOf (withMaxIter x a)) (sym e)
-    ∙ s.at-limit a.max-iter (λ q. absurd (omega (arith, s.spent a.max-iter q, e, h)))
+    ap (λ (x : ℕ). search_of (with_max_iter x a)) (sym e)
+    ∙ s.at_limit a.max_iter (λ q. absurd (omega (arith, s.spent a.max_iter q, e, h)))
 
-ends-settled : (a : Asked) (one other : ℕ) → Searches a → 1447640 < one → 1447640 < other → searchOf (withMaxIter one a) ≡ searchOf (withMaxIter other a)
-unfolding searchOf interiorPoint
-ends-settled a one other s h g = s.settled other one g h
+ends_settled : (a : Asked) (one other : ℕ) → Searches a → 1447640 < one → 1447640 < other → search_of (with_max_iter one a) ≡ search_of (with_max_iter other a)
+unfolding search_of interior_point
+ends_settled a one other s h g = s.settled other one g h
 
 -- another limit from 1 up: the same but for where the search ends
-relimited : (a : Asked) (l : Lent) (f : FitResult) (p : Passed a l f) (other : ℕ) → 1 ≤ other → fit (withMaxIter other a) l ≡ outcome a (pathWith a (pathEnd a (searchOf (withMaxIter other a))))
+relimited : (a : Asked) (l : Lent) (f : FitResult) (p : Passed a l f) (other : ℕ) → 1 ≤ other → fit (with_max_iter other a) l ≡ outcome a (path_with a (path_end a (search_of (with_max_iter other a))))
 relimited a l f p other one =
-    fit_passed (withMaxIter other a) l (questions.same-question a l other (questions.passed a l p.asked).max-iter one ∙ p.asked)
-    ∙ ap (λ (b : Bool). cond b (outcome (withMaxIter other a) (path (withMaxIter other a))) (refused 10)) p.sound
-    ∙ outcome-other other a (path (withMaxIter other a))
-    ∙ ap (outcome a) (path-other other a)
+    fit_passed (with_max_iter other a) l (questions.same-question a l other (questions.passed a l p.asked).max_iter one ∙ p.asked)
+    ∙ ap (λ (b : Bool). cond b (outcome (with_max_iter other a) (path (with_max_iter other a))) (refused 10)) p.sound
+    ∙ outcome_other other a (path (with_max_iter other a))
+    ∙ ap (outcome a) (path_other other a)
 
 -- any reason but a spent limit: every limit above n_iter
-above : (a : Asked) (l : Lent) (f : FitResult) → fit a l ≡ fitted f → (f.numbers.reason ≡ LimitSpent → ⊥) → (other : ℕ) → f.numbers.n_iter < other → fit (withMaxIter other a) l ≡ fitted f
+above : (a : Asked) (l : Lent) (f : FitResult) → fit a l ≡ fitted f → (f.numbers.reason ≡ LimitSpent → ⊥) → (other : ℕ) → f.numbers.n_iter < other → fit (with_max_iter other a) l ≡ fitted f
 unfolding written
 above a l f e r other g =
     let p = passed a l f e in
@@ -210,91 +210,91 @@ above a l f e r other g =
     let w : p.found.numbers.reason ≡ LimitSpent → ⊥ = subst (λ (x : FitResult). x.numbers.reason ≡ LimitSpent → ⊥) p.made r in
     relimited a l f p other (omega arith)
     ∙ ap (outcome a)
-    (same-with (eqb a.penalty 2) (lamZero a) (lamHigh a) (pathL2 a) (pathZero a) (pathFlat a) (pathEnd a (searchOf (withMaxIter other a))) (pathEnd a (searchOf a))
+    (same_with (eqb a.penalty 2) (lam_zero a) (lam_high a) (path_l2 a) (path_zero a) (path_flat a) (path_end a (search_of (with_max_iter other a))) (path_end a (search_of a))
     (λ b z m.
-    let t = end-told a p.found (end_is a p.found p.path-is b z m) in
-    ap (pathEnd a) (ends_above a other (searches a l (questions.passed a l p.asked) z) (λ q. w (sym t.1 ∙ q)) (omega (arith, t.0, n))))
-    ∙ sym (path-is a) ∙ p.path-is)
-    ∙ outcome-some a p.found ∙ ap fitted (sym p.made)
+    let t = end_told a p.found (end_is a p.found p.path_is b z m) in
+    ap (path_end a) (ends_above a other (searches a l (questions.passed a l p.asked) z) (λ q. w (sym t.1 ∙ q)) (omega (arith, t.0, n))))
+    ∙ sym (path_is a) ∙ p.path_is)
+    ∙ outcome_some a p.found ∙ ap fitted (sym p.made)
 
-pub alike : (a : Asked) (l : Lent) (f : FitResult) → fit a l ≡ fitted f → f.numbers.n_iter < a.max-iter → (other : ℕ) → f.numbers.n_iter < other → fit (withMaxIter other a) l ≡ fitted f
+pub alike : (a : Asked) (l : Lent) (f : FitResult) → fit a l ≡ fitted f → f.numbers.n_iter < a.max_iter → (other : ℕ) → f.numbers.n_iter < other → fit (with_max_iter other a) l ≡ fitted f
 alike a l f e h = above a l f e (λ q. absurd (omega (arith, spent a l f e q, h)))
 
-pub other-reason : (a : Asked) (l : Lent) (f : FitResult) → fit a l ≡ fitted f → (f.numbers.reason ≡ LimitSpent → ⊥) → (other : ℕ) → a.max-iter < other → fit (withMaxIter other a) l ≡ fitted f
-other-reason a l f e r other g = above a l f e r other (omega (arith, (bounds a l f e).limit, g))
+pub other_reason : (a : Asked) (l : Lent) (f : FitResult) → fit a l ≡ fitted f → (f.numbers.reason ≡ LimitSpent → ⊥) → (other : ℕ) → a.max_iter < other → fit (with_max_iter other a) l ≡ fitted f
+other_reason a l f e r other g = above a l f e r other (omega (arith, (bounds a l f e).limit, g))
 
 -- ---- the limit n_iter itself
-abbrev foundWith : Reason → Found → Found
-foundWith r f = record { trend = f.trend; dual = f.dual; numbers = numbersWith r f.numbers }
+abbrev found_with : Reason → Found → Found
+found_with r f = record { trend = f.trend; dual = f.dual; numbers = numbers_with r f.numbers }
 
-end-retold : (a : Asked) (e : Ended State) (r : Reason) → pathEnd a (search.retold e r) ≡ foundWith r (pathEnd a e)
-unfolding pathEnd keptOf
-end-retold a e r = refl
+end_retold : (a : Asked) (e : Ended State) (r : Reason) → path_end a (search.retold e r) ≡ found_with r (path_end a e)
+unfolding path_end kept_of
+end_retold a e r = refl
 
-written-with : (a : Asked) (f : Found) (r : Reason) → written a (foundWith r f) ≡ withReason r (written a f)
+written_with : (a : Asked) (f : Found) (r : Reason) → written a (found_with r f) ≡ with_reason r (written a f)
 unfolding written
-written-with a f r = refl
+written_with a f r = refl
 
 -- a path with an iteration is the search's
-only-search : (a : Asked) (n : ℕ) → 1 ≤ on_path a n → (x w : Found) → (eqb a.penalty 2 ≡ false → lamZero a ≡ false → lamHigh a ≡ false → x ≡ w) → pathWith a x ≡ some w
-only-search a n h x w k = go (eqb a.penalty 2) (lamZero a) (lamHigh a) h k
+only_search : (a : Asked) (n : ℕ) → 1 ≤ on_path a n → (x w : Found) → (eqb a.penalty 2 ≡ false → lam_zero a ≡ false → lam_high a ≡ false → x ≡ w) → path_with a x ≡ some w
+only_search a n h x w k = go (eqb a.penalty 2) (lam_zero a) (lam_high a) h k
   where
-    go : (p z m : Bool) → 1 ≤ cond p 0 (cond z 0 (cond m 0 n)) → (p ≡ false → z ≡ false → m ≡ false → x ≡ w) → cond p (pathL2 a) (some (cond z (pathZero a) (cond m (pathFlat a) x))) ≡ some w
+    go : (p z m : Bool) → 1 ≤ cond p 0 (cond z 0 (cond m 0 n)) → (p ≡ false → z ≡ false → m ≡ false → x ≡ w) → cond p (path_l2 a) (some (cond z (path_zero a) (cond m (path_flat a) x))) ≡ some w
     go true z m h k = absurd (omega arith)
     go false true m h k = absurd (omega arith)
     go false false true h k = absurd (omega arith)
     go false false false h k = ap some (k refl refl refl)
 
-pub at-limit : (a : Asked) (l : Lent) (f : FitResult) → fit a l ≡ fitted f → f.numbers.n_iter < a.max-iter → 1 ≤ f.numbers.n_iter
-    → fit (withMaxIter f.numbers.n_iter a) l ≡ fitted (withReason (atLimit f.numbers.reason) f)
+pub at_limit_lem : (a : Asked) (l : Lent) (f : FitResult) → fit a l ≡ fitted f → f.numbers.n_iter < a.max_iter → 1 ≤ f.numbers.n_iter
+    → fit (with_max_iter f.numbers.n_iter a) l ≡ fitted (with_reason (at_limit f.numbers.reason) f)
 unfolding written
-at-limit a l f e h one =
+at_limit_lem a l f e h one =
     let p = passed a l f e in
     let x = p.found in
     let n : f.numbers.n_iter ≡ x.numbers.n_iter = ap (λ (y : FitResult). y.numbers.n_iter) p.made in
     relimited a l f p f.numbers.n_iter one
     ∙ ap (outcome a)
-    (only-search a (searchOf a).n-iter (omega (arith, one, n, sym (path-steps a) ∙ ap iterations p.path-is)) (pathEnd a (searchOf (withMaxIter f.numbers.n_iter a))) (foundWith (atLimit x.numbers.reason) x)
+    (only_search a (search_of a).n_iter (omega (arith, one, n, sym (path_steps a) ∙ ap iterations p.path_is)) (path_end a (search_of (with_max_iter f.numbers.n_iter a))) (found_with (at_limit x.numbers.reason) x)
     (λ b z m.
-    let s = end_is a x p.path-is b z m in
-    let t = end-told a x s in
-    ap (pathEnd a) (ends_at a f.numbers.n_iter (searches a l (questions.passed a l p.asked) z) (t.0 ∙ sym n) h)
-    ∙ end-retold a (searchOf a) (atLimit (searchOf a).reason)
-    ∙ λ i. foundWith (atLimit (t.1 i)) (s i)))
-    ∙ outcome-some a (foundWith (atLimit x.numbers.reason) x)
-    ∙ ap fitted (written-with a x (atLimit x.numbers.reason) ∙ sym (ap (λ (y : FitResult). withReason (atLimit y.numbers.reason) y) p.made))
+    let s = end_is a x p.path_is b z m in
+    let t = end_told a x s in
+    ap (path_end a) (ends_at a f.numbers.n_iter (searches a l (questions.passed a l p.asked) z) (t.0 ∙ sym n) h)
+    ∙ end_retold a (search_of a) (at_limit (search_of a).reason)
+    ∙ λ i. found_with (at_limit (t.1 i)) (s i)))
+    ∙ outcome_some a (found_with (at_limit x.numbers.reason) x)
+    ∙ ap fitted (written_with a x (at_limit x.numbers.reason) ∙ sym (ap (λ (y : FitResult). with_reason (at_limit y.numbers.reason) y) p.made))
 
 -- any two limits above 1,447,640
-from-high : (m : ℕ) → 1447640 < m → 1 ≤ m
-from-high m h = omega arith
+from_high : (m : ℕ) → 1447640 < m → 1 ≤ m
+from_high m h = omega arith
 
-same-high : (a : Asked) (l : Lent) (one other : ℕ) → 1447640 < one → 1447640 < other → question (withMaxIter one a) l ≡ 0
-    → outcome (withMaxIter one a) (path (withMaxIter one a)) ≡ outcome (withMaxIter other a) (path (withMaxIter other a))
-same-high a l one other h g e =
-    let q = questions.passed (withMaxIter one a) l e in
-    outcome-other one a (path (withMaxIter one a))
+same_high : (a : Asked) (l : Lent) (one other : ℕ) → 1447640 < one → 1447640 < other → question (with_max_iter one a) l ≡ 0
+    → outcome (with_max_iter one a) (path (with_max_iter one a)) ≡ outcome (with_max_iter other a) (path (with_max_iter other a))
+same_high a l one other h g e =
+    let q = questions.passed (with_max_iter one a) l e in
+    outcome_other one a (path (with_max_iter one a))
     ∙ ap (outcome a)
-    (path-other one a
-    ∙ same-with (eqb a.penalty 2) (lamZero a) (lamHigh a) (pathL2 a) (pathZero a) (pathFlat a) (pathEnd a (searchOf (withMaxIter one a))) (pathEnd a (searchOf (withMaxIter other a)))
-    (λ b z m. ap (pathEnd a) (ends-settled a one other (searches (withMaxIter one a) l q z) h g))
-    ∙ sym (path-other other a))
-    ∙ sym (outcome-other other a (path (withMaxIter other a)))
+    (path_other one a
+    ∙ same_with (eqb a.penalty 2) (lam_zero a) (lam_high a) (path_l2 a) (path_zero a) (path_flat a) (path_end a (search_of (with_max_iter one a))) (path_end a (search_of (with_max_iter other a)))
+    (λ b z m. ap (path_end a) (ends_settled a one other (searches (with_max_iter one a) l q z) h g))
+    ∙ sym (path_other other a))
+    ∙ sym (outcome_other other a (path (with_max_iter other a)))
 
-pub settled : (a : Asked) (l : Lent) (one other : ℕ) → 1447640 < one → 1447640 < other → fit (withMaxIter one a) l ≡ fit (withMaxIter other a) l
+pub settled : (a : Asked) (l : Lent) (one other : ℕ) → 1447640 < one → 1447640 < other → fit (with_max_iter one a) l ≡ fit (with_max_iter other a) l
 unfolding fit
 settled a l one other h g =
-    go (eqb (question (withMaxIter one a) l) 0) (eqb→eq (question (withMaxIter one a) l) 0)
-    ∙ ap (λ (q : ℕ). cond (eqb q 0) (cond (soundDD a) (outcome (withMaxIter other a) (path (withMaxIter other a))) (refused 10)) (refused q)) (same-questions a l one other (from-high one h) (from-high other g))
+    go (eqb (question (with_max_iter one a) l) 0) (eqb→eq (question (with_max_iter one a) l) 0)
+    ∙ ap (λ (q : ℕ). cond (eqb q 0) (cond (sound_dd a) (outcome (with_max_iter other a) (path (with_max_iter other a))) (refused 10)) (refused q)) (same_questions a l one other (from_high one h) (from_high other g))
   where
-    go : (b : Bool) → (T b → question (withMaxIter one a) l ≡ 0)
-        → cond b (cond (soundDD a) (outcome (withMaxIter one a) (path (withMaxIter one a))) (refused 10)) (refused (question (withMaxIter one a) l))
-        ≡ cond b (cond (soundDD a) (outcome (withMaxIter other a) (path (withMaxIter other a))) (refused 10)) (refused (question (withMaxIter one a) l))
-    go true k = ap (λ (x : Outcome). cond (soundDD a) x (refused 10)) (same-high a l one other h g (k tt))
+    go : (b : Bool) → (T b → question (with_max_iter one a) l ≡ 0)
+        → cond b (cond (sound_dd a) (outcome (with_max_iter one a) (path (with_max_iter one a))) (refused 10)) (refused (question (with_max_iter one a) l))
+        ≡ cond b (cond (sound_dd a) (outcome (with_max_iter other a) (path (with_max_iter other a))) (refused 10)) (refused (question (with_max_iter one a) l))
+    go true k = ap (λ (x : Outcome). cond (sound_dd a) x (refused 10)) (same_high a l one other h g (k tt))
     go false k = refl
 
 -- ---- the demand
 pub whole : (a : Asked) (l : Lent) → Demand3 a l
-whole a l = record { bounds = bounds a l; alike = alike a l; at-limit = at-limit a l; settled = settled a l }
+whole a l = record { bounds = bounds a l; alike = alike a l; at_limit = at_limit_lem a l; settled = settled a l }
 
 pub lasting : (a : Asked) (l : Lent) → Lasting a l
-lasting a l = record { other-reason = other-reason a l; spent = spent a l; closed = closed-path a l }
+lasting a l = record { other_reason = other_reason a l; spent = spent a l; closed = closed-path a l }

@@ -2,10 +2,10 @@
 use Rattle.std.specs.Prelude.{true, ◌≡◌, List, [], ◌∷◌, ℕ, ◌≤◌, ◌<◌, pos, T, length, Float}
 use Rattle.std.specs.Float.{binary64, nan}
 use Rattle.std.specs.Float.Ieee.{neg, of_bits, of_int}
-use Rattle.square_root.specs.Sqrt.{sqrtOf}
+use Rattle.square_root.specs.Sqrt.{sqrt_of}
 use Rattle.search.specs.declared.Reason.TheVariants.{ClosedPath}
-use Rattle.questions.specs.Needs.{needsOf}
-use Rattle.questions.specs.Questions.{Asked, Lent, oneOrTwo}
+use Rattle.questions.specs.Needs.{needs_of}
+use Rattle.questions.specs.Questions.{Asked, Lent, one_or_two}
 use Rattle.fit.specs.Fit.{Outcome, refused, fitted, fit}
 
 -- what is asked and lent, and what comes of it
@@ -30,15 +30,15 @@ whole n = of_int binary64 (pos n)
 
 -- tol 1e-8, at most 100 iterations
 abbrev pub usual : ℕ → ℕ → Float → List Float → Asked
-usual order penalty lam y = record { y = y; lam = lam; tol = of_bits binary64 0x3e45_798e_e230_8c3a; max-iter = 100; order = order; penalty = penalty }
+usual order penalty lam y = record { y = y; lam = lam; tol = of_bits binary64 0x3e45_798e_e230_8c3a; max_iter = 100; order = order; penalty = penalty }
 
 -- what such a fit of n places needs, and no place more
 abbrev pub room_for : ℕ → ℕ → Lent
-room_for penalty n = let need = needsOf n 100 penalty in record { trend = n; cycle = n; knots = n; dual = n; work = need.work; marks = need.marks }
+room_for penalty n = let need = needs_of n 100 penalty in record { trend = n; cycle = n; knots = n; dual = n; work = need.work; marks = need.marks }
 
 -- the outcome of a closed path whose three gaps are 0: no iteration and no improvement
 abbrev pub flat : List Float → List Float → List ℕ → List Float → Float → Float → Outcome
-flat trend cycle knots dual lam-max objective = fitted (record { trend = trend; cycle = cycle; knots = knots; dual = dual; lam-max = lam-max; numbers = record { gap = whole 0; first_gap = whole 0; best_gap = whole 0; objective = objective; n_iter = 0; improvements = 0; converged = true; reason = ClosedPath } })
+flat trend cycle knots dual lam_max objective = fitted (record { trend = trend; cycle = cycle; knots = knots; dual = dual; lam_max = lam_max; numbers = record { gap = whole 0; first_gap = whole 0; best_gap = whole 0; objective = objective; n_iter = 0; improvements = 0; converged = true; reason = ClosedPath } })
 
 -- three zeros
 abbrev pub zeros : List Float
@@ -81,12 +81,12 @@ roots = whole 2 ∷ of_bits binary64 0x1e60_0000_0000_0000 ∷ whole 1 ∷ []
 -- the root of each
 abbrev pub rooted : List Float → List Float
 rooted [] = []
-rooted (x ∷ v) = sqrtOf x ∷ rooted v
+rooted (x ∷ v) = sqrt_of x ∷ rooted v
 
 -- all of it: the fits, the roots, and question 3
 pub record Known : Type 0 where
   pub fits : worked table ≡ stated table
-  pub square-roots : rooted radicands ≡ roots
+  pub square_roots : rooted radicands ≡ roots
   -- n 65,536 passes question 3, and 65,537 does not, whatever y holds
   pub passes : (a : Asked) (l : Lent) → length a.y ≤ 65536 → fit a l ≡ refused 3 → ⊥
-  pub refuses : (a : Asked) (l : Lent) → T (oneOrTwo a.order) → T (oneOrTwo a.penalty) → 65536 < length a.y → fit a l ≡ refused 3
+  pub refuses : (a : Asked) (l : Lent) → T (one_or_two a.order) → T (one_or_two a.penalty) → 65536 < length a.y → fit a l ≡ refused 3

@@ -5,9 +5,9 @@ use Rattle.questions.specs.Questions.{Asked, Lent}
 use Rattle.fit.specs.Fit.{FitResult, fitted, fit}
 
 -- all else alike: the same but for the tolerance
-abbrev pub withTol : Float → Asked → Asked
-withTol tol a = record { y = a.y; lam = a.lam; tol = tol; max-iter = a.max-iter; order = a.order; penalty = a.penalty }
+abbrev pub with_tol : Float → Asked → Asked
+with_tol tol a = record { y = a.y; lam = a.lam; tol = tol; max_iter = a.max_iter; order = a.order; penalty = a.penalty }
 
 -- Of two fits that are asked alike but for tol, the one whose tol is not smaller has an n_iter that is not greater. The lengths lent may differ. L2 and the closed paths, where both are 0, are included.
 abbrev pub LooserFit : Asked → Float → Type 0
-LooserFit a looser = T (le a.tol looser) → (l k : Lent) (f g : FitResult) → fit a l ≡ fitted f → fit (withTol looser a) k ≡ fitted g → g.numbers.n_iter ≤ f.numbers.n_iter
+LooserFit a looser = T (le a.tol looser) → (l k : Lent) (f g : FitResult) → fit a l ≡ fitted f → fit (with_tol looser a) k ≡ fitted g → g.numbers.n_iter ≤ f.numbers.n_iter

@@ -2,20 +2,20 @@
 use Rattle.std.specs.Prelude.{Bool}
 use Rattle.std.specs.Float.Ieee.{le, eq}
 use Rattle.float64.specs.Ops.{c0}
-use Rattle.differences.specs.Diff.{gramRow}
+use Rattle.differences.specs.Diff.{gram_row}
 use Rattle.banded.specs.Rows.{sound}
 use Rattle.gram.specs.Gram.{gram}
 use Rattle.questions.specs.Questions.{Asked}
-use Rattle.fit.specs.Fit.{places, lamMaxOf}
+use Rattle.fit.specs.Fit.{places, lam_max_of}
 
 -- whether lam is 0 or -0, which is tested before lam_max
-abbrev pub lamZero : Asked → Bool
-lamZero a = eq a.lam c0
+abbrev pub lam_zero : Asked → Bool
+lam_zero a = eq a.lam c0
 
 -- whether lam ≥ lam_max
-abbrev pub lamHigh : Asked → Bool
-lamHigh a = le (lamMaxOf a) a.lam
+abbrev pub lam_high : Asked → Bool
+lam_high a = le (lam_max_of a) a.lam
 
 -- whether the pivots of D D' are all good
-abbrev pub soundDD : Asked → Bool
-soundDD a = sound a.order (gram a.order (gramRow a.order)) (places a)
+abbrev pub sound_dd : Asked → Bool
+sound_dd a = sound a.order (gram a.order (gram_row a.order)) (places a)

@@ -1,8 +1,10 @@
 // The whole fit as a definition (specs/), and the numbers that every path of it answers.
+#![tactic(auto)]
+
 use search::Reason;
 
 // gap, first_gap and best_gap are P - G: of the trend that is kept, at the start of the search, and the best of the search. objective is P. reason says why the search stopped.
-#[derive(Drop)]
+#[derive(Clone, Copy)]
 pub struct Numbers {
     pub gap: f64,
     pub first_gap: f64,

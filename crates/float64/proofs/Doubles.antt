@@ -13,7 +13,7 @@ use lib.Ieee.Exact.{HasValue, round_exact}
 use lib.Ieee.Fits.{and_l, and_r, up_pos, down_pos, round-fits}
 use lib.Ieee.Nearest.{div_same}
 use lib.Ieee.Bits.{of_bits-to_bits}
-use Rattle.float64.specs.Units.{inUnits, inSquares, hasMinus}
+use Rattle.float64.specs.Units.{in_units, in_squares, has_minus}
 use Rattle.float64.specs.Helpers.{is_finite}
 
 -- ---- m * 2 ^ e in units of 2 ^ -l
@@ -64,8 +64,8 @@ fit_of f s (suc m) e t =
     }
 
 -- the value, in units, is below 2 ^ (low + emax + 1)
-placed-under : (f : Format) (m : ℕ) (e : ℤ) → Fit f m e → m * 2 ^ place (low f) e < 2 ^ (low f + suc (emax f))
-placed-under f m e h =
+placed_under : (f : Format) (m : ℕ) (e : ℤ) → Fit f m e → m * 2 ^ place (low f) e < 2 ^ (low f + suc (emax f))
+placed_under f m e h =
     let l = 2 ^ low f in
     let t = 2 ^ suc (emax f) in
     let w : m * up e * l < t * down e * l = mul-lt-mul_of_pos_right h.under (pow_pos (low f)) in
@@ -75,40 +75,40 @@ placed-under f m e h =
     subst (λ (x : ℕ). m * 2 ^ place (low f) e < x) (sym (pow-add 2 (low f) (suc (emax f)))) (lt_of_mul-lt-mul_right (down e) v)
 
 -- a value that fits comes out of `round` as it went in
-pub own-round : (f : Format) (s : Bool) (m : ℕ) (e : ℤ) → Fit f m e → HasValue (round f s (m * up e) (down e)) s (m * up e) (down e)
-own-round f s m e h = round_exact f s (m * up e) (down e) m (place (low f) e) (down_pos e) h.digits (placed-under f m e h) (placed (low f) m e h.fine)
+pub own_round : (f : Format) (s : Bool) (m : ℕ) (e : ℤ) → Fit f m e → HasValue (round f s (m * up e) (down e)) s (m * up e) (down e)
+own_round f s m e h = round_exact f s (m * up e) (down e) m (place (low f) e) (down_pos e) h.digits (placed_under f m e h) (placed (low f) m e h.fine)
 
 -- ---- the doubles, in units
 
--- the counts of `inUnits` and `inSquares` lose nothing
-pub units-whole : (s : Bool) (m : ℕ) (e : ℤ) → Fit binary64 m e → inUnits (fin s m e) * down e ≡ m * up e * 2 ^ 1074
+-- the counts of `in_units` and `in_squares` lose nothing
+pub units-whole : (s : Bool) (m : ℕ) (e : ℤ) → Fit binary64 m e → in_units (fin s m e) * down e ≡ m * up e * 2 ^ 1074
 units-whole s m e h = ap (λ (x : ℕ). x * down e) (counted 1074 m e h.fine) ∙ sym (placed 1074 m e h.fine)
 
 finer : (e : ℤ) → down e ≤ 2 ^ 1074 → down e ≤ 2 ^ 2148
 finer e h = le_trans h (pow_mono (lit≤ {m = 1074} {n = 2148} tt))
 
-pub squares-whole : (s : Bool) (m : ℕ) (e : ℤ) → Fit binary64 m e → inSquares (fin s m e) * down e ≡ m * up e * 2 ^ 2148
-squares-whole s m e h = ap (λ (x : ℕ). x * down e) (counted 2148 m e (finer e h.fine)) ∙ sym (placed 2148 m e (finer e h.fine))
+pub squares_whole : (s : Bool) (m : ℕ) (e : ℤ) → Fit binary64 m e → in_squares (fin s m e) * down e ≡ m * up e * 2 ^ 2148
+squares_whole s m e h = ap (λ (x : ℕ). x * down e) (counted 2148 m e (finer e h.fine)) ∙ sym (placed 2148 m e (finer e h.fine))
 
 -- every finite double is below 2 ^ 2098 units
-pub units_under : (s : Bool) (m : ℕ) (e : ℤ) → Fit binary64 m e → inUnits (fin s m e) < 2 ^ 2098
-units_under s m e h = subst (λ (x : ℕ). x < 2 ^ 2098) (sym (counted 1074 m e h.fine)) (placed-under binary64 m e h)
+pub units_under : (s : Bool) (m : ℕ) (e : ℤ) → Fit binary64 m e → in_units (fin s m e) < 2 ^ 2098
+units_under s m e h = subst (λ (x : ℕ). x < 2 ^ 2098) (sym (counted 1074 m e h.fine)) (placed_under binary64 m e h)
 
 -- and one that is not zero is 1 unit at least
-pub units-pos : (s : Bool) (m : ℕ) (e : ℤ) → Fit binary64 m e → 0 < m → 0 < inUnits (fin s m e)
+pub units-pos : (s : Bool) (m : ℕ) (e : ℤ) → Fit binary64 m e → 0 < m → 0 < in_units (fin s m e)
 units-pos s m e h M = subst (λ (x : ℕ). 0 < x) (sym (counted 1074 m e h.fine)) (mul-pos M (pow_pos (place 1074 e)))
 
 -- at most 53 digits, and zeros after them
 abbrev pub Grid : ℕ → Type 0
 Grid z = (m : ℕ) × (j : ℕ) × (m < 2 ^ 53) × (z ≡ m * 2 ^ j)
 
-pub double-grid : (z : Float) → T (fits binary64 z) → Grid (inUnits z)
-double-grid nan t = (0, 0, lit< tt, refl)
-double-grid (inf s) t = (0, 0, lit< tt, refl)
-double-grid (fin s m e) t = let h = fit_of binary64 s m e t in (m, place 1074 e, h.digits, counted 1074 m e h.fine)
+pub double_grid : (z : Float) → T (fits binary64 z) → Grid (in_units z)
+double_grid nan t = (0, 0, lit< tt, refl)
+double_grid (inf s) t = (0, 0, lit< tt, refl)
+double_grid (fin s m e) t = let h = fit_of binary64 s m e t in (m, place 1074 e, h.digits, counted 1074 m e h.fine)
 
-pub squares-grid : (s : Bool) (m : ℕ) (e : ℤ) → Fit binary64 m e → Grid (inSquares (fin s m e))
-squares-grid s m e h = (m, place 2148 e, h.digits, counted 2148 m e (finer e h.fine))
+pub squares_grid : (s : Bool) (m : ℕ) (e : ℤ) → Fit binary64 m e → Grid (in_squares (fin s m e))
+squares_grid s m e h = (m, place 2148 e, h.digits, counted 2148 m e (finer e h.fine))
 
 -- ---- the count and the sign tell the double
 
@@ -120,32 +120,32 @@ to_bits_is : (s : Bool) (m : ℕ) (e : ℤ) → to_bits binary64 (fin s m e) ≡
 unfolding to_bits pattern
 to_bits_is s m e = refl
 
-pub same_count : (s : Bool) (m n : ℕ) (e d : ℤ) → T (fits binary64 (fin s m e)) → T (fits binary64 (fin s n d)) → inUnits (fin s m e) ≡ inUnits (fin s n d) → fin s m e ≡ fin s n d
+pub same_count : (s : Bool) (m n : ℕ) (e d : ℤ) → T (fits binary64 (fin s m e)) → T (fits binary64 (fin s n d)) → in_units (fin s m e) ≡ in_units (fin s n d) → fin s m e ≡ fin s n d
 same_count s m n e d f g h =
     sym (of_bits-to_bits binary64 (fin s m e) f)
     ∙ ap (of_bits binary64) (to_bits_is s m e ∙ ap (pattern s) h ∙ sym (to_bits_is s n d))
     ∙ of_bits-to_bits binary64 (fin s n d) g
 
 -- so does the value
-pub same-value : (x : Float) (s : Bool) (m : ℕ) (e : ℤ) → T (fits binary64 x) → T (fits binary64 (fin s m e)) → HasValue x s (m * up e) (down e) → x ≡ fin s m e
-same-value nan s m e f g v = absurd v
-same-value (inf t) s m e f g v = absurd v
-same-value (fin t n d) s m e f g v =
+pub same_value : (x : Float) (s : Bool) (m : ℕ) (e : ℤ) → T (fits binary64 x) → T (fits binary64 (fin s m e)) → HasValue x s (m * up e) (down e) → x ≡ fin s m e
+same_value nan s m e f g v = absurd v
+same_value (inf t) s m e f g v = absurd v
+same_value (fin t n d) s m e f g v =
     let cross : n * up d * 2 ^ 1074 * down e ≡ m * up e * 2 ^ 1074 * down d = mul_right_comm (n * up d) (2 ^ 1074) (down e) ∙ ap (λ (x : ℕ). x * 2 ^ 1074) v.1 ∙ mul_right_comm (m * up e) (down d) (2 ^ 1074) in
     let sign : fin t n d ≡ fin s n d = ap (λ (b : Bool). fin b n d) v.0 in
     sign ∙ same_count s n m d e (subst (λ (x : Float). T (fits binary64 x)) sign f) g (div_same (n * up d * 2 ^ 1074) (down d) (m * up e * 2 ^ 1074) (down e) (down_pos d) (down_pos e) cross)
 
 -- rounding a double changes nothing
-pub round-double : (s : Bool) (m : ℕ) (e : ℤ) → T (fits binary64 (fin s m e)) → round binary64 s (m * up e) (down e) ≡ fin s m e
-round-double s m e f = same-value (round binary64 s (m * up e) (down e)) s m e (round-fits binary64 s (m * up e) (down e)) f (own-round binary64 s m e (fit_of binary64 s m e f))
+pub round_double : (s : Bool) (m : ℕ) (e : ℤ) → T (fits binary64 (fin s m e)) → round binary64 s (m * up e) (down e) ≡ fin s m e
+round_double s m e f = same_value (round binary64 s (m * up e) (down e)) s m e (round-fits binary64 s (m * up e) (down e)) f (own_round binary64 s m e (fit_of binary64 s m e f))
 
 -- two finite doubles with the same sign and the same count are the same
-pub same-double : (x y : Float) → T (fits binary64 x) → T (fits binary64 y) → is_finite x ≡ true → is_finite y ≡ true → hasMinus x ≡ hasMinus y → inUnits x ≡ inUnits y → x ≡ y
+pub same_double : (x y : Float) → T (fits binary64 x) → T (fits binary64 y) → is_finite x ≡ true → is_finite y ≡ true → has_minus x ≡ has_minus y → in_units x ≡ in_units y → x ≡ y
 unfolding is_finite
-same-double nan y f g p q s h = absurd (true≢false (sym p))
-same-double (inf t) y f g p q s h = absurd (true≢false (sym p))
-same-double (fin s m e) nan f g p q d h = absurd (true≢false (sym q))
-same-double (fin s m e) (inf t) f g p q d h = absurd (true≢false (sym q))
-same-double (fin s m e) (fin t n k) f g p q d h =
+same_double nan y f g p q s h = absurd (true≢false (sym p))
+same_double (inf t) y f g p q s h = absurd (true≢false (sym p))
+same_double (fin s m e) nan f g p q d h = absurd (true≢false (sym q))
+same_double (fin s m e) (inf t) f g p q d h = absurd (true≢false (sym q))
+same_double (fin s m e) (fin t n k) f g p q d h =
     let sign : fin t n k ≡ fin s n k = ap (λ (b : Bool). fin b n k) (sym d) in
     same_count s m n e k f (subst (λ (x : Float). T (fits binary64 x)) sign g) h ∙ sym sign

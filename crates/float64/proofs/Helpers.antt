@@ -11,34 +11,34 @@ use lib.Ieee.{Float, nan, inf, fin, binary64, up, down, round, sum, add, sub, ne
 use lib.Ieee.Compare.{differs_from_itself}
 use lib.Ieee.Fits.{up_pos, down_pos, neg-fits}
 use lib.Ieee.Bits.{is_true}
-use Rattle.float64.specs.Helpers.{absOf, is_finite}
-use Rattle.float64.proofs.Doubles.{round-double}
+use Rattle.float64.specs.Helpers.{abs_of, is_finite}
+use Rattle.float64.proofs.Doubles.{round_double}
 
 -- ---- NaN, by `x != x`
 
-pub is-nan : (x : Float) → ne x x ≡ true → x ≡ nan
-is-nan x e = differs_from_itself x (subst T (sym e) tt)
+pub is_nan_lem : (x : Float) → ne x x ≡ true → x ≡ nan
+is_nan_lem x e = differs_from_itself x (subst T (sym e) tt)
 
-pub nan-true : (x : Float) → ne x x ≡ true → is_nan x ≡ true
+pub nan_true : (x : Float) → ne x x ≡ true → is_nan x ≡ true
 unfolding is_nan
-nan-true x e = rw (is-nan x e)
+nan_true x e = rw (is_nan_lem x e)
 
-pub nan-false : (x : Float) → ne x x ≡ false → is_nan x ≡ false
+pub nan_false : (x : Float) → ne x x ≡ false → is_nan x ≡ false
 unfolding is_nan ne
-nan-false nan e = e
-nan-false (inf s) e = refl
-nan-false (fin s m d) e = refl
+nan_false nan e = e
+nan_false (inf s) e = refl
+nan_false (fin s m d) e = refl
 
 pub no_nan : (x : Float) → ne x x ≡ false → T (not (is_nan x))
-no_nan x e = rw (nan-false x e) tt
+no_nan x e = rw (nan_false x e) tt
 
 -- ---- between the infinities
 
-pub not-above : (x : Float) → lt (neg (of_bits binary64 0x7ff0_0000_0000_0000)) x ≡ false → is_finite x ≡ false
+pub not_above : (x : Float) → lt (neg (of_bits binary64 0x7ff0_0000_0000_0000)) x ≡ false → is_finite x ≡ false
 unfolding lt neg of_bits is_finite
-not-above nan e = refl
-not-above (inf s) e = refl
-not-above (fin s m d) e = e
+not_above nan e = refl
+not_above (inf s) e = refl
+not_above (fin s m d) e = e
 
 pub above_then : (x : Float) → lt (neg (of_bits binary64 0x7ff0_0000_0000_0000)) x ≡ true → lt x (of_bits binary64 0x7ff0_0000_0000_0000) ≡ is_finite x
 unfolding lt neg of_bits is_finite
@@ -47,9 +47,9 @@ above_then (inf true) e = sym e
 above_then (inf false) e = refl
 above_then (fin s m d) e = refl
 
-pub top-no-nan : T (not (nan_bits binary64 0x7ff0_0000_0000_0000))
+pub top_no_nan : T (not (nan_bits binary64 0x7ff0_0000_0000_0000))
 unfolding nan_bits
-top-no-nan = tt
+top_no_nan = tt
 
 -- ---- the sign cleared, by 0 - x and a comparison
 
@@ -62,43 +62,43 @@ sum-zero true a b c e p =
     rw (is_true (ltb a b) (lt→ltb a b (omega arith)), s)
 
 -- 0 - x turns the sign of a double that is not 0
-minus-of : (s : Bool) (m : ℕ) (e : ℤ) → T (fits binary64 (fin s (suc m) e)) → sub binary64 (of_bits binary64 0) (fin s (suc m) e) ≡ fin (not s) (suc m) e
+minus_of : (s : Bool) (m : ℕ) (e : ℤ) → T (fits binary64 (fin s (suc m) e)) → sub binary64 (of_bits binary64 0) (fin s (suc m) e) ≡ fin (not s) (suc m) e
 unfolding sub add neg of_bits
-minus-of s m e f =
+minus_of s m e f =
     let n : 0 * 1 * down e ≡ 0 = zero-mul (down e) in
     let a : suc m * up e * 1 ≡ suc m * up e = mul-one (suc m * up e) in
     let c : 1 * down e ≡ down e = one-mul (down e) in
     sum-zero (not s) (0 * 1 * down e) (suc m * up e * 1) (1 * down e) n (rw a (mul-pos (zero-lt-suc m) (up_pos e)))
     ∙ ap₂ (round binary64 (not s)) a c
-    ∙ round-double (not s) (suc m) e (neg-fits binary64 (fin s (suc m) e) f)
+    ∙ round_double (not s) (suc m) e (neg-fits binary64 (fin s (suc m) e) f)
 
 -- 0 - 0 is +0 for either 0
-minus-zero : (s : Bool) (e : ℤ) → T (fits binary64 (fin s zero e)) → sub binary64 (of_bits binary64 0) (fin s zero e) ≡ fin false zero e
+minus_zero : (s : Bool) (e : ℤ) → T (fits binary64 (fin s zero e)) → sub binary64 (of_bits binary64 0) (fin s zero e) ≡ fin false zero e
 unfolding sub add neg sum round of_bits fits
-minus-zero true (pos zero) f = refl
-minus-zero false (pos zero) f = refl
-minus-zero s (pos (suc a)) f = absurd (omega (arith, pow-succ' 2 a, pow_pos a, eqb→eq (2 ^ suc a * 1) 1 f))
-minus-zero s (negsuc a) f = absurd (omega (arith, pow-succ' 2 a, pow_pos a, eqb→eq (1 * 2 ^ suc a) 1 f))
+minus_zero true (pos zero) f = refl
+minus_zero false (pos zero) f = refl
+minus_zero s (pos (suc a)) f = absurd (omega (arith, pow-succ' 2 a, pow_pos a, eqb→eq (2 ^ suc a * 1) 1 f))
+minus_zero s (negsuc a) f = absurd (omega (arith, pow-succ' 2 a, pow_pos a, eqb→eq (1 * 2 ^ suc a) 1 f))
 
 -- where 0 - x is below x, x is its own size
-pub abs-kept : (x : Float) → T (fits binary64 x) → lt (sub binary64 (of_bits binary64 0) x) x ≡ true → x ≡ absOf x
-unfolding absOf sub add neg of_bits lt
-abs-kept nan f h = refl
-abs-kept (inf true) f h = absurd (true≢false (sym h))
-abs-kept (inf false) f h = refl
-abs-kept (fin true zero e) f h = absurd (true≢false (sym h ∙ ap (λ (n : Float). lt n (fin true zero e)) (minus-zero true e f)))
-abs-kept (fin true (suc m) e) f h = absurd (true≢false (sym h ∙ ap (λ (n : Float). lt n (fin true (suc m) e)) (minus-of true m e f)))
-abs-kept (fin false m e) f h = refl
+pub abs_kept : (x : Float) → T (fits binary64 x) → lt (sub binary64 (of_bits binary64 0) x) x ≡ true → x ≡ abs_of x
+unfolding abs_of sub add neg of_bits lt
+abs_kept nan f h = refl
+abs_kept (inf true) f h = absurd (true≢false (sym h))
+abs_kept (inf false) f h = refl
+abs_kept (fin true zero e) f h = absurd (true≢false (sym h ∙ ap (λ (n : Float). lt n (fin true zero e)) (minus_zero true e f)))
+abs_kept (fin true (suc m) e) f h = absurd (true≢false (sym h ∙ ap (λ (n : Float). lt n (fin true (suc m) e)) (minus_of true m e f)))
+abs_kept (fin false m e) f h = refl
 
 -- and elsewhere 0 - x is
-pub abs-turned : (x : Float) → T (fits binary64 x) → lt (sub binary64 (of_bits binary64 0) x) x ≡ false → sub binary64 (of_bits binary64 0) x ≡ absOf x
-unfolding absOf sub add neg of_bits lt
-abs-turned nan f h = refl
-abs-turned (inf true) f h = refl
-abs-turned (inf false) f h = absurd (true≢false h)
-abs-turned (fin s zero e) f h = minus-zero s e f
-abs-turned (fin true (suc m) e) f h = minus-of true m e f
-abs-turned (fin false (suc m) e) f h =
+pub abs_turned : (x : Float) → T (fits binary64 x) → lt (sub binary64 (of_bits binary64 0) x) x ≡ false → sub binary64 (of_bits binary64 0) x ≡ abs_of x
+unfolding abs_of sub add neg of_bits lt
+abs_turned nan f h = refl
+abs_turned (inf true) f h = refl
+abs_turned (inf false) f h = absurd (true≢false h)
+abs_turned (fin s zero e) f h = minus_zero s e f
+abs_turned (fin true (suc m) e) f h = minus_of true m e f
+abs_turned (fin false (suc m) e) f h =
     let n = suc m * up e * down e in
     let size : 0 < n + n = omega (arith, mul-pos (mul-pos (zero-lt-suc m) (up_pos e)) (down_pos e)) in
-    absurd (true≢false (sym (ap (λ (n : Float). lt n (fin false (suc m) e)) (minus-of false m e f) ∙ is_true (ltb 0 (n + n)) (lt→ltb 0 (n + n) size)) ∙ h))
+    absurd (true≢false (sym (ap (λ (n : Float). lt n (fin false (suc m) e)) (minus_of false m e f) ∙ is_true (ltb 0 (n + n)) (lt→ltb 0 (n + n) size)) ∙ h))

@@ -14,7 +14,7 @@ use lib.Ieee.Digits.{back}
 use lib.Ieee.Exact.{HasValue}
 use lib.Ieee.Fits.{down_pos}
 use Rattle.float64.specs.Helpers.{is_finite}
-use Rattle.float64.specs.Units.{inUnits, hasMinus}
+use Rattle.float64.specs.Units.{in_units, has_minus}
 use Rattle.float64.proofs.Doubles.{Grid}
 
 -- ---- what `compare` says
@@ -59,18 +59,18 @@ gap q k z l g = go (dec_le z (q * 2 ^ k))
 
 -- ---- a double whose value is known: it is finite, and has that sign and that count
 
-pub value-finite : (x : Float) (s : Bool) (a c : ℕ) → HasValue x s a c → is_finite x ≡ true
+pub value_finite : (x : Float) (s : Bool) (a c : ℕ) → HasValue x s a c → is_finite x ≡ true
 unfolding is_finite
-value-finite nan s a c v = absurd v
-value-finite (inf t) s a c v = absurd v
-value-finite (fin t m e) s a c v = refl
+value_finite nan s a c v = absurd v
+value_finite (inf t) s a c v = absurd v
+value_finite (fin t m e) s a c v = refl
 
-pub value-sign : (x : Float) (s : Bool) (a c : ℕ) → HasValue x s a c → hasMinus x ≡ s
-value-sign nan s a c v = absurd v
-value-sign (inf t) s a c v = absurd v
-value-sign (fin t m e) s a c v = v.0
+pub value_sign : (x : Float) (s : Bool) (a c : ℕ) → HasValue x s a c → has_minus x ≡ s
+value_sign nan s a c v = absurd v
+value_sign (inf t) s a c v = absurd v
+value_sign (fin t m e) s a c v = v.0
 
-pub value-units : (x : Float) (s : Bool) (n : ℕ) → HasValue x s n (2 ^ 1074) → inUnits x ≡ n
-value-units nan s n v = absurd v
-value-units (inf t) s n v = absurd v
-value-units (fin t m e) s n v = ap (λ (y : ℕ). y / down e) v.1 ∙ mul-div_cancel n (down_pos e)
+pub value_units : (x : Float) (s : Bool) (n : ℕ) → HasValue x s n (2 ^ 1074) → in_units x ≡ n
+value_units nan s n v = absurd v
+value_units (inf t) s n v = absurd v
+value_units (fin t m e) s n v = ap (λ (y : ℕ). y / down e) v.1 ∙ mul-div_cancel n (down_pos e)

@@ -44,14 +44,14 @@ c0·2 = of_bits binary64 0x3fc9_9999_9999_999a  -- 0.2
 abbrev pub c1·2 : Float
 c1·2 = of_bits binary64 0x3ff3_3333_3333_3333  -- 1.2
 
-abbrev pub c1e-6 : Float
-c1e-6 = of_bits binary64 0x3eb0_c6f7_a0b5_ed8d  -- 1e-6
+abbrev pub c1e_6 : Float
+c1e_6 = of_bits binary64 0x3eb0_c6f7_a0b5_ed8d  -- 1e-6
 
-abbrev pub c1e-10 : Float
-c1e-10 = of_bits binary64 0x3ddb_7cdf_d9d7_bdbb  -- 1e-10
+abbrev pub c1e_10 : Float
+c1e_10 = of_bits binary64 0x3ddb_7cdf_d9d7_bdbb  -- 1e-10
 
-abbrev pub c1e-12 : Float
-c1e-12 = of_bits binary64 0x3d71_9799_812d_ea11  -- 1e-12
+abbrev pub c1e_12 : Float
+c1e_12 = of_bits binary64 0x3d71_9799_812d_ea11  -- 1e-12
 
 abbrev pub infinity : Float
 infinity = of_bits binary64 0x7ff0_0000_0000_0000  -- infinity

@@ -4,19 +4,19 @@ use Rattle.std.specs.Float.{nan, inf, fin}
 use Rattle.std.specs.Float.Ieee.{up, down}
 
 -- a finite double's size, counted in units of 2 ^ -1074: a whole number; 0 for a NaN or an infinity
-abbrev pub inUnits : Float → ℕ
-inUnits nan = 0
-inUnits (inf s) = 0
-inUnits (fin s m e) = m * up e * 2 ^ 1074 / down e
+abbrev pub in_units : Float → ℕ
+in_units nan = 0
+in_units (inf s) = 0
+in_units (fin s m e) = m * up e * 2 ^ 1074 / down e
 
 -- the same in units of 2 ^ -2148
-abbrev pub inSquares : Float → ℕ
-inSquares nan = 0
-inSquares (inf s) = 0
-inSquares (fin s m e) = m * up e * 2 ^ 2148 / down e
+abbrev pub in_squares : Float → ℕ
+in_squares nan = 0
+in_squares (inf s) = 0
+in_squares (fin s m e) = m * up e * 2 ^ 2148 / down e
 
 -- whether its sign is minus
-abbrev pub hasMinus : Float → Bool
-hasMinus nan = false
-hasMinus (inf s) = s
-hasMinus (fin s m e) = s
+abbrev pub has_minus : Float → Bool
+has_minus nan = false
+has_minus (inf s) = s
+has_minus (fin s m e) = s

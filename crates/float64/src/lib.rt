@@ -1,8 +1,10 @@
 // Helpers on doubles, each equal to its definition for every double: abs, max, min, clamp, is_finite; a double's bits and back.
+#![tactic(auto)]
+
 ghost use Rattle.std.specs.Prelude.{◌≡◌};
 ghost use Rattle.std.specs.Float.{binary64};
 ghost use Rattle.std.specs.Float.Ieee.{of_bits, to_bits};
-ghost use Rattle.float64.specs.Helpers.{absOf, is_finite, max_of, minOf, clampOf};
+ghost use Rattle.float64.specs.Helpers.{abs_of, is_finite, max_of, min_of, clamp_of};
 
 pub fn is_finite(x: f64) -> bool
     ensures { result ≡ is_finite x }
@@ -12,7 +14,7 @@ pub fn is_finite(x: f64) -> bool
 }
 
 pub fn abs(x: f64) -> f64
-    ensures { result ≡ absOf x }
+    ensures { result ≡ abs_of x }
 {
     let n = 0.0 - x;
     if n < x { x } else { n }
@@ -28,7 +30,7 @@ pub fn max(a: f64, b: f64) -> f64
 }
 
 pub fn min(a: f64, b: f64) -> f64
-    ensures { result ≡ minOf a b }
+    ensures { result ≡ min_of a b }
 {
     if a != a {
         return b;
@@ -37,7 +39,7 @@ pub fn min(a: f64, b: f64) -> f64
 }
 
 pub fn clamp(z: f64, lam: f64) -> f64
-    ensures { result ≡ clampOf z lam }
+    ensures { result ≡ clamp_of z lam }
 {
     if z < -lam {
         return -lam;

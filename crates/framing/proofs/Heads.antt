@@ -1,4 +1,4 @@
--- What `headAt` says of the records from a place on. Assumes nothing.
+-- What `head_at` says of the records from a place on. Assumes nothing.
 use mathlib.Core.Path.{◌≡◌, refl, ap, ap₂, ◌∙◌}
 use mathlib.Core.Bool.{Bool, true, false, cond}
 use Prim.Native.Nat.{ℕ, zero, suc, ◌+◌, ◌*◌, ◌-◌, ◌≤◌, ◌<◌}
@@ -9,9 +9,9 @@ use lib.ListN.{length, take, drop, length-drop, drop_of_length-le}
 use lib.Seq.{drop-drop}
 use lib.Dec.{leb, ltb}
 use borrow.Author.Tests.{leb-true, leb-false, ltb-true, ltb-false}
-use Rattle.framing.specs.Bytes.{littleEndian, number_at}
-use Rattle.framing.specs.Frames.{Rec, rec, recordsPast, records}
-use Rattle.framing.specs.Places.{headAt}
+use Rattle.framing.specs.Bytes.{little_endian, number_at}
+use Rattle.framing.specs.Frames.{Rec, rec, records_past, records}
+use Rattle.framing.specs.Places.{head_at}
 use Rattle.framing.specs.declared.Head.{Head}
 use Rattle.framing.specs.declared.Head.TheVariants.{End, Bad, Record}
 
@@ -29,21 +29,21 @@ Heads s at Bad = records (drop at s) ≡ none
 Heads s at (Record k b n) = Opens s at k b n
 
 -- past the end, and within
-past-short : (n : ℕ) (s : List ℕ) → length s < n → recordsPast n s ≡ none
-unfolding recordsPast
-past-short zero s h = absurd (omega arith)
-past-short (suc n) [] h = refl
-past-short (suc n) (b ∷ s) h = past-short n s (omega arith)
+past_short : (n : ℕ) (s : List ℕ) → length s < n → records_past n s ≡ none
+unfolding records_past
+past_short zero s h = absurd (omega arith)
+past_short (suc n) [] h = refl
+past_short (suc n) (b ∷ s) h = past_short n s (omega arith)
 
-past-drop : (n : ℕ) (s : List ℕ) → n ≤ length s → recordsPast n s ≡ records (drop n s)
-unfolding recordsPast
-past-drop zero s h = refl
-past-drop (suc n) [] h = absurd (omega arith)
-past-drop (suc n) (b ∷ s) h = past-drop n s (omega arith)
+past_drop : (n : ℕ) (s : List ℕ) → n ≤ length s → records_past n s ≡ records (drop n s)
+unfolding records_past
+past_drop zero s h = refl
+past_drop (suc n) [] h = absurd (omega arith)
+past_drop (suc n) (b ∷ s) h = past_drop n s (omega arith)
 
 -- fewer than four bytes, and four at least
 few : (l : List ℕ) → 0 < length l → length l < 4 → records l ≡ none
-unfolding recordsPast
+unfolding records_past
 few [] h k = absurd (omega arith)
 few (a ∷ []) h k = refl
 few (a ∷ b ∷ []) h k = refl
@@ -51,10 +51,10 @@ few (a ∷ b ∷ c ∷ []) h k = refl
 few (a ∷ b ∷ c ∷ d ∷ l) h k = absurd (omega arith)
 
 abbrev opened : ℕ → ℕ → List ℕ → Option (List Rec)
-opened l k s = cond (ltb l 2) none (map (λ (rs : List Rec). rec k (take (l - 2) s) ∷ rs) (recordsPast (l - 2) s))
+opened l k s = cond (ltb l 2) none (map (λ (rs : List Rec). rec k (take (l - 2) s) ∷ rs) (records_past (l - 2) s))
 
 many : (l : List ℕ) → 4 ≤ length l → records l ≡ opened (number_at 0 2 l) (number_at 2 2 l) (drop 4 l)
-unfolding recordsPast littleEndian
+unfolding records_past little_endian
 many [] h = absurd (omega arith)
 many (a ∷ []) h = absurd (omega arith)
 many (a ∷ b ∷ []) h = absurd (omega arith)
@@ -68,15 +68,15 @@ module _ (s : List ℕ) (at : ℕ) where
   at_least : 4 ≤ length s - at → records (drop at s) ≡ opened (number_at at 2 s) (number_at (at + 2) 2 s) (drop (at + 4) s)
   at_least h = many (drop at s) (omega (arith, length-drop at s)) ∙ rw (drop-drop 2 at s, drop-drop 4 at s)
 
-  whole : (l : ℕ) → 2 ≤ l → 2 + l ≤ length s - at → at < length s → recordsPast (l - 2) (drop (at + 4) s) ≡ records (drop (at + (2 + l)) s)
+  whole : (l : ℕ) → 2 ≤ l → 2 + l ≤ length s - at → at < length s → records_past (l - 2) (drop (at + 4) s) ≡ records (drop (at + (2 + l)) s)
   whole l h k m =
       let e : at + 4 + (l - 2) ≡ at + (2 + l) = omega arith in
-      past-drop (l - 2) (drop (at + 4) s) (omega (arith, length-drop (at + 4) s)) ∙ ap records (drop-drop (l - 2) (at + 4) s ∙ ap (λ (j : ℕ). drop j s) e)
+      past_drop (l - 2) (drop (at + 4) s) (omega (arith, length-drop (at + 4) s)) ∙ ap records (drop-drop (l - 2) (at + 4) s ∙ ap (λ (j : ℕ). drop j s) e)
 
   tested : (t₁ t₂ t₃ t₄ : Bool)
       → leb (length s) at ≡ t₁ → ltb (length s - at) 4 ≡ t₂ → ltb (number_at at 2 s) 2 ≡ t₃ → ltb (length s - at) (2 + number_at at 2 s) ≡ t₄
       → Heads s at (cond t₁ End (cond t₂ Bad (cond t₃ Bad (cond t₄ Bad (Record (number_at (at + 2) 2 s) (at + 4) (at + (2 + number_at at 2 s)))))))
-  unfolding recordsPast
+  unfolding records_past
   tested true t₂ t₃ t₄ e₁ e₂ e₃ e₄ = ap records (drop_of_length-le s (leb-true _ _ e₁))
   tested false true t₃ t₄ e₁ e₂ e₃ e₄ =
       let h : at < length s = leb-false _ _ e₁ in
@@ -87,7 +87,7 @@ module _ (s : List ℕ) (at : ℕ) where
       let h : 2 ≤ number_at at 2 s = ltb-false _ _ e₃ in
       let k : length s - at < 2 + number_at at 2 s = ltb-true _ _ e₄ in
       let m : 4 ≤ length s - at = ltb-false _ _ e₂ in
-      at_least m ∙ rw (e₃, past-short (number_at at 2 s - 2) (drop (at + 4) s) (omega (arith, length-drop (at + 4) s)))
+      at_least m ∙ rw (e₃, past_short (number_at at 2 s - 2) (drop (at + 4) s) (omega (arith, length-drop (at + 4) s)))
   tested false false false false e₁ e₂ e₃ e₄ =
       let l = number_at at 2 s in
       let h : 2 ≤ l = ltb-false _ _ e₃ in
@@ -101,6 +101,6 @@ module _ (s : List ℕ) (at : ℕ) where
         rest = at_least (ltb-false _ _ e₂) ∙ rw (e₃, whole l h k i, e);
       }
 
-pub heads : (s : List ℕ) (at : ℕ) → Heads s at (headAt s at)
-unfolding headAt
+pub heads : (s : List ℕ) (at : ℕ) → Heads s at (head_at s at)
+unfolding head_at
 heads s at = tested s at _ _ _ _ refl refl refl refl

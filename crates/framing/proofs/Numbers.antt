@@ -5,22 +5,22 @@ use native.Mathlib.Omega.{arith, pow_step}
 use mathlib.Core.List.{List, [], ◌∷◌, ◌++◌}
 use lib.ListN.{length, get_or, take, drop, length-drop}
 use lib.Seq.{drop-cons, drop-drop, take-take, take-add, length-take-le, get_or-drop}
-use Rattle.framing.specs.Bytes.{littleEndian, number_at}
+use Rattle.framing.specs.Bytes.{little_endian, number_at}
 
 -- bytes, and then more
-joined : (x y : List ℕ) → littleEndian (x ++ y) ≡ littleEndian x + 256 ^ length x * littleEndian y
-unfolding littleEndian
+joined : (x y : List ℕ) → little_endian (x ++ y) ≡ little_endian x + 256 ^ length x * little_endian y
+unfolding little_endian
 joined [] y = omega arith
 joined (b ∷ x) y = rw (pow_step 256 (length x)) (omega (arith, joined x y))
 
-pub one-is : (s : List ℕ) (at : ℕ) → at < length s → get_or s at 0 ≡ number_at at 1 s
-unfolding littleEndian
-one-is s at h = rw (drop-cons s at 0 h) (omega arith)
+pub one_is : (s : List ℕ) (at : ℕ) → at < length s → get_or s at 0 ≡ number_at at 1 s
+unfolding little_endian
+one_is s at h = rw (drop-cons s at 0 h) (omega arith)
 
 halves : (s : List ℕ) (at m n : ℕ) → at + m ≤ length s → number_at at m s + 256 ^ m * number_at (at + m) n s ≡ number_at at (m + n) s
 halves s at m n h =
     let e : length (take m (drop at s)) ≡ m = length-take-le m (drop at s) (omega (arith, length-drop at s)) in
-    sym (ap littleEndian (take-add m n (drop at s)) ∙ joined (take m (drop at s)) (take n (drop m (drop at s))) ∙ rw (e, drop-drop m at s))
+    sym (ap little_endian (take-add m n (drop at s)) ∙ joined (take m (drop at s)) (take n (drop m (drop at s))) ∙ rw (e, drop-drop m at s))
 
 -- a number of a part of the bytes
 drop-take : (a n m : ℕ) (l : List ℕ) → a + n ≤ m → take n (drop a (take m l)) ≡ take n (drop a l)
@@ -29,11 +29,11 @@ drop-take (suc a) n zero l h = absurd (omega arith)
 drop-take (suc a) n (suc m) [] h = refl
 drop-take (suc a) n (suc m) (b ∷ l) h = drop-take a n m l (omega arith)
 
-pub number-of-part : (s : List ℕ) (b m a n : ℕ) → a + n ≤ m → number_at a n (take m (drop b s)) ≡ number_at (b + a) n s
-number-of-part s b m a n h = ap littleEndian (drop-take a n m (drop b s) h ∙ ap (take n) (drop-drop a b s))
+pub number_of_part : (s : List ℕ) (b m a n : ℕ) → a + n ≤ m → number_at a n (take m (drop b s)) ≡ number_at (b + a) n s
+number_of_part s b m a n h = ap little_endian (drop-take a n m (drop b s) h ∙ ap (take n) (drop-drop a b s))
 
 pub two_is : (s : List ℕ) (at : ℕ) → at + 2 ≤ length s → get_or s at 0 + 256 * get_or s (at + 1) 0 ≡ number_at at 2 s
-two_is s at h = ap₂ (λ (x y : ℕ). x + 256 * y) (one-is s at (omega arith)) (one-is s (at + 1) (omega arith)) ∙ halves s at 1 1 (omega arith)
+two_is s at h = ap₂ (λ (x y : ℕ). x + 256 * y) (one_is s at (omega arith)) (one_is s (at + 1) (omega arith)) ∙ halves s at 1 1 (omega arith)
 
 pub four_is : (s : List ℕ) (at : ℕ) → at + 4 ≤ length s → number_at at 2 s + 65536 * number_at (at + 2) 2 s ≡ number_at at 4 s
 four_is s at h = halves s at 2 2 (omega arith)
@@ -42,11 +42,11 @@ pub eight_is : (s : List ℕ) (at : ℕ) → at + 8 ≤ length s → number_at a
 eight_is s at h = halves s at 4 4 (omega arith)
 
 -- n bytes spell a number below 256^n
-below : (n : ℕ) (l : List ℕ) → ((i : ℕ) → get_or l i 0 < 256) → littleEndian (take n l) < 256 ^ n
-unfolding littleEndian
+below : (n : ℕ) (l : List ℕ) → ((i : ℕ) → get_or l i 0 < 256) → little_endian (take n l) < 256 ^ n
+unfolding little_endian
 below zero l h = omega arith
 below (suc n) [] h = rw (pow_step 256 n) (omega (arith, below n [] h))
 below (suc n) (b ∷ l) h = rw (pow_step 256 n) (omega (arith, h 0, below n l (λ i. h (suc i))))
 
-pub number-below : (s : List ℕ) (at n : ℕ) → ((i : ℕ) → get_or s i 0 < 256) → number_at at n s < 256 ^ n
-number-below s at n h = below n (drop at s) (λ i. rw (get_or-drop at s i 0) (h (at + i)))
+pub number_below : (s : List ℕ) (at n : ℕ) → ((i : ℕ) → get_or s i 0 < 256) → number_at at n s < 256 ^ n
+number_below s at n h = below n (drop at s) (λ i. rw (get_or-drop at s i 0) (h (at + i)))

@@ -5,8 +5,8 @@ use Rattle.framing.specs.declared.Head.{Head}
 use Rattle.framing.specs.declared.Head.TheVariants.{End, Bad, Record}
 
 -- nothing, no whole record, or a record: its kind, where its body starts, and where the next record does
-unfoldable pub headAt : List ℕ → ℕ → Head
-headAt s at =
+unfoldable pub head_at : List ℕ → ℕ → Head
+head_at s at =
     cond (leb (length s) at) End
     (cond (ltb (length s - at) 4) Bad
     (cond (ltb (number_at at 2 s) 2) Bad

@@ -1,12 +1,14 @@
 // Framed bytes: numbers, the lowest byte first, and records of a length, a kind and a body. Which kinds there are is the reader's.
+#![tactic(auto)]
+
 ghost use Rattle.std.specs.Prelude.{◌≡◌, ◌+◌, ◌≤◌, ◌<◌, length};
 ghost use Rattle.std.specs.Float.{binary64};
 ghost use Rattle.std.specs.Float.Ieee.{of_int};
 ghost use Rattle.framing.specs.Bytes.{number_at, signed32};
-ghost use Rattle.framing.specs.Places.{headAt};
+ghost use Rattle.framing.specs.Places.{head_at};
 
 // What stands at a place of the bytes.
-#[derive(Drop)]
+#[derive(Clone, Copy)]
 pub enum Head {
     // Nothing: the bytes end there.
     End,
@@ -70,7 +72,7 @@ pub fn signed(x: u64) -> f64
 }
 
 pub fn head_at(s: &[u8], at: usize) -> Head
-    ensures { result ≡ headAt s.now at }
+    ensures { result ≡ head_at s.now at }
 {
     if s.len() <= at {
         return Head::End;

@@ -2,19 +2,19 @@
 -- For the contracts between our own crates.
 use Rattle.std.specs.Prelude.{◌≡◌, true, List, ℕ, ◌+◌, ◌-◌, ◌*◌, ◌≤◌, length, Float}
 use Rattle.vectors.specs.Parts.{Kept, part}
-use Rattle.differences.specs.Diff.{diffK, gramRow}
+use Rattle.differences.specs.Diff.{diff_k, gram_row}
 use Rattle.banded.specs.Rows.{rows, sound}
 use Rattle.banded.specs.Run.{concat, Keeps}
-use Rattle.gram.specs.Gram.{gram, zstar, lamMax}
+use Rattle.gram.specs.Gram.{gram, zstar, lam_max}
 use Rattle.gram.specs.declared.Peak.{Peak}
 
 -- z*, after the rows of the factor, for a series of n
-abbrev pub starLane : ℕ → ℕ → ℕ
-starLane k n = (n - k) * (k + 1)
+abbrev pub star_lane : ℕ → ℕ → ℕ
+star_lane k n = (n - k) * (k + 1)
 
 -- D y
-abbrev pub diffLane : ℕ → ℕ
-diffLane n = 4 * n
+abbrev pub diff_lane : ℕ → ℕ
+diff_lane n = 4 * n
 
 -- the whole preparation
 abbrev pub preparation : ℕ → ℕ
@@ -22,17 +22,17 @@ preparation n = 5 * n
 
 -- the system that the preparation solves: the rows of D D' and D y after them; behind it D y in its own lane
 pub record System (k : ℕ) (y s₀ s : List Float) : Type 0 where
-  pub ends : starLane k (length y) + (length y - k) ≤ diffLane (length y)
-  pub rows : Keeps k (length y - k) (gram k (gramRow k)) s
-  pub right : part (starLane k (length y)) (length y - k) s ≡ diffK k y
-  pub differences : part (diffLane (length y)) (length y - k) s ≡ diffK k y
+  pub ends : star_lane k (length y) + (length y - k) ≤ diff_lane (length y)
+  pub rows : Keeps k (length y - k) (gram k (gram_row k)) s
+  pub right : part (star_lane k (length y)) (length y - k) s ≡ diff_k k y
+  pub differences : part (diff_lane (length y)) (length y - k) s ≡ diff_k k y
   pub kept : Kept 0 (preparation (length y)) s₀ s
 
 -- r says whether the pivots of D D' are all good, and if so what lam_max is
 pub record Prepared (k : ℕ) (y s₀ s : List Float) (r : Peak) : Type 0 where
-  pub good : r.good ≡ sound k (gram k (gramRow k)) (length y - k)
-  pub top : r.good ≡ true → r.top ≡ lamMax k (gramRow k) (length y - k) y
-  pub factor : r.good ≡ true → part 0 (starLane k (length y)) s ≡ concat (rows k (gram k (gramRow k)) (length y - k))
-  pub star : r.good ≡ true → part (starLane k (length y)) (length y - k) s ≡ zstar k (gramRow k) (length y - k) y
-  pub differences : part (diffLane (length y)) (length y - k) s ≡ diffK k y
+  pub good : r.good ≡ sound k (gram k (gram_row k)) (length y - k)
+  pub top : r.good ≡ true → r.top ≡ lam_max k (gram_row k) (length y - k) y
+  pub factor : r.good ≡ true → part 0 (star_lane k (length y)) s ≡ concat (rows k (gram k (gram_row k)) (length y - k))
+  pub star : r.good ≡ true → part (star_lane k (length y)) (length y - k) s ≡ zstar k (gram_row k) (length y - k) y
+  pub differences : part (diff_lane (length y)) (length y - k) s ≡ diff_k k y
   pub kept : Kept 0 (preparation (length y)) s₀ s

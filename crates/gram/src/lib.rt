@@ -1,4 +1,6 @@
 // D D': its rows, its product with a vector at one place, and z*, which solves (D D') z = D y.
+#![tactic(auto)]
+
 ghost use Rattle.std.specs.Prelude.{◌≡◌, ◌≤◌, ◌<◌, ◌-◌, ◌+◌, ◌*◌, length};
 ghost use Rattle.vectors.specs.Parts.{Written};
 ghost use Rattle.banded.specs.Rows.{placed};
@@ -59,7 +61,7 @@ fn lay_system(s: &mut [f64], y: &[f64], k: usize)
     vectors::copy_within(s, d, b, m);
 }
 
-#[derive(Drop)]
+#[derive(Clone, Copy)]
 pub struct Peak {
     pub good: bool,
     pub top: f64,

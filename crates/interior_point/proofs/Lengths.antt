@@ -14,31 +14,31 @@ use Rattle.search.specs.Search.{moved, lost, start_at}
 use Rattle.search.proofs.Trace.{Led, trace, kept-to-end}
 use Rattle.dual_point.specs.Dual.{Dual}
 use Rattle.newton_system.specs.Newton.{NewtonData, system}
-use Rattle.line_search.specs.LineSearch.{stepped, along, accepted, trials, searchLine, nextPoint}
-use Rattle.interior_point.specs.InteriorPoint.{State, move, problem, origin, interiorPoint}
+use Rattle.line_search.specs.LineSearch.{stepped, along, accepted, trials, search_line, next_point}
+use Rattle.interior_point.specs.InteriorPoint.{State, move, problem, origin, interior_point}
 
 -- ---- of the line search from p
-trial-length : (c : NewtonData) (p d : Dual) (old : Float) (n : ℕ) (step : Float) (last : Dual) → length last.z ≡ length p.z
+trial_length : (c : NewtonData) (p d : Dual) (old : Float) (n : ℕ) (step : Float) (last : Dual) → length last.z ≡ length p.z
     → length (trials c p d old n step last).point.z ≡ length p.z
 unfolding trials along stepped
-trial-length c p d old zero step last h = h
-trial-length c p d old (suc n) step last h =
+trial_length c p d old zero step last h = h
+trial_length c p d old (suc n) step last h =
     let size = length-list (length p.z) (λ i. at p.z i ⊕ step ⊗ at d.z i) in
-    go (accepted c old (along p d step) step) size (trial-length c p d old n (step ⊗ half) (along p d step) size)
+    go (accepted c old (along p d step) step) size (trial_length c p d old n (step ⊗ half) (along p d step) size)
   where
     go : (b : Bool) → length (along p d step).z ≡ length p.z → length (trials c p d old n (step ⊗ half) (along p d step)).point.z ≡ length p.z
         → length (cond b (record { point = along p d step; step = step }) (trials c p d old n (step ⊗ half) (along p d step))).point.z ≡ length p.z
     go true e f = e
     go false e f = f
 
-line-length : (c : NewtonData) (p : Dual) → length (searchLine c p).point.z ≡ length p.z
-unfolding searchLine
-line-length c p = trial-length c p _ _ 20 _ p refl
+line-length : (c : NewtonData) (p : Dual) → length (search_line c p).point.z ≡ length p.z
+unfolding search_line
+line-length c p = trial_length c p _ _ 20 _ p refl
 
-next-length : (c : NewtonData) (lam : Float) (p : Dual) → length (nextPoint lam p (searchLine c p)).z ≡ length p.z
-next-length c lam p = go (inside lam (searchLine c p).point.z)
+next-length : (c : NewtonData) (lam : Float) (p : Dual) → length (next_point lam p (search_line c p)).z ≡ length p.z
+next-length c lam p = go (inside lam (search_line c p).point.z)
   where
-    go : (b : Bool) → length (cond b (searchLine c p).point p).z ≡ length p.z
+    go : (b : Bool) → length (cond b (search_line c p).point p).z ≡ length p.z
     go true = line-length c p
     go false = refl
 
@@ -55,6 +55,6 @@ module _ (k : ℕ) (g y : List Float) (lam : Float) (m : ℕ) where
       go true t e = e
       go false t e = tt
 
-  pub search-length : (tol : Float) (max-iter : ℕ) → length (interiorPoint k g m y lam tol max-iter).state.point.z ≡ m
-  unfolding interiorPoint problem origin
-  search-length tol max-iter = kept-to-end Spans move-length (trace (problem k g y lam) tol max-iter (start_at (problem k g y lam) (origin m))) (length-list m (λ i. c0))
+  pub search-length : (tol : Float) (max_iter : ℕ) → length (interior_point k g m y lam tol max_iter).state.point.z ≡ m
+  unfolding interior_point problem origin
+  search-length tol max_iter = kept-to-end Spans move-length (trace (problem k g y lam) tol max_iter (start_at (problem k g y lam) (origin m))) (length-list m (λ i. c0))

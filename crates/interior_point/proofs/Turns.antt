@@ -10,55 +10,55 @@ use lib.Dec.{eqb, ltb}
 use lib.ListN.{length}
 use lib.Ieee.{Float, nan, lt, le}
 use Rattle.float64.proofs.Clash.{impossible}
-use Rattle.float64.specs.Ops.{◌⊖◌, ◌⊗◌, ◌⊘◌, c0, c0·99, c1, c1e-10, infinity}
+use Rattle.float64.specs.Ops.{◌⊖◌, ◌⊗◌, ◌⊘◌, c0, c0·99, c1, c1e_10, infinity}
 use Rattle.vectors.specs.Vec.{at}
 use Rattle.vectors.specs.Parts.{Kept, part_of, part, Written}
 use Rattle.vectors.specs.Sums.{inside}
 use Rattle.vectors.proofs.Laws.{kept_then, kept-none, list_ext, written-kept}
 use Rattle.vectors.proofs.Parts.{length_part, part-below, part-above}
-use Rattle.differences.specs.Diff.{diffK, gramRow}
+use Rattle.differences.specs.Diff.{diff_k, gram_row}
 use Rattle.banded.specs.Rows.{sound}
 use Rattle.certificate.specs.Certificate.{certify, gap_of}
 use Rattle.certificate.specs.Run.{Certified}
 use Rattle.search.specs.declared.Reason.{Reason}
 use Rattle.search.specs.declared.Reason.TheVariants.{GapSmall, LimitSpent, Stalled, PivotLost}
 use Rattle.search.specs.Search.{lost, moved, Problem, Point, Ended, gap, ended, enough, improved, advance, start_at, run}
-use Rattle.search.proofs.Trace.{run_small, run-spent, run-stalled, run-lost, run_moved, idle-room}
+use Rattle.search.proofs.Trace.{run_small, run-spent, run-stalled, run-lost, run_moved, idle_room}
 use Rattle.dual_point.specs.Dual.{Dual}
 use Rattle.newton_system.specs.Newton.{system}
 use Rattle.newton_system.specs.Rows.{data_of}
-use Rattle.line_search.specs.LineSearch.{Trial, searchLine, nextPoint}
-use Rattle.dual_point.specs.Lanes.{searchArea}
+use Rattle.line_search.specs.LineSearch.{Trial, search_line, next_point}
+use Rattle.dual_point.specs.Lanes.{search_area}
 use Rattle.dual_point.specs.Places.{point}
-use Rattle.dual_point.proofs.Points.{point-above}
-use Rattle.newton_step.specs.Stepped.{stepArea, step_of, Stepped}
+use Rattle.dual_point.proofs.Points.{point_above}
+use Rattle.newton_step.specs.Stepped.{step_area, step_of, Stepped}
 use Rattle.newton_step.specs.declared.Step.{Step}
 use Rattle.newton_step.specs.declared.Step.TheVariants.{Lost, Stayed, Moved}
-use Rattle.interior_point.specs.InteriorPoint.{State, nextT, move, problem, origin, interiorPoint}
-use Rattle.interior_point.specs.Account.{landed, state_of, point_of, Standing, Started, left_of, test_by, test_of, improves, lostRun, Settled, Turnable, Turned, searchOf, Found}
+use Rattle.interior_point.specs.InteriorPoint.{State, next_t, move, problem, origin, interior_point}
+use Rattle.interior_point.specs.Account.{landed, state_of, point_of, Standing, Started, left_of, test_by, test_of, improves, lost_run, Settled, Turnable, Turned, search_of, Found}
 use Rattle.interior_point.specs.declared.Run.{Run}
 use Rattle.interior_point.specs.declared.Test.TheVariants.{Goes, Stops}
 use Rattle.interior_point.proofs.Places.{step_small}
 
 -- the account of the start, where v is its gap
-abbrev pub startRun : Float → Float → Run
-startRun v p = record { t = c1e-10; step = infinity; gap = v; primal = p; first = v; best = v; n_iter = 0; improvements = 0; stalled = 0; lost = false }
+abbrev pub start_run : Float → Float → Run
+start_run v p = record { t = c1e_10; step = infinity; gap = v; primal = p; first = v; best = v; n_iter = 0; improvements = 0; stalled = 0; lost = false }
 
 -- what a step's answer says: whether the pivots are sound, whether the last trial is inside, and the step
-was-lost : (a b : Bool) (x : Float) → step_of a b x ≡ Lost → a ≡ false
-was-lost false b x e = refl
-was-lost true false x e = impossible cc
-was-lost true true x e = impossible cc
+was_lost : (a b : Bool) (x : Float) → step_of a b x ≡ Lost → a ≡ false
+was_lost false b x e = refl
+was_lost true false x e = impossible cc
+was_lost true true x e = impossible cc
 
-was-stayed : (a b : Bool) (x step : Float) → step_of a b x ≡ Stayed step → (a ≡ true) × (b ≡ false) × (x ≡ step)
-was-stayed false b x step e = impossible cc
-was-stayed true false x step e = (refl, refl, cc)
-was-stayed true true x step e = impossible cc
+was_stayed : (a b : Bool) (x step : Float) → step_of a b x ≡ Stayed step → (a ≡ true) × (b ≡ false) × (x ≡ step)
+was_stayed false b x step e = impossible cc
+was_stayed true false x step e = (refl, refl, cc)
+was_stayed true true x step e = impossible cc
 
-was-moved : (a b : Bool) (x step : Float) → step_of a b x ≡ Moved step → (a ≡ true) × (b ≡ true) × (x ≡ step)
-was-moved false b x step e = impossible cc
-was-moved true false x step e = impossible cc
-was-moved true true x step e = (refl, refl, cc)
+was_moved : (a b : Bool) (x step : Float) → step_of a b x ≡ Moved step → (a ≡ true) × (b ≡ true) × (x ≡ step)
+was_moved false b x step e = impossible cc
+was_moved true false x step e = impossible cc
+was_moved true true x step e = (refl, refl, cc)
 
 -- what is so where another iteration is made
 pub record GoesOn (a b c d : Bool) : Type 0 where
@@ -77,7 +77,7 @@ go_on false false true false e = record { found = refl; wide = refl; within = re
 -- the search ended at p, and why
 pub record EndsAt (e : Ended State) (p : Point State) (why : Reason) : Type 0 where
   pub state : p.state ≡ e.state
-  pub n-iter : p.n-iter ≡ e.n-iter
+  pub n_iter : p.n_iter ≡ e.n_iter
   pub first : p.first ≡ e.first
   pub best : p.best ≡ e.best
   pub improvements : p.improvements ≡ e.improvements
@@ -86,30 +86,30 @@ pub record EndsAt (e : Ended State) (p : Point State) (why : Reason) : Type 0 wh
 ended_at : (e : Ended State) (p : Point State) (r why : Reason) → ended p r ≡ e → Stops r ≡ Stops why → EndsAt e p why
 ended_at e p r why q s = record {
   state = ap (λ (x : Ended State). x.state) q;
-  n-iter = ap (λ (x : Ended State). x.n-iter) q;
+  n_iter = ap (λ (x : Ended State). x.n_iter) q;
   first = ap (λ (x : Ended State). x.first) q;
   best = ap (λ (x : Ended State). x.best) q;
   improvements = ap (λ (x : Ended State). x.improvements) q;
   reason = (let h : why ≡ r = cc in h) ∙ ap (λ (x : Ended State). x.reason) q;
 }
 
-module _ (L : Problem State) (tol : Float) (max-iter : ℕ) (e : Ended State) (p : Point State) (gone : Bool) (why : Reason) (h : p.n-iter ≤ max-iter) (left : left_of L tol (max-iter - p.n-iter) p gone ≡ e) where
+module _ (L : Problem State) (tol : Float) (max_iter : ℕ) (e : Ended State) (p : Point State) (gone : Bool) (why : Reason) (h : p.n_iter ≤ max_iter) (left : left_of L tol (max_iter - p.n_iter) p gone ≡ e) where
   -- no pivot was lost: what is left ends in e
-  rest : gone ≡ false → run L tol (max-iter - p.n-iter) p ≡ e
-  rest u = sym (ap (left_of L tol (max-iter - p.n-iter) p) u) ∙ left
+  rest : gone ≡ false → run L tol (max_iter - p.n_iter) p ≡ e
+  rest u = sym (ap (left_of L tol (max_iter - p.n_iter) p) u) ∙ left
 
-  pub finish : (a b c d : Bool) → gone ≡ a → enough L tol p ≡ b → ltb p.n-iter max-iter ≡ c → eqb p.stall 10 ≡ d
+  pub finish : (a b c d : Bool) → gone ≡ a → enough L tol p ≡ b → ltb p.n_iter max_iter ≡ c → eqb p.stall 10 ≡ d
       → test_by a b c d ≡ Stops why → EndsAt e p why
-  finish true b c d u v w x q = ended_at e p PivotLost why (sym (ap (left_of L tol (max-iter - p.n-iter) p) u) ∙ left) q
-  finish false true c d u v w x q = ended_at e p GapSmall why (sym (run_small L tol (max-iter - p.n-iter) p v) ∙ rest u) q
+  finish true b c d u v w x q = ended_at e p PivotLost why (sym (ap (left_of L tol (max_iter - p.n_iter) p) u) ∙ left) q
+  finish false true c d u v w x q = ended_at e p GapSmall why (sym (run_small L tol (max_iter - p.n_iter) p v) ∙ rest u) q
   finish false false false d u v w x q =
-      let o : max-iter ≤ p.n-iter = ltb-false p.n-iter max-iter w in
-      let z : max-iter - p.n-iter ≡ 0 = omega arith in
+      let o : max_iter ≤ p.n_iter = ltb-false p.n_iter max_iter w in
+      let z : max_iter - p.n_iter ≡ 0 = omega arith in
       ended_at e p LimitSpent why (sym (run-spent L tol p v) ∙ sym (ap (λ (j : ℕ). run L tol j p) z) ∙ rest u) q
   finish false false true true u v w x q =
-      let o : p.n-iter < max-iter = ltb-true p.n-iter max-iter w in
-      let z : max-iter - p.n-iter ≡ suc (max-iter - suc p.n-iter) = omega arith in
-      ended_at e p Stalled why (sym (run-stalled L tol (max-iter - suc p.n-iter) p v x) ∙ sym (ap (λ (j : ℕ). run L tol j p) z) ∙ rest u) q
+      let o : p.n_iter < max_iter = ltb-true p.n_iter max_iter w in
+      let z : max_iter - p.n_iter ≡ suc (max_iter - suc p.n_iter) = omega arith in
+      ended_at e p Stalled why (sym (run-stalled L tol (max_iter - suc p.n_iter) p v x) ∙ sym (ap (λ (j : ℕ). run L tol j p) z) ∙ rest u) q
   finish false false true false u v w x q = impossible cc
 
 -- n is the length of the series and m of the dual point
@@ -135,7 +135,7 @@ module _ (k : ℕ) (y : List Float) (lam : Float) where
   -- what the certificate wrote, for an account of its P and gap
   certified : {s₀ s d₀ d : List Float} {p q : Float} → Certified k y lam s₀ s d₀ d p q → (r : Run) → r.primal ≡ p → r.gap ≡ p ⊖ q → Standing k y lam s d r
   certified {s₀} {s} {d₀} {d} c r e f =
-      stands_at s d (part n m s₀) r (sym (part-above nan n m c.kept (omega arith))) c.trend c.zc-is (e ∙ c.primal-is) (f ∙ λ i. c.primal-is i ⊖ c.dual-is i)
+      stands_at s d (part n m s₀) r (sym (part-above nan n m c.kept (omega arith))) c.trend c.zc_is (e ∙ c.primal_is) (f ∙ λ i. c.primal_is i ⊖ c.dual_is i)
 
   -- then the definition's test of the gap is the code's
   enough-is : {s d : List Float} {r : Run} (g : List Float) (tol : Float) → Standing k y lam s d r → enough (problem k g y lam) tol (point_of k y s r) ≡ le r.gap (tol ⊗ r.primal)
@@ -155,11 +155,11 @@ module _ (k : ℕ) (y : List Float) (lam : Float) where
   }
 
   start_is : (g s : List Float) (v p : Float) → point n m s ≡ (origin m).point → v ≡ gap_of (certify k y lam (part n m s))
-      → point_of k y s (startRun v p) ≡ start_at (problem k g y lam) (origin m)
+      → point_of k y s (start_run v p) ≡ start_at (problem k g y lam) (origin m)
   unfolding problem origin
   start_is g s v p e f = λ i. record {
-    state = record { point = e i; t = c1e-10; step = infinity };
-    n-iter = 0;
+    state = record { point = e i; t = c1e_10; step = infinity };
+    n_iter = 0;
     first = (f ∙ λ j. gap_of (certify k y lam (e j).z)) i;
     best = (f ∙ λ j. gap_of (certify k y lam (e j).z)) i;
     improvements = 0;
@@ -168,40 +168,40 @@ module _ (k : ℕ) (y : List Float) (lam : Float) where
 
   -- the fills, and then the certificate
   pub started : {s₀ s₁ s₂ s₃ d₀ d : List Float} {p q : Float} → Written n (n + m) (λ j. c0) s₀ s₁ → Written (n + m) (n + m + m + m) (λ j. c1) s₁ s₂ → Certified k y lam s₂ s₃ d₀ d p q
-      → Started k y lam s₀ s₃ d₀ d (startRun (p ⊖ q) p)
+      → Started k y lam s₀ s₃ d₀ d (start_run (p ⊖ q) p)
   started {s₀} {s₁} {s₂} {s₃} {d₀} {d} {p} {q} v w c =
-      let stands = certified c (startRun (p ⊖ q) p) refl refl in
+      let stands = certified c (start_run (p ⊖ q) p) refl refl in
       let b : Kept (n + m) (m + m) s₁ s₂ = record { size = w.size; below = w.below; above = λ j u. w.above j (omega arith) } in
-      let a = kept_then 0 (searchArea n) (written-kept v) b (omega arith) (omega arith) (omega arith) (omega arith) in
+      let a = kept_then 0 (search_area n) (written-kept v) b (omega arith) (omega arith) (omega arith) (omega arith) in
       record {
         begins = λ g. start_is g s₃ (p ⊖ q) p (origin-stands s₀ s₁ s₂ s₃ v w c.kept) stands.gap;
         standing = stands;
         lost = refl;
-        kept = kept_then 0 (searchArea n) a c.kept (omega arith) (omega arith) (omega arith) (omega arith);
-        dual-kept = c.dual-kept;
+        kept = kept_then 0 (search_area n) a c.kept (omega arith) (omega arith) (omega arith) (omega arith);
+        dual_kept = c.dual_kept;
       }
 
   -- ---- one iteration
 
   -- the move of the definition, t₁ being the next t
-  move-is : (g : List Float) (st : State) (v t₁ : Float) → length st.point.z ≡ m → t₁ ≡ nextT m v st
-      → move k g y lam v st ≡ cond (sound k (system k g lam st.point) m) (moved (landed lam st t₁ (searchLine (data_of k g (diffK k y) lam (c1 ⊘ t₁)) st.point))) lost
+  move-is : (g : List Float) (st : State) (v t₁ : Float) → length st.point.z ≡ m → t₁ ≡ next_t m v st
+      → move k g y lam v st ≡ cond (sound k (system k g lam st.point) m) (moved (landed lam st t₁ (search_line (data_of k g (diff_k k y) lam (c1 ⊘ t₁)) st.point))) lost
   unfolding move
   move-is g st v t₁ l f =
-      let q : nextT (length st.point.z) v st ≡ t₁ = (λ i. nextT (l i) v st) ∙ sym f in
-      λ i. cond (sound k (system k g lam st.point) (l i)) (moved (landed lam st (q i) (searchLine (data_of k g (diffK k y) lam (c1 ⊘ q i)) st.point))) lost
+      let q : next_t (length st.point.z) v st ≡ t₁ = (λ i. next_t (l i) v st) ∙ sym f in
+      λ i. cond (sound k (system k g lam st.point) (l i)) (moved (landed lam st (q i) (search_line (data_of k g (diff_k k y) lam (c1 ⊘ q i)) st.point))) lost
 
   module _ {dy g s₀ s₁ d₀ : List Float} {r : Run} {t₁ : Float} {w : Step} (pre : Turnable k y dy lam s₀ d₀ r)
-      (next : (p : Dual) → t₁ ≡ nextT m r.gap (record { point = p; t = r.t; step = r.step })) (stepped : Stepped k g (diffK k y) lam (c1 ⊘ t₁) n m s₀ s₁ w) where
+      (next : (p : Dual) → t₁ ≡ next_t m r.gap (record { point = p; t = r.t; step = r.step })) (stepped : Stepped k g (diff_k k y) lam (c1 ⊘ t₁) n m s₀ s₁ w) where
     abbrev stands : Standing k y lam s₀ d₀ r
     stands = pre.standing
 
-    room : n + stepArea k m ≤ searchArea n
+    room : n + step_area k m ≤ search_area n
     room = step_small k m n pre.ready.series.order.high (omega arith)
 
     -- the line search of the step
     abbrev line : Trial
-    line = searchLine (data_of k g (diffK k y) lam (c1 ⊘ t₁)) (point n m s₀)
+    line = search_line (data_of k g (diff_k k y) lam (c1 ⊘ t₁)) (point n m s₀)
 
     abbrev L : Problem State
     L = problem k g y lam
@@ -225,23 +225,23 @@ module _ (k : ℕ) (y : List Float) (lam : Float) where
     unmoved same x p v =
         stands_at s₁ d₀ (part n m s₀) x (ap (λ (q : Dual). q.z) (sym same)) (part-below nan 0 n stepped.kept (omega arith) ∙ stands.trend) stands.dual (p ∙ stands.primal) (v ∙ stands.gap)
 
-    step_kept : Kept 0 (searchArea n) s₀ s₁
-    step_kept = kept_then 0 (searchArea n) stepped.kept (kept-none 0 0 s₁) (omega arith) (omega arith) (omega (arith, room)) (omega arith)
+    step_kept : Kept 0 (search_area n) s₀ s₁
+    step_kept = kept_then 0 (search_area n) stepped.kept (kept-none 0 0 s₁) (omega arith) (omega arith) (omega (arith, room)) (omega arith)
 
     -- a lost pivot
-    pub turned-lost : w ≡ Lost → Turned k g y lam s₀ s₁ d₀ d₀ r (lostRun r)
+    pub turned-lost : w ≡ Lost → Turned k g y lam s₀ s₁ d₀ d₀ r (lost_run r)
     turned-lost e =
-        let b : firm ≡ false = was-lost firm within line.step (sym stepped.answer ∙ e) in
+        let b : firm ≡ false = was_lost firm within line.step (sym stepped.answer ∙ e) in
         let same : point n m s₁ ≡ point n m s₀ = stepped.moves ∙ rw b in
         record {
           ahead = λ tol j q f. run-lost L tol j (point_of k y s₀ r) (enough-is g tol stands ∙ q) f (by_flag false b)
-              ∙ λ i. record { state = record { point = sym same i; t = r.t; step = r.step }; n-iter = sym (add-one r.n_iter) i; first = r.first; best = r.best; improvements = r.improvements; reason = PivotLost };
-          standing = unmoved same (lostRun r) refl refl;
-          n-iter = refl;
+              ∙ λ i. record { state = record { point = sym same i; t = r.t; step = r.step }; n_iter = sym (add-one r.n_iter) i; first = r.first; best = r.best; improvements = r.improvements; reason = PivotLost };
+          standing = unmoved same (lost_run r) refl refl;
+          n_iter = refl;
           improvements = omega arith;
           stall = omega arith;
           kept = step_kept;
-          dual-kept = kept-none 0 m d₀;
+          dual_kept = kept-none 0 m d₀;
         }
 
     -- a step that ended with p and the gap v, which are those of the point that stands in s
@@ -257,7 +257,7 @@ module _ (k : ℕ) (y : List Float) (lam : Float) where
       advanced : (b : Bool) → improves r v ≡ b → point_of k y s x ≡ advance L (point_of k y s₀ r) (state_of k y s x) b
       advanced true e = λ i. record {
         state = state_of k y s x;
-        n-iter = (new.n-iter ∙ add-one r.n_iter) i;
+        n_iter = (new.n_iter ∙ add-one r.n_iter) i;
         first = new.first i;
         best = (new.best ∙ (λ j. cond (e j) v r.best) ∙ gap_is) i;
         improvements = (new.improvements ∙ (λ j. cond (e j) (r.improvements + 1) r.improvements) ∙ add-one r.improvements) i;
@@ -265,7 +265,7 @@ module _ (k : ℕ) (y : List Float) (lam : Float) where
       }
       advanced false e = λ i. record {
         state = state_of k y s x;
-        n-iter = (new.n-iter ∙ add-one r.n_iter) i;
+        n_iter = (new.n_iter ∙ add-one r.n_iter) i;
         first = new.first i;
         best = (new.best ∙ λ j. cond (e j) v r.best) i;
         improvements = (new.improvements ∙ λ j. cond (e j) (r.improvements + 1) r.improvements) i;
@@ -278,7 +278,7 @@ module _ (k : ℕ) (y : List Float) (lam : Float) where
 
       landed_at : L.move (gap L (state_of k y s₀ r)) (state_of k y s₀ r) ≡ moved (state_of k y s x)
       landed_at =
-          let q : point n m s ≡ nextPoint lam (point n m s₀) line = there ∙ stepped.moves ∙ rw sure in
+          let q : point n m s ≡ next_point lam (point n m s₀) line = there ∙ stepped.moves ∙ rw sure in
           by_flag true sure ∙ λ i. moved (record { point = sym q i; t = sym new.t i; step = (len ∙ sym new.step) i })
 
       turned : Kept 0 n s₁ s → Kept 0 m d₀ d → Turned k g y lam s₀ s d₀ d r x
@@ -288,11 +288,11 @@ module _ (k : ℕ) (y : List Float) (lam : Float) where
             ∙ sym (ap (run L tol j) (advanced (improves r v) refl))
             ∙ sym (ap (left_of L tol j (point_of k y s x)) new.lost);
         standing = after;
-        n-iter = new.n-iter;
+        n_iter = new.n_iter;
         improvements = rw new.improvements (at_most (improves r v) (r.improvements + 1) r.improvements (omega arith));
         stall = rw new.stall (no_more (improves r v));
-        kept = kept_then 0 (searchArea n) stepped.kept u (omega arith) (omega arith) (omega (arith, room)) (omega arith);
-        dual-kept = z;
+        kept = kept_then 0 (search_area n) stepped.kept u (omega arith) (omega arith) (omega (arith, room)) (omega arith);
+        dual_kept = z;
       }
         where
           no_more : (b : Bool) → cond b 0 (r.stalled + 1) ≤ r.stalled + 1
@@ -302,95 +302,95 @@ module _ (k : ℕ) (y : List Float) (lam : Float) where
     -- the point stayed, and so did its P and gap
     pub turned-stayed : {step : Float} {x : Run} → Settled r t₁ step r.primal r.gap x → w ≡ Stayed step → Turned k g y lam s₀ s₁ d₀ d₀ r x
     turned-stayed {step} {x} new e =
-        let b = was-stayed firm within line.step step (sym stepped.answer ∙ e) in
+        let b = was_stayed firm within line.step step (sym stepped.answer ∙ e) in
         let same : point n m s₁ ≡ point n m s₀ = stepped.moves ∙ rw (b.0, b.1) in
         turned new (unmoved same x new.primal new.gap) b.0 refl b.2 (kept-none 0 n s₁) (kept-none 0 m d₀)
 
     -- the point moved: it is inside the bounds, and then has its certificate
     module _ {step : Float} (e : w ≡ Moved step) where
       sure_in : (firm ≡ true) × (within ≡ true) × (line.step ≡ step)
-      sure_in = was-moved firm within line.step step (sym stepped.answer ∙ e)
+      sure_in = was_moved firm within line.step step (sym stepped.answer ∙ e)
 
       pub moved_inside : inside lam (part n m s₁) ≡ true
       moved_inside = let there : point n m s₁ ≡ line.point = stepped.moves ∙ rw (sure_in.0, sure_in.1) in ap (λ (q : Dual). inside lam q.z) there ∙ sure_in.1
 
       pub turned-moved : {s d : List Float} {p q : Float} {x : Run} → Certified k y lam s₁ s d₀ d p q → Settled r t₁ step p (p ⊖ q) x → Turned k g y lam s₀ s d₀ d r x
       turned-moved {x = x} c new =
-          turned new (certified c x new.primal new.gap) sure_in.0 (point-above n m c.kept (omega arith)) sure_in.2 c.kept c.dual-kept
+          turned new (certified c x new.primal new.gap) sure_in.0 (point_above n m c.kept (omega arith)) sure_in.2 c.kept c.dual_kept
 
   -- ---- the loop
 
   -- what holds before each iteration: what is left of the search is the whole
-  pub record Looping (g : List Float) (tol : Float) (max-iter : ℕ) (s₀ s d₀ d : List Float) (r : Run) : Type 0 where
-    pub left : left_of (problem k g y lam) tol (max-iter - r.n_iter) (point_of k y s r) r.lost ≡ run (problem k g y lam) tol max-iter (start_at (problem k g y lam) (origin m))
+  pub record Looping (g : List Float) (tol : Float) (max_iter : ℕ) (s₀ s d₀ d : List Float) (r : Run) : Type 0 where
+    pub left : left_of (problem k g y lam) tol (max_iter - r.n_iter) (point_of k y s r) r.lost ≡ run (problem k g y lam) tol max_iter (start_at (problem k g y lam) (origin m))
     pub standing : Standing k y lam s d r
-    pub within : r.n_iter ≤ max-iter
+    pub within : r.n_iter ≤ max_iter
     pub fewer : r.improvements ≤ r.n_iter
     pub idle : r.stalled ≤ 10
-    pub kept : Kept 0 (searchArea n) s₀ s
-    pub dual-kept : Kept 0 m d₀ d
+    pub kept : Kept 0 (search_area n) s₀ s
+    pub dual_kept : Kept 0 m d₀ d
 
-  pub loop-starts : {g : List Float} {tol : Float} {max-iter : ℕ} {s₀ s d₀ d : List Float} {r : Run} → Started k y lam s₀ s d₀ d r → Looping g tol max-iter s s d d r
-  loop-starts {g} {tol} {max-iter} {s = s} {d = d} {r = r} w =
+  pub loop-starts : {g : List Float} {tol : Float} {max_iter : ℕ} {s₀ s d₀ d : List Float} {r : Run} → Started k y lam s₀ s d₀ d r → Looping g tol max_iter s s d d r
+  loop-starts {g} {tol} {max_iter} {s = s} {d = d} {r = r} w =
       let e = w.begins g in
-      let none : r.n_iter ≡ 0 = ap (λ (p : Point State). p.n-iter) e in
+      let none : r.n_iter ≡ 0 = ap (λ (p : Point State). p.n_iter) e in
       let gains : r.improvements ≡ 0 = ap (λ (p : Point State). p.improvements) e in
       let stall : r.stalled ≡ 0 = ap (λ (p : Point State). p.stall) e in
-      let all : max-iter - r.n_iter ≡ max-iter = omega arith in
+      let all : max_iter - r.n_iter ≡ max_iter = omega arith in
       record {
-        left = ap (left_of (problem k g y lam) tol (max-iter - r.n_iter) (point_of k y s r)) w.lost ∙ λ i. run (problem k g y lam) tol (all i) (e i);
+        left = ap (left_of (problem k g y lam) tol (max_iter - r.n_iter) (point_of k y s r)) w.lost ∙ λ i. run (problem k g y lam) tol (all i) (e i);
         standing = w.standing;
         within = omega arith;
         fewer = omega arith;
         idle = omega arith;
-        kept = kept-none 0 (searchArea n) s;
-        dual-kept = kept-none 0 m d;
+        kept = kept-none 0 (search_area n) s;
+        dual_kept = kept-none 0 m d;
       }
 
-  module _ {g : List Float} {tol : Float} {max-iter : ℕ} {s₀ s d₀ d : List Float} {r : Run} (w : Looping g tol max-iter s₀ s d₀ d r) where
+  module _ {g : List Float} {tol : Float} {max_iter : ℕ} {s₀ s d₀ d : List Float} {r : Run} (w : Looping g tol max_iter s₀ s d₀ d r) where
     abbrev P : Problem State
     P = problem k g y lam
 
-    goes_on : test_of r tol max-iter ≡ Goes → GoesOn r.lost (le r.gap (tol ⊗ r.primal)) (ltb r.n_iter max-iter) (eqb r.stalled 10)
-    goes_on h = go_on r.lost (le r.gap (tol ⊗ r.primal)) (ltb r.n_iter max-iter) (eqb r.stalled 10) h
+    goes_on : test_of r tol max_iter ≡ Goes → GoesOn r.lost (le r.gap (tol ⊗ r.primal)) (ltb r.n_iter max_iter) (eqb r.stalled 10)
+    goes_on h = go_on r.lost (le r.gap (tol ⊗ r.primal)) (ltb r.n_iter max_iter) (eqb r.stalled 10) h
 
-    pub still : test_of r tol max-iter ≡ Goes → r.n_iter < max-iter
-    still h = ltb-true r.n_iter max-iter (goes_on h).within
+    pub still : test_of r tol max_iter ≡ Goes → r.n_iter < max_iter
+    still h = ltb-true r.n_iter max_iter (goes_on h).within
 
-    pub loop-goes : {s' d' : List Float} {x : Run} → test_of r tol max-iter ≡ Goes → Turned k g y lam s s' d d' r x → Looping g tol max-iter s₀ s' d₀ d' x
+    pub loop-goes : {s' d' : List Float} {x : Run} → test_of r tol max_iter ≡ Goes → Turned k g y lam s s' d d' r x → Looping g tol max_iter s₀ s' d₀ d' x
     loop-goes {s'} {d'} {x} h t =
         let o = goes_on h in
         let b = still h in
-        let c = t.n-iter in
-        let one : max-iter - r.n_iter ≡ suc (max-iter - x.n_iter) = omega arith in
-        let f : suc r.stalled ≤ 10 = idle-room r.stalled w.idle o.lively in
+        let c = t.n_iter in
+        let one : max_iter - r.n_iter ≡ suc (max_iter - x.n_iter) = omega arith in
+        let f : suc r.stalled ≤ 10 = idle_room r.stalled w.idle o.lively in
         record {
-          left = sym (t.ahead tol (max-iter - x.n_iter) o.wide o.lively)
+          left = sym (t.ahead tol (max_iter - x.n_iter) o.wide o.lively)
               ∙ sym (ap (λ (j : ℕ). run P tol j (point_of k y s r)) one)
-              ∙ sym (ap (left_of P tol (max-iter - r.n_iter) (point_of k y s r)) o.found)
+              ∙ sym (ap (left_of P tol (max_iter - r.n_iter) (point_of k y s r)) o.found)
               ∙ w.left;
           standing = t.standing;
           within = omega arith;
           fewer = omega (arith, t.improvements, w.fewer);
           idle = omega (arith, t.stall);
-          kept = kept_then 0 (searchArea n) w.kept t.kept (omega arith) (omega arith) (omega arith) (omega arith);
-          dual-kept = kept_then 0 m w.dual-kept t.dual-kept (omega arith) (omega arith) (omega arith) (omega arith);
+          kept = kept_then 0 (search_area n) w.kept t.kept (omega arith) (omega arith) (omega arith) (omega arith);
+          dual_kept = kept_then 0 m w.dual_kept t.dual_kept (omega arith) (omega arith) (omega arith) (omega arith);
         }
 
-    loop-ends : (why : Reason) → test_of r tol max-iter ≡ Stops why → EndsAt (run P tol max-iter (start_at P (origin m))) (point_of k y s r) why
+    loop-ends : (why : Reason) → test_of r tol max_iter ≡ Stops why → EndsAt (run P tol max_iter (start_at P (origin m))) (point_of k y s r) why
     loop-ends why h =
-        finish P tol max-iter (run P tol max-iter (start_at P (origin m))) (point_of k y s r) r.lost why w.within w.left
-        r.lost (le r.gap (tol ⊗ r.primal)) (ltb r.n_iter max-iter) (eqb r.stalled 10) refl (enough-is g tol w.standing) refl refl h
+        finish P tol max_iter (run P tol max_iter (start_at P (origin m))) (point_of k y s r) r.lost why w.within w.left
+        r.lost (le r.gap (tol ⊗ r.primal)) (ltb r.n_iter max_iter) (eqb r.stalled 10) refl (enough-is g tol w.standing) refl refl h
 
   -- the whole search
-  pub all_found : {g : List Float} {tol : Float} {max-iter : ℕ} {s₀ s₁ s d₀ d₁ d : List Float} {r₁ r : Run} {why : Reason} → g ≡ gramRow k → Started k y lam s₀ s₁ d₀ d₁ r₁
-      → Looping g tol max-iter s₁ s d₁ d r → test_of r tol max-iter ≡ Stops why → Found k y lam tol max-iter s₀ s d₀ d (record { run = r; reason = why })
-  unfolding interiorPoint
-  all_found {g} {tol} {max-iter} {s = s} {why = why} isg v w h =
+  pub all_found : {g : List Float} {tol : Float} {max_iter : ℕ} {s₀ s₁ s d₀ d₁ d : List Float} {r₁ r : Run} {why : Reason} → g ≡ gram_row k → Started k y lam s₀ s₁ d₀ d₁ r₁
+      → Looping g tol max_iter s₁ s d₁ d r → test_of r tol max_iter ≡ Stops why → Found k y lam tol max_iter s₀ s d₀ d (record { run = r; reason = why })
+  unfolding interior_point
+  all_found {g} {tol} {max_iter} {s = s} {why = why} isg v w h =
       let e = loop-ends w why h in
-      let q : run (problem k g y lam) tol max-iter (start_at (problem k g y lam) (origin m)) ≡ searchOf k y lam tol max-iter =
-      λ i. run (problem k (isg i) y lam) tol max-iter (start_at (problem k (isg i) y lam) (origin m)) in
-      let p : point n m s ≡ (searchOf k y lam tol max-iter).state.point = ap (λ (x : State). x.point) e.state ∙ ap (λ (x : Ended State). x.state.point) q in
+      let q : run (problem k g y lam) tol max_iter (start_at (problem k g y lam) (origin m)) ≡ search_of k y lam tol max_iter =
+      λ i. run (problem k (isg i) y lam) tol max_iter (start_at (problem k (isg i) y lam) (origin m)) in
+      let p : point n m s ≡ (search_of k y lam tol max_iter).state.point = ap (λ (x : State). x.point) e.state ∙ ap (λ (x : Ended State). x.state.point) q in
       record {
         ends = p;
         trend = w.standing.trend ∙ λ i. (certify k y lam (p i).z).trend;
@@ -399,9 +399,9 @@ module _ (k : ℕ) (y : List Float) (lam : Float) where
         primal = w.standing.primal ∙ λ i. (certify k y lam (p i).z).primal;
         first = e.first ∙ ap (λ (x : Ended State). x.first) q;
         best = e.best ∙ ap (λ (x : Ended State). x.best) q;
-        n-iter = e.n-iter ∙ ap (λ (x : Ended State). x.n-iter) q;
+        n_iter = e.n_iter ∙ ap (λ (x : Ended State). x.n_iter) q;
         improvements = e.improvements ∙ ap (λ (x : Ended State). x.improvements) q;
         reason = e.reason ∙ ap (λ (x : Ended State). x.reason) q;
-        kept = kept_then 0 (searchArea n) v.kept w.kept (omega arith) (omega arith) (omega arith) (omega arith);
-        dual-kept = kept_then 0 m v.dual-kept w.dual-kept (omega arith) (omega arith) (omega arith) (omega arith);
+        kept = kept_then 0 (search_area n) v.kept w.kept (omega arith) (omega arith) (omega arith) (omega arith);
+        dual_kept = kept_then 0 m v.dual_kept w.dual_kept (omega arith) (omega arith) (omega arith) (omega arith);
       }

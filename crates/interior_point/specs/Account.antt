@@ -3,47 +3,47 @@ use Rattle.std.specs.Prelude.{◌≡◌, Bool, true, false, cond, List, ℕ, suc
 use Rattle.std.specs.Float.Ieee.{lt, le}
 use Rattle.float64.specs.Ops.{◌⊗◌, c0·99}
 use Rattle.vectors.specs.Parts.{Kept, part}
-use Rattle.differences.specs.Diff.{gramRow}
+use Rattle.differences.specs.Diff.{gram_row}
 use Rattle.certificate.specs.Certificate.{Certificate, certify, gap_of}
 use Rattle.certificate.specs.Ready.{Ready}
 use Rattle.search.specs.declared.Reason.TheVariants.{GapSmall, LimitSpent, Stalled, PivotLost}
 use Rattle.search.specs.Search.{Problem, Point, Ended, ended, start_at, run}
 use Rattle.dual_point.specs.Dual.{Dual}
-use Rattle.dual_point.specs.Lanes.{searchArea}
+use Rattle.dual_point.specs.Lanes.{search_area}
 use Rattle.dual_point.specs.Places.{point}
-use Rattle.line_search.specs.LineSearch.{Trial, nextPoint}
-use Rattle.interior_point.specs.InteriorPoint.{State, problem, origin, interiorPoint}
+use Rattle.line_search.specs.LineSearch.{Trial, next_point}
+use Rattle.interior_point.specs.InteriorPoint.{State, problem, origin, interior_point}
 use Rattle.interior_point.specs.declared.Run.{Run}
 use Rattle.interior_point.specs.declared.Test.{Test}
 use Rattle.interior_point.specs.declared.Test.TheVariants.{Goes, Stops}
 use Rattle.interior_point.specs.declared.Ended as code
 
 -- the point in s, after the places of the trend
-abbrev pub pointIn : ℕ → List Float → List Float → Dual
-pointIn k y s = point (length y) (length y - k) s
+abbrev pub point_in : ℕ → List Float → List Float → Dual
+point_in k y s = point (length y) (length y - k) s
 
 -- where the search stands
 abbrev pub state_of : ℕ → List Float → List Float → Run → State
-state_of k y s r = record { point = pointIn k y s; t = r.t; step = r.step }
+state_of k y s r = record { point = point_in k y s; t = r.t; step = r.step }
 
 -- and its counts and gaps
 abbrev pub point_of : ℕ → List Float → List Float → Run → Point State
-point_of k y s r = record { state = state_of k y s r; n-iter = r.n_iter; first = r.first; best = r.best; improvements = r.improvements; stall = r.stalled }
+point_of k y s r = record { state = state_of k y s r; n_iter = r.n_iter; first = r.first; best = r.best; improvements = r.improvements; stall = r.stalled }
 
 -- the trend in s, the clamped z in d, and P and the gap of r, are those of the point in s
 pub record Standing (k : ℕ) (y : List Float) (lam : Float) (s d : List Float) (r : Run) : Type 0 where
-  pub trend : part 0 (length y) s ≡ (certify k y lam (pointIn k y s).z).trend
-  pub dual : part 0 (length y - k) d ≡ (certify k y lam (pointIn k y s).z).zc
-  pub primal : r.primal ≡ (certify k y lam (pointIn k y s).z).primal
-  pub gap : r.gap ≡ gap_of (certify k y lam (pointIn k y s).z)
+  pub trend : part 0 (length y) s ≡ (certify k y lam (point_in k y s).z).trend
+  pub dual : part 0 (length y - k) d ≡ (certify k y lam (point_in k y s).z).zc
+  pub primal : r.primal ≡ (certify k y lam (point_in k y s).z).primal
+  pub gap : r.gap ≡ gap_of (certify k y lam (point_in k y s).z)
 
 -- the start: the definition's, its trend and certificate
 pub record Started (k : ℕ) (y : List Float) (lam : Float) (s₀ s d₀ d : List Float) (r : Run) : Type 0 where
   pub begins : (g : List Float) → point_of k y s r ≡ start_at (problem k g y lam) (origin (length y - k))
   pub standing : Standing k y lam s d r
   pub lost : r.lost ≡ false
-  pub kept : Kept 0 (searchArea (length y)) s₀ s
-  pub dual-kept : Kept 0 (length y - k) d₀ d
+  pub kept : Kept 0 (search_area (length y)) s₀ s
+  pub dual_kept : Kept 0 (length y - k) d₀ d
 
 -- what is left of the search from p on, unless a pivot was lost
 abbrev pub left_of : Problem State → Float → ℕ → Point State → Bool → Ended State
@@ -56,11 +56,11 @@ test_by l e w t = cond l (Stops PivotLost) (cond e (Stops GapSmall) (cond w (con
 
 -- of r, in document 01's order
 abbrev pub test_of : Run → Float → ℕ → Test
-test_of r tol max-iter = test_by r.lost (le r.gap (tol ⊗ r.primal)) (ltb r.n_iter max-iter) (eqb r.stalled 10)
+test_of r tol max_iter = test_by r.lost (le r.gap (tol ⊗ r.primal)) (ltb r.n_iter max_iter) (eqb r.stalled 10)
 
 -- one more iteration can be counted
 pub record Countable (r : Run) : Type 0 where
-  pub n-iter : r.n_iter + 1 < 2 ^ 64
+  pub n_iter : r.n_iter + 1 < 2 ^ 64
   pub improvements : r.improvements ≤ r.n_iter
   pub stall : r.stalled ≤ 10
 
@@ -76,14 +76,14 @@ pub record Settled (r : Run) (t₁ step₁ p v : Float) (x : Run) : Type 0 where
   pub primal : x.primal ≡ p
   pub first : x.first ≡ r.first
   pub best : x.best ≡ cond (improves r v) v r.best
-  pub n-iter : x.n_iter ≡ r.n_iter + 1
+  pub n_iter : x.n_iter ≡ r.n_iter + 1
   pub improvements : x.improvements ≡ cond (improves r v) (r.improvements + 1) r.improvements
   pub stall : x.stalled ≡ cond (improves r v) 0 (r.stalled + 1)
   pub lost : x.lost ≡ false
 
 -- after a lost pivot: the iteration counts, and nothing else changes
-abbrev pub lostRun : Run → Run
-lostRun r = record {
+abbrev pub lost_run : Run → Run
+lost_run r = record {
   t = r.t;
   step = r.step;
   gap = r.gap;
@@ -98,7 +98,7 @@ lostRun r = record {
 
 -- what an iteration asks
 pub record Turnable (k : ℕ) (y dy : List Float) (lam : Float) (s d : List Float) (r : Run) : Type 0 where
-  pub ready : Ready k y dy (searchArea (length y)) (length s)
+  pub ready : Ready k y dy (search_area (length y)) (length s)
   pub room : length y - k ≤ length d
   pub counts : Countable r
   pub standing : Standing k y lam s d r
@@ -108,35 +108,35 @@ pub record Turned (k : ℕ) (g y : List Float) (lam : Float) (s₀ s d₀ d : Li
   pub ahead : (tol : Float) (j : ℕ) → le r.gap (tol ⊗ r.primal) ≡ false → eqb r.stalled 10 ≡ false
       → run (problem k g y lam) tol (suc j) (point_of k y s₀ r) ≡ left_of (problem k g y lam) tol j (point_of k y s x) x.lost
   pub standing : Standing k y lam s d x
-  pub n-iter : x.n_iter ≡ r.n_iter + 1
+  pub n_iter : x.n_iter ≡ r.n_iter + 1
   pub improvements : x.improvements ≤ r.improvements + 1
   pub stall : x.stalled ≤ r.stalled + 1
-  pub kept : Kept 0 (searchArea (length y)) s₀ s
-  pub dual-kept : Kept 0 (length y - k) d₀ d
+  pub kept : Kept 0 (search_area (length y)) s₀ s
+  pub dual_kept : Kept 0 (length y - k) d₀ d
 
 -- where the definition's search ends
-abbrev pub searchOf : ℕ → List Float → Float → Float → ℕ → Ended State
-searchOf k y lam tol max-iter = interiorPoint k (gramRow k) (length y - k) y lam tol max-iter
+abbrev pub search_of : ℕ → List Float → Float → Float → ℕ → Ended State
+search_of k y lam tol max_iter = interior_point k (gram_row k) (length y - k) y lam tol max_iter
 
 -- its certificate
 abbrev pub end_of : ℕ → List Float → Float → Float → ℕ → Certificate
-end_of k y lam tol max-iter = certify k y lam (searchOf k y lam tol max-iter).state.point.z
+end_of k y lam tol max_iter = certify k y lam (search_of k y lam tol max_iter).state.point.z
 
 -- the whole search: the point that it ended at stands in s after its trend, and clamped in d; r has its gaps and counts, and why it ended
-pub record Found (k : ℕ) (y : List Float) (lam tol : Float) (max-iter : ℕ) (s₀ s d₀ d : List Float) (r : code.Ended) : Type 0 where
-  pub ends : pointIn k y s ≡ (searchOf k y lam tol max-iter).state.point
-  pub trend : part 0 (length y) s ≡ (end_of k y lam tol max-iter).trend
-  pub dual : part 0 (length y - k) d ≡ (end_of k y lam tol max-iter).zc
-  pub gap : r.run.gap ≡ gap_of (end_of k y lam tol max-iter)
-  pub primal : r.run.primal ≡ (end_of k y lam tol max-iter).primal
-  pub first : r.run.first ≡ (searchOf k y lam tol max-iter).first
-  pub best : r.run.best ≡ (searchOf k y lam tol max-iter).best
-  pub n-iter : r.run.n_iter ≡ (searchOf k y lam tol max-iter).n-iter
-  pub improvements : r.run.improvements ≡ (searchOf k y lam tol max-iter).improvements
-  pub reason : r.reason ≡ (searchOf k y lam tol max-iter).reason
-  pub kept : Kept 0 (searchArea (length y)) s₀ s
-  pub dual-kept : Kept 0 (length y - k) d₀ d
+pub record Found (k : ℕ) (y : List Float) (lam tol : Float) (max_iter : ℕ) (s₀ s d₀ d : List Float) (r : code.Ended) : Type 0 where
+  pub ends : point_in k y s ≡ (search_of k y lam tol max_iter).state.point
+  pub trend : part 0 (length y) s ≡ (end_of k y lam tol max_iter).trend
+  pub dual : part 0 (length y - k) d ≡ (end_of k y lam tol max_iter).zc
+  pub gap : r.run.gap ≡ gap_of (end_of k y lam tol max_iter)
+  pub primal : r.run.primal ≡ (end_of k y lam tol max_iter).primal
+  pub first : r.run.first ≡ (search_of k y lam tol max_iter).first
+  pub best : r.run.best ≡ (search_of k y lam tol max_iter).best
+  pub n_iter : r.run.n_iter ≡ (search_of k y lam tol max_iter).n_iter
+  pub improvements : r.run.improvements ≡ (search_of k y lam tol max_iter).improvements
+  pub reason : r.reason ≡ (search_of k y lam tol max_iter).reason
+  pub kept : Kept 0 (search_area (length y)) s₀ s
+  pub dual_kept : Kept 0 (length y - k) d₀ d
 
 -- the state after an iteration with t, whose line search ended as e
 abbrev pub landed : Float → State → Float → Trial → State
-landed lam s t e = record { point = nextPoint lam s.point e; t = t; step = e.step }
+landed lam s t e = record { point = next_point lam s.point e; t = t; step = e.step }

@@ -1,18 +1,20 @@
 // The interior point search for the dual point of an L1 fit.
+#![tactic(auto)]
+
 ghost use Rattle.std.specs.Prelude.{◌≡◌, ◌≤◌, ◌<◌, ◌+◌, ◌-◌, ◌^◌, length};
-ghost use Rattle.differences.specs.Diff.{diffK};
+ghost use Rattle.differences.specs.Diff.{diff_k};
 ghost use Rattle.certificate.specs.Ready.{Ready};
 ghost use Rattle.dual_point.specs.Dual.{Dual};
-ghost use Rattle.dual_point.specs.Lanes.{searchArea};
+ghost use Rattle.dual_point.specs.Lanes.{search_area};
 ghost use Rattle.newton_step.specs.Stepped.{Stepped};
-ghost use Rattle.interior_point.specs.InteriorPoint.{nextT};
-ghost use Rattle.interior_point.specs.Account.{Started, test_of, Countable, lostRun, Settled, Turnable, Turned, Found};
+ghost use Rattle.interior_point.specs.InteriorPoint.{next_t};
+ghost use Rattle.interior_point.specs.Account.{Started, test_of, Countable, lost_run, Settled, Turnable, Turned, Found};
 
 use newton_step::Step;
 use search::Reason;
 
 // Where the search stands: its gaps and P, its counts, and whether a pivot was lost.
-#[derive(Drop)]
+#[derive(Clone, Copy)]
 pub struct Run {
     pub t: f64,
     pub step: f64,
@@ -27,7 +29,7 @@ pub struct Run {
 }
 
 // Where the search ended, and why.
-#[derive(Drop)]
+#[derive(Clone, Copy)]
 pub struct Ended {
     pub run: Run,
     pub reason: Reason,
@@ -35,7 +37,7 @@ pub struct Ended {
 
 // z = 0, mu1 = mu2 = 1, t = 1e-10, step infinite; the best gap is the first.
 fn start(work: &mut [f64], dual: &mut [f64], y: &[f64], dy: &[f64], lam: f64, k: usize) -> Run
-    requires { Ready k y.now dy.now (searchArea (length y.now)) (length work.old) × (length y.now - k ≤ length dual.old) }
+    requires { Ready k y.now dy.now (search_area (length y.now)) (length work.old) × (length y.now - k ≤ length dual.old) }
     ensures { Started k y.now lam work.old work.new dual.old dual.new result }
 {
     let n = y.len();
@@ -60,7 +62,7 @@ fn start(work: &mut [f64], dual: &mut [f64], y: &[f64], dy: &[f64], lam: f64, k:
 }
 
 // Whether another iteration is made, or why not.
-#[derive(Drop)]
+#[derive(Clone, Copy)]
 enum Test {
     Goes,
     Stops(Reason),
@@ -88,7 +90,7 @@ fn tested(r: Run, tol: f64, max_iter: u64) -> Test
 // The next t: larger if the last step was at least 0.2.
 fn next_t(t: f64, step: f64, gap: f64, m: usize) -> f64
     requires { m ≤ 65536 }
-    ensures { (p : Dual) → result ≡ nextT m gap (record { point = p; t = t; step = step }) }
+    ensures { (p : Dual) → result ≡ next_t m gap (record { point = p; t = t; step = step }) }
 {
     if 0.2 <= step {
         return float64::max(2.0 * (m as f64) * 2.0 / gap, 1.2 * t);
@@ -106,8 +108,8 @@ fn step_at(
     g: [f64; 3],
     k: usize,
 ) -> Step
-    requires { Ready k y.now dy.now (searchArea (length y.now)) (length work.old) }
-    ensures { Stepped k g (diffK k y.now) lam inv_t (length y.now) (length y.now - k) work.old work.new result }
+    requires { Ready k y.now dy.now (search_area (length y.now)) (length work.old) }
+    ensures { Stepped k g (diff_k k y.now) lam inv_t (length y.now) (length y.now - k) work.old work.new result }
 {
     let n = y.len();
     let m = n - k;
@@ -151,7 +153,7 @@ fn settled(r: Run, t: f64, step: f64, primal: f64, gap: f64) -> Run
 // The account after a lost pivot: the iteration counts, and nothing else changes.
 fn pivot_lost(r: Run) -> Run
     requires { r.n_iter + 1 < 2 ^ 64 }
-    ensures { result ≡ lostRun r }
+    ensures { result ≡ lost_run r }
 {
     let n_iter = r.n_iter + 1;
     Run {
@@ -206,7 +208,7 @@ pub fn ipm_l1(
     max_iter: u64,
     k: usize,
 ) -> Ended
-    requires { Ready k y.now dy.now (searchArea (length y.now)) (length work.old) × (length y.now - k ≤ length dual.old) }
+    requires { Ready k y.now dy.now (search_area (length y.now)) (length work.old) × (length y.now - k ≤ length dual.old) }
     ensures { Found k y.now lam tol max_iter work.old work.new dual.old dual.new result }
 {
     let g = differences::gram_offsets(k);

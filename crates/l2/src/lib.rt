@@ -1,9 +1,11 @@
 // L2: the trend that solves (I + lam D'D) x = y, its objective and its gap.
+#![tactic(auto)]
+
 mod sums;
 
 ghost use Rattle.std.specs.Prelude.{◌≡◌, ◌≤◌, ◌+◌, ◌-◌, ◌*◌, length};
 ghost use Rattle.differences.specs.Series.{Series};
-ghost use Rattle.l2.specs.L2.{objectiveL2, dualL2};
+ghost use Rattle.l2.specs.L2.{objective_l2, dual_l2};
 ghost use Rattle.l2.specs.Solved.{SolvedL2, Ended};
 
 // The rows of the system and then y in the first places of s, solved: the trend stands after the rows. Whether every pivot was good.
@@ -22,7 +24,7 @@ pub fn solve_l2(s: &mut [f64], y: &[f64], lam: f64, k: usize) -> bool
 // The objective of the trend x.
 fn objective(x: &[f64], y: &[f64], lam: f64, k: usize) -> f64
     requires { Series k (length y.now) × (length x.now ≡ length y.now) }
-    ensures { result ≡ objectiveL2 k y.now lam x.now }
+    ensures { result ≡ objective_l2 k y.now lam x.now }
 {
     let s = sums::squares(x, y, k);
     0.5 * s.residual + 0.5 * lam * s.differences
@@ -31,14 +33,14 @@ fn objective(x: &[f64], y: &[f64], lam: f64, k: usize) -> f64
 // G at v = lam D x.
 fn dual_l2(v: &[f64], y: &[f64], lam: f64, k: usize) -> f64
     requires { Series k (length y.now) × (length v.now + k ≡ length y.now) }
-    ensures { result ≡ dualL2 k y.now lam v.now }
+    ensures { result ≡ dual_l2 k y.now lam v.now }
 {
     let a = differences::fall_squares(v, k);
     let p = sums::products(v, y, k);
     -0.5 * a + p.dot - p.square / (2.0 * lam)
 }
 
-#[derive(Drop)]
+#[derive(Clone, Copy)]
 pub struct Ends {
     pub gap: f64,
     pub objective: f64,

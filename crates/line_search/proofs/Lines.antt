@@ -11,18 +11,18 @@ use Rattle.float64.proofs.Clash.{impossible}
 use Rattle.vectors.specs.Sums.{inside}
 use Rattle.vectors.specs.Parts.{Kept, Written}
 use Rattle.vectors.proofs.Laws.{kept_then, kept-none}
-use Rattle.vectors.proofs.Parts.{range-part}
+use Rattle.vectors.proofs.Parts.{range_part}
 use Rattle.vectors.proofs.Sums.{both}
 use Rattle.dual_point.specs.Dual.{Dual}
 use Rattle.dual_point.specs.Places.{point}
-use Rattle.dual_point.proofs.Points.{point-below, point-above}
-use Rattle.newton_system.specs.Newton.{NewtonData, residualNorm}
-use Rattle.line_search.specs.LineSearch.{along, sufficientDecrease, accepted, Trial, trials}
-use Rattle.line_search.specs.Places.{moved, searchedFrom, Attempted, Searched}
-use Rattle.line_search.proofs.Moves.{written-within, z-moved, all_moved}
+use Rattle.dual_point.proofs.Points.{point_below, point_above}
+use Rattle.newton_system.specs.Newton.{NewtonData, residual_norm}
+use Rattle.line_search.specs.LineSearch.{along, sufficient_decrease, accepted, Trial, trials}
+use Rattle.line_search.specs.Places.{moved, searched_from, Attempted, Searched}
+use Rattle.line_search.proofs.Moves.{written_within, z-moved, all_moved}
 
 module _ (c : NewtonData) where
-  accept-yes : (old step : Float) (q : Dual) (low : Bool) → true ≡ inside c.lam q.z → low ≡ sufficientDecrease (residualNorm c q) step old → low ≡ accepted c old q step
+  accept-yes : (old step : Float) (q : Dual) (low : Bool) → true ≡ inside c.lam q.z → low ≡ sufficient_decrease (residual_norm c q) step old → low ≡ accepted c old q step
   unfolding accepted
   accept-yes old step q low e h = h ∙ rw (← e)
 
@@ -33,23 +33,23 @@ module _ (c : NewtonData) where
   -- what is accepted is inside
   accepted-inside : (old step : Float) (q : Dual) → accepted c old q step ≡ true → inside c.lam q.z ≡ true
   unfolding accepted
-  accepted-inside old step q h = (both (inside c.lam q.z) (sufficientDecrease (residualNorm c q) step old) h).0
+  accepted-inside old step q h = (both (inside c.lam q.z) (sufficient_decrease (residual_norm c q) step old) h).0
 
   -- z of the trial made: it is inside, the rest is made and its residual taken, or it is not
   module _ (m b : ℕ) (step old : Float) (s₀ s₁ : List Float) (w : Written (3 * m + 0) (3 * m + m) (moved b (3 * m) step s₀) s₀ s₁) (long : 3 * m + m ≤ length s₁) where
     z-inside : {y : Bool} → y ≡ inside c.lam (take (3 * m + m - 3 * m) (drop (3 * m) s₁)) → y ≡ inside c.lam (along (point 0 m s₀) (point b m s₀) step).z
-    z-inside e = e ∙ ap (inside c.lam) (range-part (3 * m) (3 * m + m) m s₁ refl long ∙ z-moved m b step s₀ s₁ w)
+    z-inside e = e ∙ ap (inside c.lam) (range_part (3 * m) (3 * m + m) m s₁ refl long ∙ z-moved m b step s₀ s₁ w)
 
     pub trial-inside : {s₂ s₃ : List Float} {low : Bool} → true ≡ inside c.lam (take (3 * m + m - 3 * m) (drop (3 * m) s₁)) → 6 * m ≤ b
         → Written (3 * m + m) (3 * m + 3 * m) (moved b (3 * m) step s₁) s₁ s₂
-        → low ≡ sufficientDecrease (residualNorm c (point (3 * m) m s₂)) step old → Kept (6 * m) m s₂ s₃ → Attempted c m b step old s₀ s₃ true low
+        → low ≡ sufficient_decrease (residual_norm c (point (3 * m) m s₂)) step old → Kept (6 * m) m s₂ s₃ → Attempted c m b step old s₀ s₃ true low
     trial-inside {s₂} {low = low} y o v h k =
         let made = all_moved m b step s₀ s₁ w s₂ o v in
         record {
           in_bounds = z-inside y;
-          taken = λ _. point-below (3 * m) m k (omega arith) ∙ made.0;
+          taken = λ _. point_below (3 * m) m k (omega arith) ∙ made.0;
           accepts = accept-yes old step (along (point 0 m s₀) (point b m s₀) step) low (z-inside y)
-              (h ∙ ap (λ (p : Dual). sufficientDecrease (residualNorm c p) step old) made.0);
+              (h ∙ ap (λ (p : Dual). sufficient_decrease (residual_norm c p) step old) made.0);
           kept = kept_then (3 * m) (4 * m) made.1 k (omega arith) (omega arith) (omega arith) (omega arith);
         }
 
@@ -58,7 +58,7 @@ module _ (c : NewtonData) where
       in_bounds = z-inside y;
       taken = λ t. impossible cc;
       accepts = accept-no old step (along (point 0 m s₀) (point b m s₀) step) (z-inside y);
-      kept = written-within (3 * m) (4 * m) w (omega arith) (omega arith);
+      kept = written_within (3 * m) (4 * m) w (omega arith) (omega arith);
     }
 
   -- one trial of the definition: accepted, or not
@@ -77,7 +77,7 @@ module _ (c : NewtonData) where
     pub some : i ≤ 20
     pub kept : Kept (3 * m) (4 * m) s₀ s
     pub last : Dual
-    pub left : searchedFrom c m b old s₀ 20 cap (point 0 m s₀) ≡ searchedFrom c m b old s₀ (20 - i) step last
+    pub left : searched_from c m b old s₀ 20 cap (point 0 m s₀) ≡ searched_from c m b old s₀ (20 - i) step last
     pub in_bounds : 0 < i → within ≡ inside c.lam last.z
     pub taken : 0 < i → within ≡ true → point (3 * m) m s ≡ last
 
@@ -98,7 +98,7 @@ module _ (c : NewtonData) where
     trial = along (point 0 m s₀) (point b m s₀) step
 
     same : along (point 0 m s) (point b m s) step ≡ trial
-    same = λ j. along (point-below 0 m w.kept (omega arith) j) (point-above b m w.kept (omega arith) j) step
+    same = λ j. along (point_below 0 m w.kept (omega arith) j) (point_above b m w.kept (omega arith) j) step
 
     more-kept : Kept (3 * m) (4 * m) s₀ s'
     more-kept = kept_then (3 * m) (4 * m) w.kept t.kept (omega arith) (omega arith) (omega arith) (omega arith)
@@ -109,7 +109,7 @@ module _ (c : NewtonData) where
     in_bounds : within ≡ inside c.lam trial.z
     in_bounds = t.in_bounds ∙ ap (λ (q : Dual). inside c.lam q.z) same
 
-    left : searchedFrom c m b old s₀ 20 cap (point 0 m s₀) ≡ searchedFrom c m b old s₀ (suc (20 - (i + 1))) step w.last
+    left : searched_from c m b old s₀ 20 cap (point 0 m s₀) ≡ searched_from c m b old s₀ (suc (20 - (i + 1))) step w.last
     left = let e : 20 - i ≡ suc (20 - (i + 1)) = omega arith in w.left ∙ rw e
 
     pub goes : good ≡ false → Searching m b cap old s₀ s' (step ⊗ half) within (i + 1)

@@ -26,8 +26,8 @@ written_then {mid = mid} v w o h e = record {
 }
 
 -- what a stretch within the n places from a on leaves alone
-pub written-within : {lo hi : ℕ} {f : ℕ → Float} {s₀ s : List Float} (a n : ℕ) → Written lo hi f s₀ s → a ≤ lo → hi ≤ a + n → Kept a n s₀ s
-written-within a n w o h = record { size = w.size; below = λ j l. w.below j (omega arith); above = λ j l. w.above j (omega arith) }
+pub written_within : {lo hi : ℕ} {f : ℕ → Float} {s₀ s : List Float} (a n : ℕ) → Written lo hi f s₀ s → a ≤ lo → hi ≤ a + n → Kept a n s₀ s
+written_within a n w o h = record { size = w.size; below = λ j l. w.below j (omega arith); above = λ j l. w.above j (omega arith) }
 
 module _ (b c : ℕ) (step : Float) (s₀ s : List Float) where
   -- one more place of the trial
@@ -66,5 +66,5 @@ module _ (m b : ℕ) (step : Float) (s₀ s₁ : List Float) (w : Written (3 * m
           mu1 = part_moved b (3 * m) step s₀ s₂ m (0 + m) (b + m) (3 * m + m) a (omega arith) (omega arith) (omega arith) (omega arith) i;
           mu2 = part_moved b (3 * m) step s₀ s₂ m (0 + m + m) (b + m + m) (3 * m + m + m) a (omega arith) (omega arith) (omega arith) (omega arith) i;
         }),
-        written-within (3 * m) (4 * m) a (omega arith) (omega arith),
+        written_within (3 * m) (4 * m) a (omega arith) (omega arith),
       )

@@ -8,7 +8,7 @@ use Rattle.differences.specs.Series.{Order}
 use Rattle.dual_point.specs.Dual.{Dual}
 use Rattle.dual_point.specs.Places.{point}
 use Rattle.newton_system.specs.Newton.{NewtonData}
-use Rattle.newton_system.specs.Rows.{residualSquareOf}
+use Rattle.newton_system.specs.Rows.{residual_square_of}
 use Rattle.line_search.specs.LineSearch.{along, accepted, Trial, trials}
 
 -- ---- the trial: the point stands in the first places, the direction from b on, the trial from c on
@@ -40,7 +40,7 @@ pub record Stretch (k m from to : ℕ) (inner : Bool) : Type 0 where
 
 -- after the trial stands what these places of it add to the square of the residual
 pub record Squares (c : NewtonData) (m from to : ℕ) (s₀ s : List Float) : Type 0 where
-  pub each : Written (6 * m + from) (6 * m + to) (λ j. residualSquareOf c (point (3 * m) m s₀) (j - 6 * m)) s₀ s
+  pub each : Written (6 * m + from) (6 * m + to) (λ j. residual_square_of c (point (3 * m) m s₀) (j - 6 * m)) s₀ s
 
 -- ---- the search
 
@@ -59,12 +59,12 @@ pub record Attempted (c : NewtonData) (m b : ℕ) (step old : Float) (s₀ s : L
   pub kept : Kept (3 * m) (4 * m) s₀ s
 
 -- n trials from s₀ on
-abbrev pub searchedFrom : NewtonData → ℕ → ℕ → Float → List Float → ℕ → Float → Dual → Trial
-searchedFrom c m b old s n step last = trials c (point 0 m s) (point b m s) old n step last
+abbrev pub searched_from : NewtonData → ℕ → ℕ → Float → List Float → ℕ → Float → Dual → Trial
+searched_from c m b old s n step last = trials c (point 0 m s) (point b m s) old n step last
 
 -- what a line search leaves: its step, whether its last trial is inside, and inside that trial after the point
 pub record Searched (c : NewtonData) (m b : ℕ) (cap old : Float) (s₀ s : List Float) (step : Float) (within : Bool) : Type 0 where
-  pub step_is : (searchedFrom c m b old s₀ 20 cap (point 0 m s₀)).step ≡ step
-  pub in_bounds : within ≡ inside c.lam (searchedFrom c m b old s₀ 20 cap (point 0 m s₀)).point.z
-  pub taken : within ≡ true → point (3 * m) m s ≡ (searchedFrom c m b old s₀ 20 cap (point 0 m s₀)).point
+  pub step_is : (searched_from c m b old s₀ 20 cap (point 0 m s₀)).step ≡ step
+  pub in_bounds : within ≡ inside c.lam (searched_from c m b old s₀ 20 cap (point 0 m s₀)).point.z
+  pub taken : within ≡ true → point (3 * m) m s ≡ (searched_from c m b old s₀ 20 cap (point 0 m s₀)).point
   pub kept : Kept (3 * m) (4 * m) s₀ s

@@ -1,14 +1,16 @@
 // The line search along the direction of a Newton step. A point stands in a run as z, mu1, mu2, m places each.
+#![tactic(auto)]
+
 ghost use Rattle.std.specs.Prelude.{◌≡◌, ◌+◌, ◌*◌, length};
 ghost use Rattle.vectors.specs.Vec.{at};
 ghost use Rattle.vectors.specs.Sums.{sum_to};
 ghost use Rattle.vectors.specs.Parts.{Kept, Written};
 ghost use Rattle.differences.specs.Series.{Order};
 ghost use Rattle.gram.specs.Gram.{product};
-ghost use Rattle.newton_system.specs.Newton.{residualNorm};
+ghost use Rattle.newton_system.specs.Newton.{residual_norm};
 ghost use Rattle.newton_system.specs.Rows.{data_of};
 ghost use Rattle.dual_point.specs.Places.{point};
-ghost use Rattle.line_search.specs.LineSearch.{sufficientDecrease};
+ghost use Rattle.line_search.specs.LineSearch.{sufficient_decrease};
 ghost use Rattle.line_search.specs.Places.{MoveRoom, moved, TrialRoom, Stretch, Squares, LineRoom, Attempted, Searched};
 
 // The places from `from` up to `to` of the trial at a step, which stands from c on. The point stands in the first places, the direction from b on.
@@ -110,7 +112,7 @@ fn low_enough(
     old: f64,
 ) -> bool
     requires { TrialRoom k m (length s.old) (length dy.now) }
-    ensures { (result ≡ sufficientDecrease (residualNorm (data_of k g dy.now lam inv_t) (point (3 * m) m s.old)) step old)
+    ensures { (result ≡ sufficient_decrease (residual_norm (data_of k g dy.now lam inv_t) (point (3 * m) m s.old)) step old)
         × Kept (6 * m) m s.old s.new }
 {
     let e = 6 * m;
@@ -120,7 +122,7 @@ fn low_enough(
     square_root::sqrt(a) <= (1.0 - 0.01 * step) * old
 }
 
-#[derive(Drop)]
+#[derive(Clone, Copy)]
 struct Tried {
     inside: bool,
     good: bool,
@@ -161,7 +163,7 @@ fn attempt(
 }
 
 // How a line search ended: its last step, halved if the trial was not accepted, and whether the last trial is inside.
-#[derive(Drop)]
+#[derive(Clone, Copy)]
 pub struct Trial {
     pub step: f64,
     pub inside: bool,

@@ -2,5 +2,5 @@
 use Rattle.std.specs.Prelude.{ℕ, List, map, get_or}
 
 -- the positions of the places ks, where ps has the position of each place
-abbrev pub positionsAt : List ℕ → List ℕ → List ℕ
-positionsAt ps ks = map (λ (k : ℕ). get_or ps k 0) ks
+abbrev pub positions_at : List ℕ → List ℕ → List ℕ
+positions_at ps ks = map (λ (k : ℕ). get_or ps k 0) ks

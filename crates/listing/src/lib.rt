@@ -1,15 +1,17 @@
 // The listing of a fit, or of a refusal, as bytes at the start of a lent array, which always suffices.
 // Inside, each function writes from a place on and answers the place past it.
+#![tactic(auto)]
+
 ghost use Rattle.std.specs.Prelude.{◌≡◌, cond, ◌+◌, ◌*◌, ◌≤◌, ◌<◌, length, get_or};
 ghost use Rattle.vectors.specs.Parts.{Wrote};
 ghost use Rattle.fields.specs.Puts.{Puts};
-ghost use Rattle.lines.specs.Lines.{refusedLine};
-ghost use Rattle.listing.specs.Shown.{shownLine, firstHours, firstKnots, Below, shownListing};
+ghost use Rattle.lines.specs.Lines.{refused_line};
+ghost use Rattle.listing.specs.Shown.{shown_line, first_hours, first_knots, Below, shown_listing};
 
 use search::Reason;
 
 // What is shown of a fit besides its trend, its cycle and its knots: n hours, and so many knots.
-#[derive(Drop)]
+#[derive(Clone, Copy)]
 pub struct Shown {
     pub n: usize,
     pub order: u32,
@@ -41,7 +43,7 @@ fn put_hours(
 ) -> usize
     requires n_in_bounds { (n ≤ length positions.now) × (n ≤ length trend.now) × (n ≤ length cycle.now) }
     requires n_in_bounds_2 { at + 57 * n ≤ length out.old }
-    ensures { Puts out.old at (firstHours positions.now trend.now cycle.now n) out.new result (57 * n) }
+    ensures { Puts out.old at (first_hours positions.now trend.now cycle.now n) out.new result (57 * n) }
 {
     let mut i: usize = 0;
     let mut pos = at;
@@ -65,7 +67,7 @@ fn knot_position(positions: &[u32], knot: u32) -> u64
 fn put_knots(out: &mut [u8], at: usize, positions: &[u32], knots: &[u32], n: usize) -> usize
     requires n_in_bounds { (n ≤ length knots.now) × Below knots.now n (length positions.now) }
     requires n_in_bounds_2 { at + 26 * n ≤ length out.old }
-    ensures { Puts out.old at (firstKnots positions.now knots.now n) out.new result (26 * n) }
+    ensures { Puts out.old at (first_knots positions.now knots.now n) out.new result (26 * n) }
 {
     let mut i: usize = 0;
     let mut pos = at;
@@ -86,7 +88,7 @@ fn bit(b: bool) -> u64
 // The first line of a fit.
 fn put_fit_line(out: &mut [u8], at: usize, f: Shown) -> usize
     requires { at + 151 ≤ length out.old }
-    ensures { Puts out.old at (shownLine f) out.new result 151 }
+    ensures { Puts out.old at (shown_line f) out.new result 151 }
 {
     let why = f.reason;
     let reason = search::number(why);
@@ -109,7 +111,7 @@ pub fn put_listing(
 ) -> usize
     requires n_bound { (f.n ≤ 168) × (f.knots ≤ 168) }
     requires n_in_bounds { (f.n ≤ length positions.now) × Below knots.now f.knots (length positions.now) }
-    ensures { Wrote out.old 0 (shownListing f positions.now trend.now cycle.now knots.now) out.new result }
+    ensures { Wrote out.old 0 (shown_listing f positions.now trend.now cycle.now knots.now) out.new result }
 {
     let n = f.n;
     let k = f.knots;
@@ -121,7 +123,7 @@ pub fn put_listing(
 
 // The line of a refusal, at the start of out: answers how many bytes it has.
 pub fn put_refused(out: &mut [u8; 16384], number: u32) -> usize
-    ensures { Wrote out.old 0 (refusedLine number) out.new result }
+    ensures { Wrote out.old 0 (refused_line number) out.new result }
 {
     lines::put_refused_line(out, 0, number as u64)
 }

@@ -1,9 +1,11 @@
 // One Newton step of the interior point search.
+#![tactic(auto)]
+
 ghost use Rattle.std.specs.Prelude.{length};
 ghost use Rattle.newton_step.specs.Stepped.{Steppable, Stepped};
 
 // One Newton step: a pivot was bad; or, with this step, the point stayed, since the last trial is not inside the bounds, or moved.
-#[derive(Drop)]
+#[derive(Clone, Copy)]
 pub enum Step {
     Lost,
     Stayed(f64),

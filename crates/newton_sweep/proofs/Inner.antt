@@ -55,8 +55,8 @@ module _ {k a m : ℕ} {s : List Float} (room : Room k a m s) where
       put-twice = rw (first-put a (places k m) s t room.fits long, rest_put a (places k m) s t room.fits long)
 
 -- so in a loop over some of the rows, where each is lent the places of the system
-module _ {k : ℕ} {g dy : List Float} {lam inv-t : Float} {a m from to l r : ℕ} {acc₀ acc : Float} {s₀ s t u : List Float} {ok : Bool} {v : Row} (pre : AtRows k a m from to (length s₀) l)
-    (w : Going k g dy lam inv-t a m from to acc₀ s₀ s acc r) (b : r < to) (new : RowMade k g dy lam inv-t (point 0 m s) r v)
+module _ {k : ℕ} {g dy : List Float} {lam inv_t : Float} {a m from to l r : ℕ} {acc₀ acc : Float} {s₀ s t u : List Float} {ok : Bool} {v : Row} (pre : AtRows k a m from to (length s₀) l)
+    (w : Going k g dy lam inv_t a m from to acc₀ s₀ s acc r) (b : r < to) (new : RowMade k g dy lam inv_t (point 0 m s) r v)
     (st : Stored k m r (besides k g v.diagonal) v.right (take (a + places k m - a) (drop a s)) t)
     (e : Eliminated k m r (take (a + places k m - a) (drop a (put_back a (a + places k m - a) s t))) u ok) where
   put : Stored k m r (besides k g v.diagonal) v.right (mid k a m s) t
@@ -65,10 +65,10 @@ module _ {k : ℕ} {g dy : List Float} {lam inv-t : Float} {a m from to l r : �
   factored : Eliminated k m r (mid k a m (put_back a (places k m) s t)) u ok
   factored = rw (lent a (places k m)) at e
 
-  pub any-more : ok ≡ true → Going k g dy lam inv-t a m from to acc₀ s₀ (put_back a (a + places k m - a) (put_back a (a + places k m - a) s t) u) (add binary64 acc v.square) (r + 1)
+  pub any-more : ok ≡ true → Going k g dy lam inv_t a m from to acc₀ s₀ (put_back a (a + places k m - a) (put_back a (a + places k m - a) s t) u) (add binary64 acc v.square) (r + 1)
   any-more y = rw (lent a (places k m)) (going_more pre w b new (done-any (room pre w) put factored) (put-twice (room pre w) put factored) y)
 
-  pub any-bad : ok ≡ false → SweptOn k g dy lam inv-t a m from to acc₀ s₀ (put_back a (a + places k m - a) (put_back a (a + places k m - a) s t) u) (record { acc = acc; good = false })
+  pub any-bad : ok ≡ false → SweptOn k g dy lam inv_t a m from to acc₀ s₀ (put_back a (a + places k m - a) (put_back a (a + places k m - a) s t) u) (record { acc = acc; good = false })
   any-bad y = rw (lent a (places k m)) (going-bad pre w b new (done-any (room pre w) put factored) (put-twice (room pre w) put factored) y)
 
 -- a row stored over another

@@ -8,8 +8,8 @@ use Rattle.banded.specs.Solve.{forward}
 use Rattle.banded.specs.Run.{concat}
 use Rattle.elimination.specs.Decomposed.{Reached}
 use Rattle.dual_point.specs.Places.{point}
-use Rattle.newton_system.specs.Newton.{system, rhs, residualSquare, newtonZ}
-use Rattle.newton_system.specs.Rows.{data_of, residualSquareOf}
+use Rattle.newton_system.specs.Newton.{system, rhs, residual_square, newton_z}
+use Rattle.newton_system.specs.Rows.{data_of, residual_square_of}
 use Rattle.newton_sweep.specs.declared.Solved.{Solved}
 
 -- a point of m places in the first 3·m of a run of n, and the room for its system from place a on, with D y in l places
@@ -27,32 +27,32 @@ pub record AtRows (k a m from to n l : ℕ) : Type 0 where
   pub within : to ≤ m
 
 -- from place a on, s holds the factor of the system of the point in s₀, and its right side carried forward, if all pivots are good
-pub record Swept (k : ℕ) (g dy : List Float) (lam inv-t : Float) (a m : ℕ) (s₀ s : List Float) (w : Solved) : Type 0 where
+pub record Swept (k : ℕ) (g dy : List Float) (lam inv_t : Float) (a m : ℕ) (s₀ s : List Float) (w : Solved) : Type 0 where
   pub answer : w.good ≡ sound k (system k g lam (point 0 m s₀)) m
-  pub square : w.good ≡ true → w.acc ≡ residualSquare (data_of k g dy lam inv-t) (point 0 m s₀)
+  pub square : w.good ≡ true → w.acc ≡ residual_square (data_of k g dy lam inv_t) (point 0 m s₀)
   pub factor : w.good ≡ true → part a (m * (k + 1)) s ≡ concat (rows k (system k g lam (point 0 m s₀)) m)
-  pub side : w.good ≡ true → part (a + m * (k + 1)) m s ≡ forward k (rows k (system k g lam (point 0 m s₀)) m) (rhs (data_of k g dy lam inv-t) (point 0 m s₀)) m
+  pub side : w.good ≡ true → part (a + m * (k + 1)) m s ≡ forward k (rows k (system k g lam (point 0 m s₀)) m) (rhs (data_of k g dy lam inv_t) (point 0 m s₀)) m
   pub kept : Kept a (m * (k + 1) + m) s₀ s
 
 -- the first r rows alone, all their pivots good; acc is the residual's square over their places
-pub record Sweeping (k : ℕ) (g dy : List Float) (lam inv-t : Float) (a m : ℕ) (s₀ s : List Float) (acc : Float) (r : ℕ) : Type 0 where
+pub record Sweeping (k : ℕ) (g dy : List Float) (lam inv_t : Float) (a m : ℕ) (s₀ s : List Float) (acc : Float) (r : ℕ) : Type 0 where
   pub some : r ≤ m
   pub kept : Kept a (m * (k + 1) + m) s₀ s
-  pub sum : acc ≡ sum_to (residualSquareOf (data_of k g dy lam inv-t) (point 0 m s₀)) r
-  pub made : Reached k m r (system k g lam (point 0 m s₀)) (rhs (data_of k g dy lam inv-t) (point 0 m s₀)) (take (m * (k + 1) + m) (drop a s))
+  pub sum : acc ≡ sum_to (residual_square_of (data_of k g dy lam inv_t) (point 0 m s₀)) r
+  pub made : Reached k m r (system k g lam (point 0 m s₀)) (rhs (data_of k g dy lam inv_t) (point 0 m s₀)) (take (m * (k + 1) + m) (drop a s))
 
 -- the rows up to `to`, or a bad pivot among them
-pub record SweptTo (k : ℕ) (g dy : List Float) (lam inv-t : Float) (a m to : ℕ) (s₀ s : List Float) (w : Solved) : Type 0 where
-  pub on : w.good ≡ true → Sweeping k g dy lam inv-t a m s₀ s w.acc to
-  pub ended : w.good ≡ false → Swept k g dy lam inv-t a m s₀ s w
+pub record SweptTo (k : ℕ) (g dy : List Float) (lam inv_t : Float) (a m to : ℕ) (s₀ s : List Float) (w : Solved) : Type 0 where
+  pub on : w.good ≡ true → Sweeping k g dy lam inv_t a m s₀ s w.acc to
+  pub ended : w.good ≡ false → Swept k g dy lam inv_t a m s₀ s w
 
 -- s, where the rows up to `from` stood with acc, became s' with those up to `to`: for whatever point in s₀ they were made
 abbrev pub SweptOn : ℕ → List Float → List Float → Float → Float → ℕ → ℕ → ℕ → ℕ → Float → List Float → List Float → Solved → Type 0
-SweptOn k g dy lam inv-t a m from to acc s s' w = (s₀ : List Float) → Sweeping k g dy lam inv-t a m s₀ s acc from → SweptTo k g dy lam inv-t a m to s₀ s' w
+SweptOn k g dy lam inv_t a m from to acc s s' w = (s₀ : List Float) → Sweeping k g dy lam inv_t a m s₀ s acc from → SweptTo k g dy lam inv_t a m to s₀ s' w
 
 -- and once it is solved: dz stands after the rows
-pub record NewtonSolved (k : ℕ) (g dy : List Float) (lam inv-t : Float) (a m : ℕ) (s₀ s : List Float) (w : Solved) : Type 0 where
+pub record NewtonSolved (k : ℕ) (g dy : List Float) (lam inv_t : Float) (a m : ℕ) (s₀ s : List Float) (w : Solved) : Type 0 where
   pub answer : w.good ≡ sound k (system k g lam (point 0 m s₀)) m
-  pub square : w.good ≡ true → w.acc ≡ residualSquare (data_of k g dy lam inv-t) (point 0 m s₀)
-  pub dz : w.good ≡ true → part (a + m * (k + 1)) m s ≡ newtonZ (data_of k g dy lam inv-t) (point 0 m s₀)
+  pub square : w.good ≡ true → w.acc ≡ residual_square (data_of k g dy lam inv_t) (point 0 m s₀)
+  pub dz : w.good ≡ true → part (a + m * (k + 1)) m s ≡ newton_z (data_of k g dy lam inv_t) (point 0 m s₀)
   pub kept : Kept a (m * (k + 1) + m) s₀ s

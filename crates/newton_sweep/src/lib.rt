@@ -1,9 +1,11 @@
 // The Newton system of a dual point swept: its rows made, factored and carried forward one after the other; and then solved.
+#![tactic(auto)]
+
 ghost use Rattle.std.specs.Prelude.{◌-◌, length};
 ghost use Rattle.newton_sweep.specs.Swept.{AtSystem, AtRows, Swept, SweptOn, NewtonSolved};
 
 // The square of the residual, and whether every pivot was good.
-#[derive(Drop)]
+#[derive(Clone, Copy)]
 pub struct Solved {
     pub acc: f64,
     pub good: bool,

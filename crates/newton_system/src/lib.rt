@@ -1,4 +1,6 @@
 // The rows of the Newton system of a dual point, made and stored. And what a place adds to the residual.
+#![tactic(auto)]
+
 ghost use Rattle.std.specs.Prelude.{◌≡◌, ◌-◌, length, Float};
 ghost use Rattle.float64.specs.Ops.{◌⊕◌};
 ghost use Rattle.vectors.specs.Parts.{part};
@@ -6,11 +8,11 @@ ghost use Rattle.differences.specs.Series.{Order};
 ghost use Rattle.banded.specs.Run.{HasRow, Stored};
 ghost use Rattle.gram.specs.Gram.{product};
 ghost use Rattle.dual_point.specs.Places.{point};
-ghost use Rattle.newton_system.specs.Newton.{diagonalShift, rhsAt, residualSquareAt};
+ghost use Rattle.newton_system.specs.Newton.{diagonal_shift, rhs_at, residual_square_at};
 ghost use Rattle.newton_system.specs.Rows.{besides, AtRow, RowMade};
 
 // A row of the system: its diagonal, its right side, and what its place adds to the square of the residual.
-#[derive(Drop)]
+#[derive(Clone, Copy)]
 pub struct Row {
     pub diagonal: f64,
     pub right: f64,
@@ -19,7 +21,7 @@ pub struct Row {
 
 // What a place adds to the square of the residual: q is (D D') z there, inv_t is 1 / t.
 pub fn residual_of(q: f64, dy: f64, z: f64, mu1: f64, mu2: f64, lam: f64, inv_t: f64) -> f64
-    ensures { result ≡ residualSquareAt lam inv_t q dy (record { z = z; mu1 = mu1; mu2 = mu2 }) }
+    ensures { result ≡ residual_square_at lam inv_t q dy (record { z = z; mu1 = mu1; mu2 = mu2 }) }
 {
     let f1 = z - lam;
     let f2 = -z - lam;
@@ -31,7 +33,7 @@ pub fn residual_of(q: f64, dy: f64, z: f64, mu1: f64, mu2: f64, lam: f64, inv_t:
 
 // The diagonal at a place, where g0 is that of D D'.
 fn diagonal_of(z: f64, mu1: f64, mu2: f64, lam: f64, g0: f64) -> f64
-    ensures { result ≡ g0 ⊕ diagonalShift lam (record { z = z; mu1 = mu1; mu2 = mu2 }) }
+    ensures { result ≡ g0 ⊕ diagonal_shift lam (record { z = z; mu1 = mu1; mu2 = mu2 }) }
 {
     let f1 = z - lam;
     let f2 = -z - lam;
@@ -40,7 +42,7 @@ fn diagonal_of(z: f64, mu1: f64, mu2: f64, lam: f64, g0: f64) -> f64
 
 // The right side at a place.
 fn rhs_of(q: f64, dy: f64, z: f64, lam: f64, inv_t: f64) -> f64
-    ensures { (mu1 mu2 : Float) → result ≡ rhsAt lam inv_t q dy (record { z = z; mu1 = mu1; mu2 = mu2 }) }
+    ensures { (mu1 mu2 : Float) → result ≡ rhs_at lam inv_t q dy (record { z = z; mu1 = mu1; mu2 = mu2 }) }
 {
     let f1 = z - lam;
     let f2 = -z - lam;

@@ -1,4 +1,4 @@
--- The overrun of an hour in frames is the double nearest to the exact number of milliseconds, and no other is as near (`overruns-nearest`).
+-- The overrun of an hour in frames is the double nearest to the exact number of milliseconds, and no other is as near (`overruns_nearest`).
 -- Assumes nothing.
 use mathlib.Core.Path.{◌≡◌, refl, sym, ◌∙◌, subst}
 use Prim.Native.Nat.{ℕ, zero, suc, ◌+◌, ◌*◌, ◌^◌, ◌≤◌, ◌<◌}
@@ -13,17 +13,17 @@ use lib.Ieee.Exact.{HasValue}
 use lib.Ieee.Fits.{round-fits}
 use lib.Ieee.Scale.{round_same}
 use Rattle.float64.specs.Helpers.{is_finite}
-use Rattle.float64.specs.Units.{inUnits, hasMinus}
+use Rattle.float64.specs.Units.{in_units, has_minus}
 use Rattle.float64.specs.Ops.{c0}
-use Rattle.float64.proofs.Doubles.{double-grid, same-double, round-double}
-use Rattle.float64.proofs.Spacing.{value-finite, value-sign, value-units}
-use Rattle.framing.proofs.Numbers.{number-below}
+use Rattle.float64.proofs.Doubles.{double_grid, same_double, round_double}
+use Rattle.float64.proofs.Spacing.{value_finite, value_sign, value_units}
+use Rattle.framing.proofs.Numbers.{number_below}
 use Rattle.vectors.specs.Vec.{apart}
 use Rattle.overrun.specs.Fractions.{LowestTerms}
-use Rattle.overrun.specs.Overrun.{Frames, framesIn, fractionOf, isRated, isBelowZero, overrun}
+use Rattle.overrun.specs.Overrun.{Frames, frames_in, fraction_of, is_rated, is_below_zero, overrun}
 use Rattle.overrun.specs.Nearest.{distance, NearestDouble, OverrunsNearest}
 use Rattle.overrun.proofs.Fractions.{reductions}
-use Rattle.overrun.proofs.Nearest.{NearestCount, zero-nearest, across, rounded, rounded-nearest, rounded-value}
+use Rattle.overrun.proofs.Nearest.{NearestCount, zero_nearest, across, rounded, rounded-nearest, rounded-value}
 
 -- ---- zeros
 
@@ -31,13 +31,13 @@ use Rattle.overrun.proofs.Nearest.{NearestCount, zero-nearest, across, rounded, 
 abbrev nought : Bool → Float
 nought s = fin s 0 (pos 0)
 
-nought-fits : (s : Bool) → T (fits binary64 (nought s))
+nought_fits : (s : Bool) → T (fits binary64 (nought s))
 unfolding fits
-nought-fits s = tt
+nought_fits s = tt
 
-is-nought : (z : Float) → T (fits binary64 z) → is_finite z ≡ true → inUnits z ≡ 0 → z ≡ nought (hasMinus z)
+is_nought : (z : Float) → T (fits binary64 z) → is_finite z ≡ true → in_units z ≡ 0 → z ≡ nought (has_minus z)
 unfolding is_finite
-is-nought z f q e = same-double z (nought (hasMinus z)) f (nought-fits (hasMinus z)) q refl refl e
+is_nought z f q e = same_double z (nought (has_minus z)) f (nought_fits (has_minus z)) q refl refl e
 
 -- both are the same number
 noughts : (s t : Bool) → T (ne (nought s) (nought t)) → ⊥
@@ -48,7 +48,7 @@ noughts false true d = d
 noughts false false d = d
 
 round-zero : (s : Bool) (b : ℕ) → 0 < b → round binary64 s 0 b ≡ nought s
-round-zero s b h = round_same binary64 s 0 b 0 1 h (lit< tt) (sym (zero-mul b)) ∙ round-double s 0 (pos 0) (nought-fits s)
+round-zero s b h = round_same binary64 s 0 b 0 1 h (lit< tt) (sym (zero-mul b)) ∙ round_double s 0 (pos 0) (nought_fits s)
 
 -- ---- which of its two values a distance has
 
@@ -66,13 +66,13 @@ either false false h p q a b = a refl
 
 module _ (s : Bool) (a b m : ℕ) (x : Float) (b-pos : 0 < b) (f : T (fits binary64 x)) (v : HasValue x s m (2 ^ 1074)) (near : NearestCount (a * 2 ^ 1074) b m) where
   finite : is_finite x ≡ true
-  finite = value-finite x s m (2 ^ 1074) v
+  finite = value_finite x s m (2 ^ 1074) v
 
-  sign : hasMinus x ≡ s
-  sign = value-sign x s m (2 ^ 1074) v
+  sign : has_minus x ≡ s
+  sign = value_sign x s m (2 ^ 1074) v
 
-  units : inUnits x ≡ m
-  units = value-units x s m v
+  units : in_units x ≡ m
+  units = value_units x s m v
 
   own : distance s a b x ≡ apart (a * 2 ^ 1074) (m * b)
   own = rw (sign, units) (same_sign s (apart (a * 2 ^ 1074) (m * b)) (a * 2 ^ 1074 + m * b))
@@ -80,34 +80,34 @@ module _ (s : Bool) (a b m : ℕ) (x : Float) (b-pos : 0 < b) (f : T (fits binar
   others : (z : Float) → T (fits binary64 z) → is_finite z ≡ true → T (ne z x) → distance s a b x < distance s a b z
   others z g q d =
       rw own
-      (either s (hasMinus z) (apart (a * 2 ^ 1074) (m * b)) (apart (a * 2 ^ 1074) (inUnits z * b)) (a * 2 ^ 1074 + inUnits z * b)
-      (λ e. near (inUnits z) (double-grid z g) (λ h. self (same-double z x g f q finite (e ∙ sym sign) (h ∙ sym units))))
-      (across (a * 2 ^ 1074) b m (inUnits z) b-pos near (λ h e. zeros (is-nought z g q e) (is-nought x f finite (units ∙ h)))))
+      (either s (has_minus z) (apart (a * 2 ^ 1074) (m * b)) (apart (a * 2 ^ 1074) (in_units z * b)) (a * 2 ^ 1074 + in_units z * b)
+      (λ e. near (in_units z) (double_grid z g) (λ h. self (same_double z x g f q finite (e ∙ sym sign) (h ∙ sym units))))
+      (across (a * 2 ^ 1074) b m (in_units z) b-pos near (λ h e. zeros (is_nought z g q e) (is_nought x f finite (units ∙ h)))))
     where
       self : z ≡ x → ⊥
       self e = subst (λ (y : Float). HasValue y s m (2 ^ 1074)) (differs_from_itself x (subst (λ (y : Float). T (ne y x)) e d)) v
 
-      zeros : z ≡ nought (hasMinus z) → x ≡ nought (hasMinus x) → ⊥
-      zeros e h = noughts (hasMinus z) (hasMinus x) (subst (λ (y : Float). T (ne (nought (hasMinus z)) y)) h (subst (λ (y : Float). T (ne y x)) e d))
+      zeros : z ≡ nought (has_minus z) → x ≡ nought (has_minus x) → ⊥
+      zeros e h = noughts (has_minus z) (has_minus x) (subst (λ (y : Float). T (ne (nought (has_minus z)) y)) h (subst (λ (y : Float). T (ne y x)) e d))
 
   nearest-double : NearestDouble s a b x
   nearest-double = record { double = f; finite = finite; sign = sign; others = others }
 
 -- ---- a / b rounded, where it is u / v
 
-round-nearest : (s : Bool) (a b u v : ℕ) → 0 < b → b ≤ 2 ^ 1022 → 0 < v → u < 2 ^ 53 → u * b ≡ a * v → NearestDouble s a b (round binary64 s a b)
-round-nearest s zero b u v b-pos b-le v-pos u-lt e =
+round_nearest : (s : Bool) (a b u v : ℕ) → 0 < b → b ≤ 2 ^ 1022 → 0 < v → u < 2 ^ 53 → u * b ≡ a * v → NearestDouble s a b (round binary64 s a b)
+round_nearest s zero b u v b-pos b-le v-pos u-lt e =
     nearest-double s 0 b 0 (round binary64 s 0 b) b-pos (round-fits binary64 s 0 b)
     (subst (λ (x : Float). HasValue x s 0 (2 ^ 1074)) (sym (round-zero s b b-pos)) (refl, refl))
-    (zero-nearest b b-pos)
-round-nearest s (suc a) b u v b-pos b-le v-pos u-lt e =
+    (zero_nearest b b-pos)
+round_nearest s (suc a) b u v b-pos b-le v-pos u-lt e =
     nearest-double s (suc a) b (rounded (suc a) b) (round binary64 s (suc a) b) b-pos (round-fits binary64 s (suc a) b)
     (rounded-value (suc a) b u v (zero-lt-suc a) b-pos b-le v-pos u-lt e s)
     (rounded-nearest (suc a) b u v (zero-lt-suc a) b-pos b-le v-pos u-lt e)
 
 -- ---- hours in frames
 
-module _ (f : Frames) (rated : isRated f ≡ true) where
+module _ (f : Frames) (rated : is_rated f ≡ true) where
   abbrev a : ℕ
   a = nat_abs f.count * 1000 * f.denominator
 
@@ -117,26 +117,26 @@ module _ (f : Frames) (rated : isRated f ≡ true) where
   b-pos : 0 < b
   b-pos = ltb-true 0 b ((and-eq-true_iff (ltb 0 b) _).0 rated).0
 
-  upper_lt : (fractionOf f).upper < 2 ^ 53
+  upper_lt : (fraction_of f).upper < 2 ^ 53
   upper_lt = ltb-true _ _ ((and-eq-true_iff (ltb 0 f.denominator) _).0 ((and-eq-true_iff (ltb 0 b) _).0 rated).1).1
 
-  terms : LowestTerms a b (fractionOf f)
+  terms : LowestTerms a b (fraction_of f)
   terms = reductions.terms a b b-pos
 
   -- reduced or not, the fraction rounds alike
-  overrun-is : overrun f ≡ round binary64 (isBelowZero f) a b
+  overrun-is : overrun f ≡ round binary64 (is_below_zero f) a b
   unfolding overrun
-  overrun-is = rw rated (round_same binary64 (isBelowZero f) (fractionOf f).upper (fractionOf f).lower a b terms.above_zero b-pos terms.value)
+  overrun-is = rw rated (round_same binary64 (is_below_zero f) (fraction_of f).upper (fraction_of f).lower a b terms.above_zero b-pos terms.value)
 
-  nearest : b ≤ 2 ^ 1022 → NearestDouble (isBelowZero f) a b (overrun f)
+  nearest : b ≤ 2 ^ 1022 → NearestDouble (is_below_zero f) a b (overrun f)
   nearest h =
-      subst (NearestDouble (isBelowZero f) a b) (sym overrun-is)
-      (round-nearest (isBelowZero f) a b (fractionOf f).upper (fractionOf f).lower b-pos h terms.above_zero upper_lt terms.value)
+      subst (NearestDouble (is_below_zero f) a b) (sym overrun-is)
+      (round_nearest (is_below_zero f) a b (fraction_of f).upper (fraction_of f).lower b-pos h terms.above_zero upper_lt terms.value)
 
-  zero-count : f.count ≡ pos 0 → overrun f ≡ c0
+  zero_count : f.count ≡ pos 0 → overrun f ≡ c0
   unfolding of_bits
-  zero-count e = overrun-is ∙ rw (e, zero-mul f.denominator) (round-zero false b b-pos)
+  zero_count e = overrun-is ∙ rw (e, zero-mul f.denominator) (round-zero false b b-pos)
 
 -- four bytes are far below the numerators of which some put an overrun half way between two doubles
-pub overruns-nearest : OverrunsNearest
-overruns-nearest b h r = record { nearest = nearest (framesIn b) r (le_trans (le_of_lt (number-below b 4 4 h)) (lit≤ tt)); zero-count = zero-count (framesIn b) r }
+pub overruns_nearest : OverrunsNearest
+overruns_nearest b h r = record { nearest = nearest (frames_in b) r (le_trans (le_of_lt (number_below b 4 4 h)) (lit≤ tt)); zero_count = zero_count (frames_in b) r }

@@ -21,22 +21,22 @@ use Rattle.vectors.specs.Vec.{apart}
 
 -- ---- an odd number that divides x * 2 ^ j divides x
 
-odd-divides : (q x j : ℕ) → 2 * q + 1 ∣ x * 2 ^ j → 2 * q + 1 ∣ x
-odd-divides q x zero h = subst (λ (y : ℕ). 2 * q + 1 ∣ y) (mul-one x) h
-odd-divides q x (suc j) h =
+odd_divides : (q x j : ℕ) → 2 * q + 1 ∣ x * 2 ^ j → 2 * q + 1 ∣ x
+odd_divides q x zero h = subst (λ (y : ℕ). 2 * q + 1 ∣ y) (mul-one x) h
+odd_divides q x (suc j) h =
     let d = 2 * q + 1 in
     let y = x * 2 ^ j in
     let twice : d ∣ y * 2 = subst (λ (w : ℕ). d ∣ w) (ap (λ (w : ℕ). x * w) (pow-suc 2 j) ∙ sym (mul_assoc x (2 ^ j) 2)) h in
     let once : y * d - y * 2 * q ≡ y = omega arith in
-    odd-divides q x j (subst (λ (w : ℕ). d ∣ w) once (dvd-sub d (dvd-mul_left d y) (dvd-mul_right_of_dvd d twice q)))
+    odd_divides q x j (subst (λ (w : ℕ). d ∣ w) once (dvd-sub d (dvd-mul_left d y) (dvd-mul_right_of_dvd d twice q)))
 
 -- ---- m is the count nearest to n / c: every other count of a double is further away
 
 abbrev pub NearestCount : ℕ → ℕ → ℕ → Type 0
 NearestCount n c m = (z : ℕ) → Grid z → (z ≡ m → ⊥) → apart n (m * c) < apart n (z * c)
 
-pub zero-nearest : (c : ℕ) → 0 < c → NearestCount 0 c 0
-zero-nearest c h z g d = elim (eq-zero-or-pos z) [ inl e ↦ absurd (d e) | inr p ↦ omega (arith, zero-mul c, mul-pos p h) ]
+pub zero_nearest : (c : ℕ) → 0 < c → NearestCount 0 c 0
+zero_nearest c h z g d = elim (eq-zero-or-pos z) [ inl e ↦ absurd (d e) | inr p ↦ omega (arith, zero-mul c, mul-pos p h) ]
 
 -- what has the other sign is further than zero, unless it is zero
 pub across : (n c m z : ℕ) → 0 < c → NearestCount n c m → (m ≡ 0 → z ≡ 0 → ⊥) → apart n (m * c) < n + z * c
@@ -98,7 +98,7 @@ module _ (a b u v : ℕ) (a-pos : 0 < a) (b-pos : 0 < b) (b-le : b ≤ 2 ^ 1022)
   no_tie t =
       let q = leading a b in
       let h : u * 2 ^ 1075 ≡ (2 * q + 1) * (v * 2 ^ dropped a b) = tie a b u v (2 ^ 1074) (2 ^ dropped a b) q (count a % unit a b) b-pos e (div-add-mod' (count a) (unit a b)) t in
-      let divides : 2 * q + 1 ∣ u = odd-divides q u 1075 (subst (λ (x : ℕ). 2 * q + 1 ∣ x) (sym h) (dvd-mul_right (2 * q + 1) (v * 2 ^ dropped a b))) in
+      let divides : 2 * q + 1 ∣ u = odd_divides q u 1075 (subst (λ (x : ℕ). 2 * q + 1 ∣ x) (sym h) (dvd-mul_right (2 * q + 1) (v * 2 ^ dropped a b))) in
       omega (arith, leading-ge, u-lt, le_of_dvd (first_pos u b (subst (λ (x : ℕ). 0 < x) (sym e) (mul-pos a-pos v-pos))) divides)
 
   pub rounded-nearest : NearestCount (count a) b (rounded a b)

@@ -7,8 +7,8 @@ use lib.IntN.{ℤ, pos, negsuc}
 use lib.Ieee.{Float, nan, inf, binary64, is_nan, odd, units, round, of_int, eq, ne}
 use lib.Ieee.Fits.{round_is}
 use Rattle.float64.proofs.Clash.{clash}
-use Rattle.float64.proofs.Helpers.{nan-true}
-use Rattle.overrun.specs.Overrun.{Frames, isRated, fractionOf, isBelowZero, overrun}
+use Rattle.float64.proofs.Helpers.{nan_true}
+use Rattle.overrun.specs.Overrun.{Frames, is_rated, fraction_of, is_below_zero, overrun}
 
 itself : (x : Float) → is_nan x ≡ false → eq x x ≡ true
 unfolding ne
@@ -16,7 +16,7 @@ itself x h = go (eq x x) refl
   where
     go : (b : Bool) → eq x x ≡ b → b ≡ true
     go true e = refl
-    go false e = absurd (clash (nan-true x (rw e)) h)
+    go false e = absurd (clash (nan_true x (rw e)) h)
 
 -- rounding gives no NaN
 odd_number : (d : ℕ) (s : Bool) (q k l : ℕ) → is_nan (odd d s q k l) ≡ false
@@ -35,14 +35,14 @@ units_number s q k = go (ltb (q * 2 ^ k) (2 ^ 2098)) (odd 54 s q k 1074) (odd_nu
 round_number : (s : Bool) (a b : ℕ) → eq (round binary64 s a b) (round binary64 s a b) ≡ true
 round_number s a b = itself (round binary64 s a b) (ap is_nan (round_is binary64 s a b) ∙ units_number s _ _)
 
-pub whole-number : (z : ℤ) → eq (of_int binary64 z) (of_int binary64 z) ≡ true
+pub whole_number : (z : ℤ) → eq (of_int binary64 z) (of_int binary64 z) ≡ true
 unfolding of_int
-whole-number (pos n) = round_number false n 1
-whole-number (negsuc n) = round_number true (suc n) 1
+whole_number (pos n) = round_number false n 1
+whole_number (negsuc n) = round_number true (suc n) 1
 
-pub overrun-number : (f : Frames) → eq (overrun f) (overrun f) ≡ isRated f
+pub overrun_number : (f : Frames) → eq (overrun f) (overrun f) ≡ is_rated f
 unfolding overrun eq
-overrun-number f = go (isRated f) _ (round_number (isBelowZero f) (fractionOf f).upper (fractionOf f).lower)
+overrun_number f = go (is_rated f) _ (round_number (is_below_zero f) (fraction_of f).upper (fraction_of f).lower)
   where
     go : (t : Bool) (x : Float) → eq x x ≡ true → eq (cond t x nan) (cond t x nan) ≡ t
     go true x h = h

@@ -18,8 +18,8 @@ pub record Fraction : Type 0 where
   pub lower : ℕ
 
 -- a / b reduced: both divided by their greatest common divisor
-abbrev pub inLowestTerms : ℕ → ℕ → Fraction
-inLowestTerms a b = record { upper = a / gcd a b; lower = b / gcd a b }
+abbrev pub in_lowest_terms : ℕ → ℕ → Fraction
+in_lowest_terms a b = record { upper = a / gcd a b; lower = b / gcd a b }
 
 -- g divides a and b, and whatever divides both divides g
 pub record GreatestDivisor (a b g : ℕ) : Type 0 where
@@ -33,7 +33,7 @@ pub record LowestTerms (a b : ℕ) (f : Fraction) : Type 0 where
   pub value : f.upper * b ≡ a * f.lower
   pub only_one : (d : ℕ) → d ∣ f.upper → d ∣ f.lower → d ≡ 1
 
--- what is proved of `gcd` and `inLowestTerms`, for all numbers
+-- what is proved of `gcd` and `in_lowest_terms`, for all numbers
 pub record Reductions : Type 0 where
   pub divisor : (a b : ℕ) → GreatestDivisor a b (gcd a b)
-  pub terms : (a b : ℕ) → 0 < b → LowestTerms a b (inLowestTerms a b)
+  pub terms : (a b : ℕ) → 0 < b → LowestTerms a b (in_lowest_terms a b)

@@ -4,7 +4,7 @@ use Rattle.std.specs.Int.Signed.{non_neg}
 use Rattle.std.specs.Float.{nan, binary64}
 use Rattle.std.specs.Float.Ieee.{round}
 use Rattle.framing.specs.Bytes.{number_at, signed32}
-use Rattle.overrun.specs.Fractions.{Fraction, inLowestTerms}
+use Rattle.overrun.specs.Fractions.{Fraction, in_lowest_terms}
 
 -- so many frames, at numerator / denominator a second
 pub record Frames : Type 0 where
@@ -13,21 +13,21 @@ pub record Frames : Type 0 where
   pub denominator : ℕ
 
 -- the frames that a body says
-abbrev pub framesIn : List ℕ → Frames
-framesIn b = record { count = signed32 (number_at 0 4 b); numerator = number_at 4 4 b; denominator = number_at 8 4 b }
+abbrev pub frames_in : List ℕ → Frames
+frames_in b = record { count = signed32 (number_at 0 4 b); numerator = number_at 4 4 b; denominator = number_at 8 4 b }
 
 -- the size of the overrun, frames × 1000 × denominator / numerator milliseconds, reduced
-abbrev pub fractionOf : Frames → Fraction
-fractionOf f = inLowestTerms (nat_abs f.count * 1000 * f.denominator) f.numerator
+abbrev pub fraction_of : Frames → Fraction
+fraction_of f = in_lowest_terms (nat_abs f.count * 1000 * f.denominator) f.numerator
 
 -- question 22 of one hour: no zero in its rate, and the reduced fraction's upper number is below 2^53
-abbrev pub isRated : Frames → Bool
-isRated f = ltb 0 f.numerator && (ltb 0 f.denominator && ltb (fractionOf f).upper (2 ^ 53))
+abbrev pub is_rated : Frames → Bool
+is_rated f = ltb 0 f.numerator && (ltb 0 f.denominator && ltb (fraction_of f).upper (2 ^ 53))
 
 -- whether the count is below zero, and so the overrun
-abbrev pub isBelowZero : Frames → Bool
-isBelowZero f = not (non_neg f.count)
+abbrev pub is_below_zero : Frames → Bool
+is_below_zero f = not (non_neg f.count)
 
 -- the overrun: the double nearest to the fraction, ties to even, with the count's sign; not a number where question 22 refuses the rate
 unfoldable pub overrun : Frames → Float
-overrun f = cond (isRated f) (round binary64 (isBelowZero f) (fractionOf f).upper (fractionOf f).lower) nan
+overrun f = cond (is_rated f) (round binary64 (is_below_zero f) (fraction_of f).upper (fraction_of f).lower) nan

@@ -1,7 +1,9 @@
 // Overruns counted in frames: the milliseconds that so many frames last at a rate.
+#![tactic(auto)]
+
 ghost use Rattle.std.specs.Prelude.{◌≡◌, ◌+◌, ◌*◌, ◌^◌, ◌≤◌, ◌<◌, length, take, drop};
 ghost use Rattle.overrun.specs.Fractions.{gcd};
-ghost use Rattle.overrun.specs.Overrun.{framesIn, overrun};
+ghost use Rattle.overrun.specs.Overrun.{frames_in, overrun};
 ghost use Rattle.overrun.specs.Inner.{quotient_of};
 
 // The greatest common divisor, by Euclid's method: the remainder falls.
@@ -30,7 +32,7 @@ fn quotient(a: u64, b: u64, c: u64) -> f64
 // The milliseconds of an hour in frames whose body starts there, or NaN where question 22 refuses its rate.
 pub fn milliseconds(s: &[u8], at: usize) -> f64
     requires { at + 12 ≤ length s.now }
-    ensures { result ≡ overrun (framesIn (take 12 (drop at s.now))) }
+    ensures { result ≡ overrun (frames_in (take 12 (drop at s.now))) }
 {
     let count = framing::four(s, at);
     let numerator = framing::four(s, at + 4);

@@ -1,10 +1,12 @@
 // The paths of a fit, once its series is prepared at the start of work: L1 with lam 0, with lam at least lam_max and by the search, and L2.
 // Each writes behind the preparation, and answers what it found and where the trend stands (crates closed_paths, search_path).
+#![tactic(auto)]
+
 ghost use Rattle.std.specs.Prelude.{◌≡◌, ◌≤◌, length};
 ghost use Rattle.vectors.specs.Vec.{KeptOf};
 ghost use Rattle.fit.specs.Fit.{path};
 ghost use Rattle.questions.specs.Asking.{asking};
-ghost use Rattle.closed_paths.specs.Trends.{pathArea, pathMarks, trendOf, reach};
+ghost use Rattle.closed_paths.specs.Trends.{path_area, path_marks, trend_of, reach};
 ghost use Rattle.closed_paths.specs.Taken.{AsksPath, Took};
 
 use closed_paths::{Path, Trend};
@@ -12,7 +14,7 @@ use closed_paths::{Path, Trend};
 // The trend, where it stands.
 pub fn trend_of<'a>(y: &'a [f64], work: &'a [f64], t: Trend) -> &'a [f64]
     requires { reach t (length y.now) ≤ length work.now }
-    ensures { result.now ≡ trendOf y.now work.now t }
+    ensures { result.now ≡ trend_of y.now work.now t }
 {
     let n = y.len();
     match t {
@@ -45,9 +47,9 @@ pub fn take_path(
     lam_max: f64,
 ) -> Path
     requires { AsksPath k penalty y.now lam_max work.old cycle.old (length dual.old) marks.old }
-    ensures { Took (path (asking y.now lam tol max_iter k penalty)) k (pathArea penalty (length y.now)) y.now
+    ensures { Took (path (asking y.now lam tol max_iter k penalty)) k (path_area penalty (length y.now)) y.now
         work.old work.new cycle.old cycle.new dual.old dual.new result
-        × KeptOf 0 0 (pathMarks penalty (length y.now)) marks.old marks.new }
+        × KeptOf 0 0 (path_marks penalty (length y.now)) marks.old marks.new }
 {
     if penalty == 2 {
         return closed_paths::l2_path(work, dual, y, lam, k);

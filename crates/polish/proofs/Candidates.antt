@@ -9,22 +9,22 @@ use lib.ListN.{length}
 use lib.Ieee.{Float, nan}
 use Rattle.vectors.specs.Vec.{at, list}
 use Rattle.vectors.specs.Parts.{part}
-use Rattle.vectors.proofs.Laws.{list_ext, cond-cong}
+use Rattle.vectors.proofs.Laws.{list_ext, cond_cong}
 use Rattle.vectors.proofs.Parts.{at_part, put_back, part-put}
 use Rattle.banded.specs.Rows.{sound}
-use Rattle.active_set.specs.ActiveSet.{Hold, isFree, held_at, freeTo, compressed, solved}
-use Rattle.polish.specs.Polish.{candidateAt, candidate}
-use Rattle.active_set.specs.Marks.{heldBy, Marks}
+use Rattle.active_set.specs.ActiveSet.{Hold, is_free, held_at, free_to, compressed, solved}
+use Rattle.polish.specs.Polish.{candidate_at, candidate}
+use Rattle.active_set.specs.Marks.{held_by, Marks}
 use Rattle.polish.specs.Places.{found}
 use Rattle.active_set.proofs.Settling.{held_by}
-use Rattle.active_set.proofs.Laws.{free-index, free_ext}
+use Rattle.active_set.proofs.Laws.{free_index, free_ext}
 
 -- a place of it, where q free places come before and the solution stands from b on
-pub place_is : (lam : Float) (h : ℕ → Hold) (b m i q : ℕ) (s₀ s : List Float) (x : Float) → q ≡ length (freeTo h i) → q < m → at s (b + q) ≡ at s₀ (b + q)
-    → x ≡ cond (isFree (h i)) (at s (b + q)) (held_at lam (h i)) → x ≡ candidateAt lam h (part b m s₀) i
-unfolding candidateAt
+pub place_is : (lam : Float) (h : ℕ → Hold) (b m i q : ℕ) (s₀ s : List Float) (x : Float) → q ≡ length (free_to h i) → q < m → at s (b + q) ≡ at s₀ (b + q)
+    → x ≡ cond (is_free (h i)) (at s (b + q)) (held_at lam (h i)) → x ≡ candidate_at lam h (part b m s₀) i
+unfolding candidate_at
 place_is lam h b m i q s₀ s x c l p e =
-    e ∙ ap (λ (t : Float). cond (isFree (h i)) t (held_at lam (h i))) (p ∙ sym (at_part b m s₀ q (b + q) l refl) ∙ ap (at (part b m s₀)) c)
+    e ∙ ap (λ (t : Float). cond (is_free (h i)) t (held_at lam (h i))) (p ∙ sym (at_part b m s₀ q (b + q) l refl) ∙ ap (at (part b m s₀)) c)
 
 module _ {h : ℕ → Hold} {n m q : ℕ} {v : List ℕ} (w : Marks h n m v q) where
   -- the places of the solution y, which stands after b places of x, the l places of s from c on
@@ -36,27 +36,27 @@ module _ {h : ℕ → Hold} {n m q : ℕ} {v : List ℕ} (w : Marks h n m v q) w
       ∙ ap (λ (z : List Float). at z j) (part-put c l s x fits e nan b q r ∙ is)
 
   place_same : (lam : Float) (x y : List Float) → ((j : ℕ) → j < q → at x j ≡ at y j) → (i : ℕ) → i < m
-      → candidateAt lam (heldBy n v) x i ≡ candidateAt lam h y i
-  unfolding candidateAt
+      → candidate_at lam (held_by n v) x i ≡ candidate_at lam h y i
+  unfolding candidate_at
   place_same lam x y e i l =
       let c = w.count in
-      let f : freeTo (heldBy n v) i ≡ freeTo h i = free_ext (heldBy n v) h i (λ j u. held_by w j (omega arith)) in
-      let t : heldBy n v i ≡ h i = held_by w i l in
-      ap (λ (z : Hold). cond (isFree z) (at x (length (freeTo (heldBy n v) i))) (held_at lam z)) t
-      ∙ ap (λ (u : List ℕ). cond (isFree (h i)) (at x (length u)) (held_at lam (h i))) f
-      ∙ cond-cong (isFree (h i)) (at x (length (freeTo h i))) (at y (length (freeTo h i))) (held_at lam (h i))
-      (λ p. e (length (freeTo h i)) (omega (arith, free-index h i m l p)))
+      let f : free_to (held_by n v) i ≡ free_to h i = free_ext (held_by n v) h i (λ j u. held_by w j (omega arith)) in
+      let t : held_by n v i ≡ h i = held_by w i l in
+      ap (λ (z : Hold). cond (is_free z) (at x (length (free_to (held_by n v) i))) (held_at lam z)) t
+      ∙ ap (λ (u : List ℕ). cond (is_free (h i)) (at x (length u)) (held_at lam (h i))) f
+      ∙ cond_cong (is_free (h i)) (at x (length (free_to h i))) (at y (length (free_to h i))) (held_at lam (h i))
+      (λ p. e (length (free_to h i)) (omega (arith, free_index h i m l p)))
 
   -- no candidate
-  pub candidate-none : (k : ℕ) (g dy : List Float) (lam : Float) (x : List Float) → false ≡ sound k (compressed k g (freeTo h m)) q
+  pub candidate-none : (k : ℕ) (g dy : List Float) (lam : Float) (x : List Float) → false ≡ sound k (compressed k g (free_to h m)) q
       → candidate k g dy lam h m ≡ found false x
   unfolding candidate
   candidate-none k g dy lam x e = rw (← w.count, ← e)
 
   -- the candidate in the m places x, made of the solution, the first q places of y
-  pub candidate-some : (k : ℕ) (g dy : List Float) (lam : Float) (x y : List Float) → true ≡ sound k (compressed k g (freeTo h m)) q
-      → x ≡ list m (candidateAt lam (heldBy n v) y) → ((j : ℕ) → j < q → at y j ≡ at (solved k g dy lam h m) j) → candidate k g dy lam h m ≡ found true x
+  pub candidate-some : (k : ℕ) (g dy : List Float) (lam : Float) (x y : List Float) → true ≡ sound k (compressed k g (free_to h m)) q
+      → x ≡ list m (candidate_at lam (held_by n v) y) → ((j : ℕ) → j < q → at y j ≡ at (solved k g dy lam h m) j) → candidate k g dy lam h m ≡ found true x
   unfolding candidate
   candidate-some k g dy lam x y e p s =
       rw (← w.count, ← e)
-      (ap some (sym (p ∙ list_ext m (candidateAt lam (heldBy n v) y) (candidateAt lam h (solved k g dy lam h m)) (place_same lam y (solved k g dy lam h m) s))))
+      (ap some (sym (p ∙ list_ext m (candidate_at lam (held_by n v) y) (candidate_at lam h (solved k g dy lam h m)) (place_same lam y (solved k g dy lam h m) s))))

@@ -5,11 +5,11 @@ use Rattle.std.specs.Float.Ieee.{lt}
 use Rattle.float64.specs.Helpers.{is_finite}
 use Rattle.vectors.specs.Vec.{KeptOf}
 use Rattle.vectors.specs.Parts.{Kept, part}
-use Rattle.differences.specs.Diff.{diffK, gramRow}
+use Rattle.differences.specs.Diff.{diff_k, gram_row}
 use Rattle.certificate.specs.Certificate.{certify, gap_of}
 use Rattle.certificate.specs.Ready.{Ready}
 use Rattle.dual_point.specs.Places.{point}
-use Rattle.dual_point.specs.Lanes.{settleLane, candidateTrend, candidateLane, polishArea, searchArea}
+use Rattle.dual_point.specs.Lanes.{settle_lane, candidate_trend, candidate_lane, polish_area, search_area}
 use Rattle.active_set.specs.ActiveSet.{Hold}
 use Rattle.active_set.specs.Marks.{Marks}
 use Rattle.polish.specs.Polish.{candidate, polish}
@@ -27,18 +27,18 @@ pub record Fillable (n m b a places marks : ℕ) : Type 0 where
 
 -- Whatever h the marks v of a series of n tell: the candidate in its lane, if it is there.
 pub record Made (k n : ℕ) (dy : List Float) (lam : Float) (v : List ℕ) (q : ℕ) (s₀ s : List Float) (there : Bool) : Type 0 where
-  pub found-is : (h : ℕ → Hold) → Marks h n (n - k) v q → candidate k (gramRow k) dy lam h (n - k) ≡ found there (part (candidateLane n) (n - k) s)
-  pub kept : Kept (settleLane n) (polishArea n) s₀ s
+  pub found_is : (h : ℕ → Hold) → Marks h n (n - k) v q → candidate k (gram_row k) dy lam h (n - k) ≡ found there (part (candidate_lane n) (n - k) s)
+  pub kept : Kept (settle_lane n) (polish_area n) s₀ s
 
 -- ---- a polish for the series y, from a run w₀ = trend, z, mu1, mu2
 
 pub record Polishable (k : ℕ) (y dy : List Float) (places dual marks : ℕ) : Type 0 where
-  pub ready : Ready k y dy (searchArea (length y)) places
+  pub ready : Ready k y dy (search_area (length y)) places
   pub room : length y - k ≤ dual
   pub marked : 2 * length y ≤ marks
 
-abbrev pub polishFrom : ℕ → List Float → Float → List Float → Option (List Float)
-polishFrom k y lam w₀ = polish k (gramRow k) (diffK k y) lam (point (length y) (length y - k) w₀)
+abbrev pub polish_from : ℕ → List Float → Float → List Float → Option (List Float)
+polish_from k y lam w₀ = polish k (gram_row k) (diff_k k y) lam (point (length y) (length y - k) w₀)
 
 abbrev pub is_some : Option (List Float) → Bool
 is_some none = false
@@ -48,15 +48,15 @@ is_some (some z) = true
 pub record Rated (k : ℕ) (y : List Float) (lam : Float) (w d z : List Float) (r : Candidate) : Type 0 where
   pub gap : r.gap ≡ gap_of (certify k y lam z)
   pub primal : r.primal ≡ (certify k y lam z).primal
-  pub trend : part (candidateTrend (length y)) (length y) w ≡ (certify k y lam z).trend
+  pub trend : part (candidate_trend (length y)) (length y) w ≡ (certify k y lam z).trend
   pub dual : part 0 (length y - k) d ≡ (certify k y lam z).zc
 
 -- r says whether there is a candidate; if so its certificate is there, and else d is as found. Only the polish's lanes, the first m places of d and the first 2 n marks may have changed.
 pub record Polished (k : ℕ) (y : List Float) (lam : Float) (w₀ w d₀ d : List Float) (v₀ v : List ℕ) (r : Candidate) : Type 0 where
-  pub there : r.there ≡ is_some (polishFrom k y lam w₀)
-  pub rated : (z : List Float) → polishFrom k y lam w₀ ≡ some z → Rated k y lam w d z r
-  pub kept : Kept (settleLane (length y)) (polishArea (length y)) w₀ w
-  pub none-there : polishFrom k y lam w₀ ≡ none → d ≡ d₀
+  pub there : r.there ≡ is_some (polish_from k y lam w₀)
+  pub rated : (z : List Float) → polish_from k y lam w₀ ≡ some z → Rated k y lam w d z r
+  pub kept : Kept (settle_lane (length y)) (polish_area (length y)) w₀ w
+  pub none_there : polish_from k y lam w₀ ≡ none → d ≡ d₀
   pub dual : Kept 0 (length y - k) d₀ d
   pub marks : KeptOf 0 0 (2 * length y) v₀ v
 

@@ -1,15 +1,17 @@
 // The polish: the places that the multipliers hold at a bound stay there, the others come from one more banded solve, and the candidate is certified.
+#![tactic(auto)]
+
 ghost use Rattle.std.specs.Prelude.{◌≡◌, false, cond, ◌≤◌, ◌<◌, ◌-◌, ◌+◌, length};
 ghost use Rattle.vectors.specs.Vec.{at};
 ghost use Rattle.vectors.specs.Parts.{part, Written};
-ghost use Rattle.dual_point.specs.Lanes.{candidateTrend, candidateLane, searchArea};
-ghost use Rattle.active_set.specs.ActiveSet.{isFree, held_at};
-ghost use Rattle.active_set.specs.Marks.{holdOf, heldBy, Freed};
-ghost use Rattle.polish.specs.Polish.{candidateAt};
+ghost use Rattle.dual_point.specs.Lanes.{candidate_trend, candidate_lane, search_area};
+ghost use Rattle.active_set.specs.ActiveSet.{is_free, held_at};
+ghost use Rattle.active_set.specs.Marks.{hold_of, held_by, Freed};
+ghost use Rattle.polish.specs.Polish.{candidate_at};
 ghost use Rattle.polish.specs.Places.{Fillable, Made, Polishable, Polished, wins};
 
 // Whether there is a candidate, and the gap and P of its certificate.
-#[derive(Drop)]
+#[derive(Clone, Copy)]
 pub struct Candidate {
     pub there: bool,
     pub gap: f64,
@@ -19,7 +21,7 @@ pub struct Candidate {
 // A place of the candidate that h marks: where it is held, or place p of s.
 fn candidate_at(s: &[f64], p: usize, h: u32, lam: f64) -> f64
     requires { p < length s.now }
-    ensures { result ≡ cond (isFree (holdOf h)) (at s.now p) (held_at lam (holdOf h)) }
+    ensures { result ≡ cond (is_free (hold_of h)) (at s.now p) (held_at lam (hold_of h)) }
 {
     if h == 0 {
         return s[p];
@@ -30,7 +32,7 @@ fn candidate_at(s: &[f64], p: usize, h: u32, lam: f64) -> f64
 // The candidate, from place a on: where it is held, or the next place of the solution, which stands from b on.
 fn fill_candidate(s: &mut [f64], marks: &[u32], lam: f64, b: usize, a: usize, n: usize, m: usize)
     requires { Fillable n m b a (length s.old) (length marks.now) }
-    ensures { Written a (a + m) (λ j. candidateAt lam (heldBy n marks.now) (part b m s.old) (j - a)) s.old s.new }
+    ensures { Written a (a + m) (λ j. candidate_at lam (held_by n marks.now) (part b m s.old) (j - a)) s.old s.new }
 {
     let mut q = 0;
     let mut i = 0;
@@ -53,7 +55,7 @@ fn make_candidate(
     n: usize,
     q: usize,
 ) -> bool
-    requires { Freed k n marks.now (length dy.now) q × (searchArea n ≤ length s.old) }
+    requires { Freed k n marks.now (length dy.now) q × (search_area n ≤ length s.old) }
     ensures { Made k n dy.now lam marks.now q s.old s.new result }
 {
     let m = n - k;
@@ -131,8 +133,8 @@ fn either<'a>(a: &'a [f64], b: &'a [f64], second: bool) -> &'a [f64]
 
 // The iterate's trend or the candidate's, where it stands.
 pub fn winner(work: &[f64], n: usize, second: bool) -> &[f64]
-    requires { candidateLane n ≤ length work.now }
-    ensures { result.now ≡ cond second (part (candidateTrend n) n work.now) (part 0 n work.now) }
+    requires { candidate_lane n ≤ length work.now }
+    ensures { result.now ≡ cond second (part (candidate_trend n) n work.now) (part 0 n work.now) }
 {
     let a = 11 * n;
     let e = 12 * n;

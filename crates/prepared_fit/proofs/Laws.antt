@@ -10,26 +10,26 @@ use lib.Ieee.{Float}
 use Rattle.vectors.specs.Vec.{put, KeptOf}
 use Rattle.vectors.specs.Parts.{Kept, part}
 use Rattle.vectors.proofs.Laws.{kept_then}
-use Rattle.vectors.proofs.Texts.{put-start, start-put}
+use Rattle.vectors.proofs.Texts.{put_start, start_put}
 use Rattle.certificate.specs.Certificate.{minus}
 use Rattle.certificate.proofs.Laws.{length-minus}
 use Rattle.decomposition.specs.Written.{decomposed, WroteOut}
 use Rattle.questions.specs.Questions.{Asked, Lent, question}
 use Rattle.fit.specs.Outputs.{outputs}
 use Rattle.fit.specs.Fit.{refused, places, path, written, outcome, fit, after}
-use Rattle.fit.specs.Ways.{soundDD}
+use Rattle.fit.specs.Ways.{sound_dd}
 use Rattle.fit.proofs.Passed.{fit_passed}
 use Rattle.closed_paths.specs.declared.Finding.{Finding}
 use Rattle.closed_paths.specs.declared.Path.{Path}
 use Rattle.closed_paths.specs.declared.Path.TheVariants as path
-use Rattle.closed_paths.specs.Trends.{pathArea, pathMarks, trendOf, foundOf, reach, said, reached}
+use Rattle.closed_paths.specs.Trends.{path_area, path_marks, trend_of, found_of, reach, said, reached}
 use Rattle.closed_paths.specs.Taken.{Took}
 use Rattle.prepared_fit.specs.declared.Written.TheVariants.{Lost, Done}
 use Rattle.prepared_fit.specs.Fitted.{tallied, Fitted}
 
 -- a bad pivot of D D'
-pub unsound-fit : (a : Asked) (l : Lent) → question a l ≡ 0 → soundDD a ≡ false → fit a l ≡ refused 10
-unsound-fit a l e s = fit_passed a l e ∙ ap (λ (b : Bool). cond b (outcome a (path a)) (refused 10)) s
+pub unsound_fit : (a : Asked) (l : Lent) → question a l ≡ 0 → sound_dd a ≡ false → fit a l ≡ refused 10
+unsound_fit a l e s = fit_passed a l e ∙ ap (λ (b : Bool). cond b (outcome a (path a)) (refused 10)) s
 
 -- how far a found trend reaches
 pub reach-found : (r : Path) (f : Finding) (n w : ℕ) → r ≡ path.Done f → reached r n ≤ w → reach f.trend n ≤ w
@@ -37,13 +37,13 @@ unfolding reached
 reach-found r f n w e h = subst (λ (p : Path). reached p n ≤ w) e h
 
 -- u over whatever stood in its places
-put-kept : (n : ℕ) (s₀ s u : List Float) → Kept 0 n s₀ s → length u ≡ n → n ≤ length s₀ → put s 0 u ≡ put s₀ 0 u
-put-kept n s₀ s u w e fits =
+put_kept : (n : ℕ) (s₀ s u : List Float) → Kept 0 n s₀ s → length u ≡ n → n ≤ length s₀ → put s 0 u ≡ put s₀ 0 u
+put_kept n s₀ s u w e fits =
     let size = w.size in
-    let h = put-start n s u (put s 0 u) refl e (omega arith) in
-    start-put n s₀ u (put s 0 u) h.0 (kept_then 0 n w h.1 (omega arith) (omega arith) (omega arith) (omega arith)) fits
+    let h = put_start n s u (put s 0 u) refl e (omega arith) in
+    start_put n s₀ u (put s 0 u) h.0 (kept_then 0 n w h.1 (omega arith) (omega arith) (omega arith) (omega arith)) fits
 
-module _ {a : Asked} {w₀ w c₀ c₁ d₀ d : List Float} {r : Path} {marks₀ marks : List ℕ} (t : Took (path a) a.order (pathArea a.penalty (length a.y)) a.y w₀ w c₀ c₁ d₀ d r) (m : KeptOf 0 0 (pathMarks a.penalty (length a.y)) marks₀ marks) where
+module _ {a : Asked} {w₀ w c₀ c₁ d₀ d : List Float} {r : Path} {marks₀ marks : List ℕ} (t : Took (path a) a.order (path_area a.penalty (length a.y)) a.y w₀ w c₀ c₁ d₀ d r) (m : KeptOf 0 0 (path_marks a.penalty (length a.y)) marks₀ marks) where
   -- a path that was lost
   pub fitted-lost : (x : List Float) (i : List ℕ) → r ≡ path.Lost → Fitted a Lost (outputs x c₀ i d₀) (outputs x c₁ i d) w₀ w marks₀ marks
   unfolding said tallied outcome after
@@ -59,16 +59,16 @@ module _ {a : Asked} {w₀ w c₀ c₁ d₀ d : List Float} {r : Path} {marks₀
 
   -- the trend of what was found was written out, over whatever the path left in cycle; there is room in cycle and in dual
   pub fitted-done : length a.y ≤ length c₀ → places a ≤ length d₀ → (f : Finding) (count : ℕ) (t₀ x c : List Float) (i₀ i : List ℕ) → r ≡ path.Done f
-      → WroteOut a.order a.y (trendOf a.y w f.trend) count (decomposed t₀ c₁ i₀) (decomposed x c i)
+      → WroteOut a.order a.y (trend_of a.y w f.trend) count (decomposed t₀ c₁ i₀) (decomposed x c i)
       → Fitted a (Done (record { knots = count; numbers = f.numbers })) (outputs t₀ c₀ i₀ d₀) (outputs x c i d) w₀ w marks₀ marks
   unfolding said tallied outcome after written
   fitted-done long fits f count t₀ x c i₀ i e o =
-      let p : some (foundOf a.order a.y w d f) ≡ path a = sym (ap (said a.order a.y w d) e) ∙ t.says in
-      let cycle-is = o.cycle ∙ put-kept (length a.y) c₀ c₁ (minus a.y (trendOf a.y w f.trend)) t.changed.cycle (length-minus a.y (trendOf a.y w f.trend)) long in
-      let dual-is = start-put (places a) d₀ (part 0 (places a) d) d refl t.changed.dual fits in
+      let p : some (found_of a.order a.y w d f) ≡ path a = sym (ap (said a.order a.y w d) e) ∙ t.says in
+      let cycle-is = o.cycle ∙ put_kept (length a.y) c₀ c₁ (minus a.y (trend_of a.y w f.trend)) t.changed.cycle (length-minus a.y (trend_of a.y w f.trend)) long in
+      let dual_is = start_put (places a) d₀ (part 0 (places a) d) d refl t.changed.dual fits in
       record {
-        tally = ap (λ (q : ℕ). Done (record { knots = q; numbers = f.numbers })) o.count-is ∙ ap (tallied a) p;
-        out = (λ j. outputs (o.trend j) (cycle-is j) (o.knots j) (dual-is j)) ∙ ap (λ q. after (outcome a q) (outputs t₀ c₀ i₀ d₀)) p;
+        tally = ap (λ (q : ℕ). Done (record { knots = q; numbers = f.numbers })) o.count_is ∙ ap (tallied a) p;
+        out = (λ j. outputs (o.trend j) (cycle-is j) (o.knots j) (dual_is j)) ∙ ap (λ q. after (outcome a q) (outputs t₀ c₀ i₀ d₀)) p;
         work = t.changed.work;
         marked = m;
       }

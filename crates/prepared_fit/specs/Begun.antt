@@ -1,12 +1,12 @@
 -- What the questions and the preparation leave. n is the length of the series. For the contracts between our own crates.
 use Rattle.std.specs.Prelude.{◌≡◌, true, List, ℕ, ltb, length, Float}
 use Rattle.vectors.specs.Parts.{Kept, part}
-use Rattle.differences.specs.Diff.{diffK, gramRow}
+use Rattle.differences.specs.Diff.{diff_k, gram_row}
 use Rattle.gram.specs.Gram.{zstar}
-use Rattle.gram.specs.Prepared.{starLane, diffLane, preparation}
+use Rattle.gram.specs.Prepared.{star_lane, diff_lane, preparation}
 use Rattle.questions.specs.Questions.{Asked, Lent, question}
-use Rattle.fit.specs.Fit.{refused, places, lamMaxOf, fit}
-use Rattle.fit.specs.Ways.{soundDD}
+use Rattle.fit.specs.Fit.{refused, places, lam_max_of, fit}
+use Rattle.fit.specs.Ways.{sound_dd}
 use Rattle.prepared_fit.specs.declared.Begun.{Begun}
 use Rattle.prepared_fit.specs.declared.Begun.TheVariants.{Stopped, Ready}
 
@@ -19,10 +19,10 @@ pub record Stops (a : Asked) (l : Lent) (w₀ w : List Float) (q : ℕ) : Type 0
 -- the questions are passed, the series is prepared at the start of w, and top is lam_max
 pub record Readies (a : Asked) (l : Lent) (w₀ w : List Float) (top : Float) : Type 0 where
   pub passes : question a l ≡ 0
-  pub sound : soundDD a ≡ true
-  pub star : part (starLane a.order (length a.y)) (places a) w ≡ zstar a.order (gramRow a.order) (places a) a.y
-  pub differences : part (diffLane (length a.y)) (places a) w ≡ diffK a.order a.y
-  pub top-is : top ≡ lamMaxOf a
+  pub sound : sound_dd a ≡ true
+  pub star : part (star_lane a.order (length a.y)) (places a) w ≡ zstar a.order (gram_row a.order) (places a) a.y
+  pub differences : part (diff_lane (length a.y)) (places a) w ≡ diff_k a.order a.y
+  pub top_is : top ≡ lam_max_of a
   pub kept : Kept 0 (preparation (length a.y)) w₀ w
 
 -- one of the two

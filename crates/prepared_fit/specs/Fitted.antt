@@ -10,7 +10,7 @@ use Rattle.questions.specs.Questions.{Asked}
 use Rattle.fit.specs.Outputs.{Outputs}
 use Rattle.fit.specs.Fit.{Found, path, written, outcome, after}
 use Rattle.closed_paths.specs.declared.Trend.{Trend}
-use Rattle.closed_paths.specs.Trends.{pathArea, pathMarks, reach}
+use Rattle.closed_paths.specs.Trends.{path_area, path_marks, reach}
 use Rattle.closed_paths.specs.Taken.{AsksPath}
 use Rattle.prepared_fit.specs.declared.Written.{Written}
 use Rattle.prepared_fit.specs.declared.Written.TheVariants.{Lost, Done}
@@ -38,5 +38,5 @@ tallied a (some f) = Done (record { knots = length (written a f).knots; numbers 
 pub record Fitted (a : Asked) (r : Written) (b c : Outputs) (w₀ w : List Float) (marks₀ marks : List ℕ) : Type 0 where
   pub tally : r ≡ tallied a (path a)
   pub out : c ≡ after (outcome a (path a)) b
-  pub work : Kept (preparation (length a.y)) (pathArea a.penalty (length a.y)) w₀ w
-  pub marked : KeptOf 0 0 (pathMarks a.penalty (length a.y)) marks₀ marks
+  pub work : Kept (preparation (length a.y)) (path_area a.penalty (length a.y)) w₀ w
+  pub marked : KeptOf 0 0 (path_marks a.penalty (length a.y)) marks₀ marks

@@ -1,9 +1,11 @@
 // The questions and the preparation of a series; then the fit of a prepared series: its path, and what is written of it.
+#![tactic(auto)]
+
 ghost use Rattle.std.specs.Prelude.{length};
 ghost use Rattle.decomposition.specs.Written.{decomposed, WroteOut};
 ghost use Rattle.questions.specs.Asking.{asking, lending};
 ghost use Rattle.fit.specs.Outputs.{outputs};
-ghost use Rattle.closed_paths.specs.Trends.{trendOf};
+ghost use Rattle.closed_paths.specs.Trends.{trend_of};
 ghost use Rattle.prepared_fit.specs.Begun.{Begins};
 ghost use Rattle.prepared_fit.specs.Fitted.{AsksOut, AsksFit, Fitted};
 
@@ -11,7 +13,7 @@ use closed_paths::{Path, Trend};
 use fit::Numbers;
 
 // A refusal's number, or lam_max of the series, which is prepared.
-#[derive(Drop)]
+#[derive(Clone, Copy)]
 pub enum Begun {
     Stopped(u32),
     Ready(f64),
@@ -60,14 +62,14 @@ pub fn begin(
 }
 
 // A fit's numbers, and how many knots there are.
-#[derive(Drop)]
+#[derive(Clone, Copy)]
 pub struct Tally {
     pub knots: usize,
     pub numbers: Numbers,
 }
 
 // The path lost a pivot, or what was written of it.
-#[derive(Drop)]
+#[derive(Clone, Copy)]
 pub enum Written {
     Lost,
     Done(Tally),
@@ -84,7 +86,7 @@ fn write_found<'a>(
     k: usize,
 ) -> usize
     requires { AsksOut k y.now work.now t (decomposed trend.old cycle.old knots.old) }
-    ensures { WroteOut k y.now (trendOf y.now work.now t) result
+    ensures { WroteOut k y.now (trend_of y.now work.now t) result
         (decomposed trend.old cycle.old knots.old) (decomposed trend.new cycle.new knots.new) }
 {
     let x = paths::trend_of(y, work, t);

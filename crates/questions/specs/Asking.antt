@@ -4,7 +4,7 @@ use Rattle.questions.specs.Questions.{Asked, Lent}
 
 -- what is asked for
 abbrev pub asking : List Float → Float → Float → ℕ → ℕ → ℕ → Asked
-asking y lam tol max-iter order penalty = record { y = y; lam = lam; tol = tol; max-iter = max-iter; order = order; penalty = penalty }
+asking y lam tol max_iter order penalty = record { y = y; lam = lam; tol = tol; max_iter = max_iter; order = order; penalty = penalty }
 
 -- the lengths lent
 abbrev pub lending : ℕ → ℕ → ℕ → ℕ → ℕ → ℕ → Lent

@@ -3,11 +3,11 @@ use Rattle.std.specs.Prelude.{cond, ℕ, ◌*◌, min, eqb}
 use Rattle.questions.specs.declared.Figures.{Figures}
 
 -- by n, max_iter and penalty (1 is L1, 2 is L2)
-abbrev pub needsOf : ℕ → ℕ → ℕ → Figures
-needsOf n max-iter penalty =
+abbrev pub needs_of : ℕ → ℕ → ℕ → Figures
+needs_of n max_iter penalty =
     let l2 = eqb penalty 2 in
     record {
       work = cond l2 (16 * n) (40 * n);
       marks = cond l2 0 (2 * n);
-      steps = cond l2 0 (min max-iter 1447640);
+      steps = cond l2 0 (min max_iter 1447640);
     }

@@ -5,14 +5,14 @@ use Rattle.float64.specs.Helpers.{is_finite}
 use Rattle.float64.specs.Ops.{c0}
 use Rattle.vectors.specs.Vec.{at}
 use Rattle.questions.specs.declared.Figures.{Figures}
-use Rattle.questions.specs.Needs.{needsOf}
+use Rattle.questions.specs.Needs.{needs_of}
 
 -- what is asked for: a series, its penalty weight, a tolerance, the limit on iterations, an order and a penalty (1 is L1, 2 is L2)
 pub record Asked : Type 0 where
   pub y : List Float
   pub lam : Float
   pub tol : Float
-  pub max-iter : ℕ
+  pub max_iter : ℕ
   pub order : ℕ
   pub penalty : ℕ
 
@@ -26,17 +26,17 @@ pub record Lent : Type 0 where
   pub marks : ℕ
 
 -- whether x is 1 or 2
-abbrev pub oneOrTwo : ℕ → Bool
-oneOrTwo x = eqb x 1 || eqb x 2
+abbrev pub one_or_two : ℕ → Bool
+one_or_two x = eqb x 1 || eqb x 2
 
 -- whether the first n places are finite
-unfoldable pub finiteTo : List Float → ℕ → Bool
-finiteTo y zero = true
-finiteTo y (suc n) = finiteTo y n && is_finite (at y n)
+unfoldable pub finite_to : List Float → ℕ → Bool
+finite_to y zero = true
+finite_to y (suc n) = finite_to y n && is_finite (at y n)
 
 -- what the fit that is asked for needs (document 02, A7)
-abbrev pub needsFor : Asked → Figures
-needsFor a = needsOf (length a.y) a.max-iter a.penalty
+abbrev pub needs_for : Asked → Figures
+needs_for a = needs_of (length a.y) a.max_iter a.penalty
 
 -- a question's number where its answer is no, and else what the rest gives
 abbrev pub ask : ℕ → Bool → ℕ → ℕ
@@ -53,17 +53,17 @@ unfoldable pub question : Asked → Lent → ℕ
 question a l =
     let n = length a.y in
     -- 1. Are order and penalty each 1 or 2?
-    ask 1 (oneOrTwo a.order && oneOrTwo a.penalty)
+    ask 1 (one_or_two a.order && one_or_two a.penalty)
     -- 2. Is n at least order+1?
     (ask 2 (leb (a.order + 1) n)
     -- 3. Is n at most 65,536?
     (ask 3 (leb n 65536)
     -- 4. Is every y finite?
-    (ask 4 (finiteTo a.y n)
+    (ask 4 (finite_to a.y n)
     -- 5. Is lam finite and not below 0? (−0 passes)
     (ask 5 (is_finite a.lam && not (lt a.lam c0))
     -- 6. Is tol finite and above 0?
     (ask 6 (is_finite a.tol && lt c0 a.tol)
     -- 7. Is max_iter at least 1?
-    (ask 7 (leb 1 a.max-iter)
-    (room n (needsFor a) l)))))))
+    (ask 7 (leb 1 a.max_iter)
+    (room n (needs_for a) l)))))))

@@ -1,13 +1,15 @@
 // Questions 1 to 9: what is asked for, and the lengths lent. What a fit needs, for whoever asks first.
+#![tactic(auto)]
+
 ghost use Rattle.std.specs.Prelude.{◌≡◌, ◌&&◌, ◌≤◌, min, leb};
-ghost use Rattle.questions.specs.Needs.{needsOf};
-ghost use Rattle.questions.specs.Questions.{oneOrTwo, room, question};
-ghost use Rattle.questions.specs.Groups.{kindsKnown, allFinite, lamRight, tolRight, limitRight, sizes, values};
+ghost use Rattle.questions.specs.Needs.{needs_of};
+ghost use Rattle.questions.specs.Questions.{one_or_two, room, question};
+ghost use Rattle.questions.specs.Groups.{kinds_known, all_finite, lam_right, tol_right, limit_right, sizes, values};
 ghost use Rattle.questions.specs.Asking.{asking, lending};
 ghost use Rattle.questions.specs.Beforehand.{needed};
 
 // What a fit needs: places of work and of marks, and the most steps that its search takes.
-#[derive(Drop)]
+#[derive(Clone, Copy)]
 pub struct Figures {
     pub work: u64,
     pub marks: u64,
@@ -15,14 +17,14 @@ pub struct Figures {
 }
 
 // The figures, or a refusal's number.
-#[derive(Drop)]
+#[derive(Clone, Copy)]
 pub enum Needed {
     Given(Figures),
     Refused(u32),
 }
 
 fn one_or_two(x: u32) -> bool
-    ensures { result ≡ oneOrTwo x }
+    ensures { result ≡ one_or_two x }
 {
     if x == 1 {
         return true;
@@ -37,13 +39,13 @@ fn both(a: bool, b: bool) -> bool
 }
 
 fn kinds_known(order: u32, penalty: u32) -> bool
-    ensures { result ≡ kindsKnown order penalty }
+    ensures { result ≡ kinds_known order penalty }
 {
     both(one_or_two(order), one_or_two(penalty))
 }
 
 fn all_finite(y: &[f64]) -> bool
-    ensures { result ≡ allFinite y.now }
+    ensures { result ≡ all_finite y.now }
 {
     let mut all = true;
     let mut i = 0;
@@ -56,19 +58,19 @@ fn all_finite(y: &[f64]) -> bool
 }
 
 fn lam_right(lam: f64) -> bool
-    ensures { result ≡ lamRight lam }
+    ensures { result ≡ lam_right lam }
 {
     both(float64::is_finite(lam), !(lam < 0.0))
 }
 
 fn tol_right(tol: f64) -> bool
-    ensures { result ≡ tolRight tol }
+    ensures { result ≡ tol_right tol }
 {
     both(float64::is_finite(tol), 0.0 < tol)
 }
 
 fn limit_right(max_iter: u64) -> bool
-    ensures { result ≡ limitRight max_iter }
+    ensures { result ≡ limit_right max_iter }
 {
     1 <= max_iter
 }
@@ -94,7 +96,7 @@ fn fewer(a: u64, b: u64) -> u64
 // The figures of a series of n.
 fn figures_of(n: u64, max_iter: u64, penalty: u32) -> Figures
     requires { n ≤ 65536 }
-    ensures { result ≡ needsOf n max_iter penalty }
+    ensures { result ≡ needs_of n max_iter penalty }
 {
     if penalty == 2 {
         return Figures {

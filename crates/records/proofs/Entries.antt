@@ -15,15 +15,15 @@ use mir.Val.{bool_byte}
 use Rattle.float64.proofs.Clash.{clash, impossible}
 use Rattle.framing.specs.Bytes.{number_at}
 use Rattle.framing.specs.Frames.{Rec, rec, records}
-use Rattle.framing.specs.Places.{headAt}
+use Rattle.framing.specs.Places.{head_at}
 use Rattle.framing.specs.declared.Head.TheVariants.{End, Bad, Record}
-use Rattle.framing.proofs.Numbers.{number-of-part}
+use Rattle.framing.proofs.Numbers.{number_of_part}
 use Rattle.framing.proofs.Heads.{Opens, Heads, heads}
-use Rattle.records.specs.Entries.{Entry, slot, frames, settings, correction, settingsIn, sized, entry_of, both, entries, countSettings}
-use Rattle.records.specs.Week.{entriesIn}
+use Rattle.records.specs.Entries.{Entry, slot, frames, settings, correction, settings_in, sized, entry_of, both, entries, count_settings}
+use Rattle.records.specs.Week.{entries_in}
 use Rattle.records.specs.declared.Settings.{Settings}
 use Rattle.records.specs.declared.Opening.TheVariants.{Other, Set}
-use Rattle.records.specs.Inner.{known, openingOf, Says, hour, quiet, setup, repair, framed, Found}
+use Rattle.records.specs.Inner.{known, opening_of, Says, hour, quiet, setup, repair, framed, Found}
 
 -- an entry that a record of kind k says, whose body b has n bytes
 record Entered (k n : ℕ) (b : List ℕ) (o : Option Entry) : Type 0 where
@@ -68,34 +68,34 @@ module _ (k : ℕ) (b : List ℕ) where
       go false g = impossible (cc (told.no g))
 
 -- a record and then others, said
-said-first : (r : Rec) (o : Option (List Rec)) → bind (map (λ (rs : List Rec). r ∷ rs) o) entries ≡ both (entry_of r) (bind o entries)
+said_first : (r : Rec) (o : Option (List Rec)) → bind (map (λ (rs : List Rec). r ∷ rs) o) entries ≡ both (entry_of r) (bind o entries)
 unfolding entries bind
-said-first r none = nothing (entry_of r)
+said_first r none = nothing (entry_of r)
   where
     nothing : (e : Option Entry) → none ≡ both e none
     nothing none = refl
     nothing (some e) = refl
-said-first r (some rs) = refl
+said_first r (some rs) = refl
 
 -- what stands at a place
 module _ (s : List ℕ) (at : ℕ) where
-  pub stands-end : End ≡ headAt s at → entriesIn (drop at s) ≡ some []
+  pub stands-end : End ≡ head_at s at → entries_in (drop at s) ≡ some []
   unfolding entries bind
   stands-end e = ap (λ (o : Option (List Rec)). bind o entries) (subst (Heads s at) (sym e) (heads s at))
 
-  pub stands-bad : Bad ≡ headAt s at → entriesIn (drop at s) ≡ none
+  pub stands-bad : Bad ≡ head_at s at → entries_in (drop at s) ≡ none
   unfolding bind
   stands-bad e = ap (λ (o : Option (List Rec)). bind o entries) (subst (Heads s at) (sym e) (heads s at))
 
-  pub opens : {k b n : ℕ} → Record k b n ≡ headAt s at → Opens s at k b n
+  pub opens : {k b n : ℕ} → Record k b n ≡ head_at s at → Opens s at k b n
   opens e = subst (Heads s at) (sym e) (heads s at)
 
 module _ {s : List ℕ} {at k b n : ℕ} (o : Opens s at k b n) where
   size : length (take (n - b) (drop b s)) ≡ n - b
   size = length-take-le (n - b) (drop b s) (omega (arith, length-drop b s, o.more, o.inside))
 
-  said : {x : Option Entry} → entry_of (rec k (take (n - b) (drop b s))) ≡ x → entriesIn (drop at s) ≡ both x (entriesIn (drop n s))
-  said e = ap (λ (y : Option (List Rec)). bind y entries) o.rest ∙ said-first (rec k (take (n - b) (drop b s))) (records (drop n s)) ∙ ap (λ (y : Option Entry). both y (entriesIn (drop n s))) e
+  said : {x : Option Entry} → entry_of (rec k (take (n - b) (drop b s))) ≡ x → entries_in (drop at s) ≡ both x (entries_in (drop n s))
+  said e = ap (λ (y : Option (List Rec)). bind y entries) o.rest ∙ said_first (rec k (take (n - b) (drop b s))) (records (drop n s)) ∙ ap (λ (y : Option Entry). both y (entries_in (drop n s))) e
 
   tells : Told k (n - b) (take (n - b) (drop b s)) (entry_of (rec k (take (n - b) (drop b s)))) (known k (n - b))
   tells = let r = take (n - b) (drop b s) in
@@ -114,78 +114,78 @@ module _ {s : List ℕ} {at k b n : ℕ} (o : Opens s at k b n) where
         rest = said e.is;
       }
 
-  pub found-unknown : false ≡ known k (n - b) → entriesIn (drop at s) ≡ none
+  pub found-unknown : false ≡ known k (n - b) → entries_in (drop at s) ≡ none
   found-unknown h = said (tells.no (sym h))
 
 -- by kind: how many settings an entry is
-pub says-count : {k n : ℕ} {b : List ℕ} {e : Entry} → Says k n b e → countSettings (e ∷ []) ≡ bool_byte (eqb k 3)
-unfolding countSettings
-says-count (hour k n e) = rw (e, k)
-says-count (quiet k n e) = rw (e, k)
-says-count (setup k n e) = rw (e, k)
-says-count (repair k n e) = rw (e, k)
-says-count (framed k n e) = rw (e, k)
+pub says_count : {k n : ℕ} {b : List ℕ} {e : Entry} → Says k n b e → count_settings (e ∷ []) ≡ bool_byte (eqb k 3)
+unfolding count_settings
+says_count (hour k n e) = rw (e, k)
+says_count (quiet k n e) = rw (e, k)
+says_count (setup k n e) = rw (e, k)
+says_count (repair k n e) = rw (e, k)
+says_count (framed k n e) = rw (e, k)
 
 -- the size of its body, the settings, and no settings
-says-known : {k n : ℕ} {b : List ℕ} {e : Entry} → Says k n b e → known k n ≡ true
-says-known (hour k n e) = rw (k, n)
-says-known (quiet k n e) = rw (k, n)
-says-known (setup k n e) = rw (k, n)
-says-known (repair k n e) = rw (k, n)
-says-known (framed k n e) = rw (k, n)
+says_known : {k n : ℕ} {b : List ℕ} {e : Entry} → Says k n b e → known k n ≡ true
+says_known (hour k n e) = rw (k, n)
+says_known (quiet k n e) = rw (k, n)
+says_known (setup k n e) = rw (k, n)
+says_known (repair k n e) = rw (k, n)
+says_known (framed k n e) = rw (k, n)
 
-settings-size : {k n : ℕ} {b : List ℕ} {e : Entry} → Says k n b e → k ≡ 3 → (n ≡ 26) × (e ≡ settings (settingsIn b))
-settings-size (hour k n e) h = absurd (omega arith)
-settings-size (quiet k n e) h = absurd (omega arith)
-settings-size (setup k n e) h = (n, e)
-settings-size (repair k n e) h = absurd (omega arith)
-settings-size (framed k n e) h = absurd (omega arith)
+settings_size : {k n : ℕ} {b : List ℕ} {e : Entry} → Says k n b e → k ≡ 3 → (n ≡ 26) × (e ≡ settings (settings_in b))
+settings_size (hour k n e) h = absurd (omega arith)
+settings_size (quiet k n e) h = absurd (omega arith)
+settings_size (setup k n e) h = (n, e)
+settings_size (repair k n e) h = absurd (omega arith)
+settings_size (framed k n e) h = absurd (omega arith)
 
-no-settings : {k n : ℕ} {b : List ℕ} {e : Entry} → Says k n b e → (k ≡ 3 → ⊥) → Other ≡ openingOf (e ∷ [])
-no-settings (hour k n e) h = rw e
-no-settings (quiet k n e) h = rw e
-no-settings (setup k n e) h = absurd (h k)
-no-settings (repair k n e) h = rw e
-no-settings (framed k n e) h = rw e
+no_settings : {k n : ℕ} {b : List ℕ} {e : Entry} → Says k n b e → (k ≡ 3 → ⊥) → Other ≡ opening_of (e ∷ [])
+no_settings (hour k n e) h = rw e
+no_settings (quiet k n e) h = rw e
+no_settings (setup k n e) h = absurd (h k)
+no_settings (repair k n e) h = rw e
+no_settings (framed k n e) h = rw e
 
 -- a body of kind j, with m bytes, is inside
-pub body-inside : {s : List ℕ} {at k b n : ℕ} (j m : ℕ) → ((i : ℕ) → known j i ≡ eqb i m) → Found s at k b n → k ≡ j → b + m ≤ length s
-body-inside {b} {n} j m g f h =
-    let e = eqb-true (n - b) m (sym (g (n - b)) ∙ ap (λ (i : ℕ). known i (n - b)) (sym h) ∙ says-known f.says) in
+pub body_inside : {s : List ℕ} {at k b n : ℕ} (j m : ℕ) → ((i : ℕ) → known j i ≡ eqb i m) → Found s at k b n → k ≡ j → b + m ≤ length s
+body_inside {b} {n} j m g f h =
+    let e = eqb-true (n - b) m (sym (g (n - b)) ∙ ap (λ (i : ℕ). known i (n - b)) (sym h) ∙ says_known f.says) in
     omega (arith, e, f.more, f.inside)
 
 -- what comes first
-same-opening : (e : Entry) (t : List Entry) → openingOf (e ∷ []) ≡ openingOf (e ∷ t)
-same-opening (slot w) t = refl
-same-opening (frames f) t = refl
-same-opening (settings st) t = refl
-same-opening (correction p x) t = refl
+same_opening : (e : Entry) (t : List Entry) → opening_of (e ∷ []) ≡ opening_of (e ∷ t)
+same_opening (slot w) t = refl
+same_opening (frames f) t = refl
+same_opening (settings st) t = refl
+same_opening (correction p x) t = refl
 
-opens-with : (e : Entry) (o : Option (List Entry)) (es : List Entry) → map (λ (t : List Entry). e ∷ t) o ≡ some es → openingOf (e ∷ []) ≡ openingOf es
-opens-with e none es h = impossible cc
-opens-with e (some t) es h = same-opening e t ∙ ap openingOf (let g : e ∷ t ≡ es = cc in g)
+opens_with : (e : Entry) (o : Option (List Entry)) (es : List Entry) → map (λ (t : List Entry). e ∷ t) o ≡ some es → opening_of (e ∷ []) ≡ opening_of es
+opens_with e none es h = impossible cc
+opens_with e (some t) es h = same_opening e t ∙ ap opening_of (let g : e ∷ t ≡ es = cc in g)
 
-module _ (s : List ℕ) (es : List Entry) (h : entriesIn s ≡ some es) where
-  pub first-end : entriesIn (drop 0 s) ≡ some [] → Other ≡ openingOf es
-  first-end e = ap openingOf (let g : [] ≡ es = cc in g)
+module _ (s : List ℕ) (es : List Entry) (h : entries_in s ≡ some es) where
+  pub first-end : entries_in (drop 0 s) ≡ some [] → Other ≡ opening_of es
+  first-end e = ap opening_of (let g : [] ≡ es = cc in g)
 
-  pub first-bad : entriesIn (drop 0 s) ≡ none → Other ≡ openingOf es
+  pub first-bad : entries_in (drop 0 s) ≡ none → Other ≡ opening_of es
   first-bad e = impossible cc
 
   module _ {k b n : ℕ} (f : Found s 0 k b n) where
-    first-is : openingOf (f.entry ∷ []) ≡ openingOf es
-    first-is = opens-with f.entry (entriesIn (drop n s)) es (sym f.rest ∙ h)
+    first-is : opening_of (f.entry ∷ []) ≡ opening_of es
+    first-is = opens_with f.entry (entries_in (drop n s)) es (sym f.rest ∙ h)
 
-    pub first-set : k ≡ 3 → {st : Settings} → st ≡ settingsIn (take 26 (drop b s)) → Set st ≡ openingOf es
+    pub first-set : k ≡ 3 → {st : Settings} → st ≡ settings_in (take 26 (drop b s)) → Set st ≡ opening_of es
     first-set e {st} g =
-        let w = settings-size f.says e in
-        ap Set (g ∙ ap (λ (m : ℕ). settingsIn (take m (drop b s))) (sym w.0)) ∙ ap (λ (x : Entry). openingOf (x ∷ [])) (sym w.1) ∙ first-is
+        let w = settings_size f.says e in
+        ap Set (g ∙ ap (λ (m : ℕ). settings_in (take m (drop b s))) (sym w.0)) ∙ ap (λ (x : Entry). opening_of (x ∷ [])) (sym w.1) ∙ first-is
 
-    pub first-other : (k ≡ 3 → ⊥) → Other ≡ openingOf es
-    first-other e = no-settings f.says e ∙ first-is
+    pub first-other : (k ≡ 3 → ⊥) → Other ≡ opening_of es
+    first-other e = no_settings f.says e ∙ first-is
 
 -- the settings in a body that is a part of the input
-pub settings-in : (s : List ℕ) (b : ℕ) → record { lam = of_bits binary64 (number_at b 8 s); tol = of_bits binary64 (number_at (b + 8) 8 s); max_iter = number_at (b + 16) 8 s; order = number_at (b + 24) 1 s; penalty = number_at (b + 25) 1 s } ≡ settingsIn (take 26 (drop b s))
-unfolding settingsIn
-settings-in s b =
-    rw (number-of-part s b 26 0 8 (omega arith), number-of-part s b 26 8 8 (omega arith), number-of-part s b 26 16 8 (omega arith), number-of-part s b 26 24 1 (omega arith), number-of-part s b 26 25 1 (omega arith), add-zero b)
+pub settings_in_lem : (s : List ℕ) (b : ℕ) → record { lam = of_bits binary64 (number_at b 8 s); tol = of_bits binary64 (number_at (b + 8) 8 s); max_iter = number_at (b + 16) 8 s; order = number_at (b + 24) 1 s; penalty = number_at (b + 25) 1 s } ≡ settings_in (take 26 (drop b s))
+unfolding settings_in
+settings_in_lem s b =
+    rw (number_of_part s b 26 0 8 (omega arith), number_of_part s b 26 8 8 (omega arith), number_of_part s b 26 16 8 (omega arith), number_of_part s b 26 24 1 (omega arith), number_of_part s b 26 25 1 (omega arith), add-zero b)

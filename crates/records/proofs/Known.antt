@@ -1,4 +1,4 @@
--- Known files: for each an input, and what `readWeek` says of it as numbers. One proof covers the table. Assumes nothing.
+-- Known files: for each an input, and what `read_week` says of it as numbers. One proof covers the table. Assumes nothing.
 use mathlib.Core.Path.{◌≡◌, refl, ◌∙◌}
 use mathlib.Core.List.{List, [], ◌∷◌, ◌++◌}
 use mathlib.Core.Option.{bind}
@@ -8,16 +8,16 @@ use lib.Ieee
 use lib.Ieee.{binary64, to_bits}
 use lib.ListN.{length, take, length-append}
 use Rattle.vectors.specs.Vec.{list}
-use Rattle.framing.specs.Bytes.{littleEndian, signed32}
-use Rattle.framing.specs.Frames.{recordsPast}
+use Rattle.framing.specs.Bytes.{little_endian, signed32}
+use Rattle.framing.specs.Frames.{records_past}
 use Rattle.overrun.specs.Fractions.{euclid}
 use Rattle.overrun.specs.Overrun.{overrun}
-use Rattle.records.specs.Entries.{Slot, silent, sounding, settingsIn, entry_of, entries, countSettings, hoursOf}
-use Rattle.records.specs.Corrections.{extended, names, namedFrom}
+use Rattle.records.specs.Entries.{Slot, silent, sounding, settings_in, entry_of, entries, count_settings, hours_of}
+use Rattle.records.specs.Corrections.{extended, names, named_from}
 use Rattle.records.specs.Rates.{rates, rated}
-use Rattle.records.specs.Week.{Reading, unread, read, readWeek, askEntries}
-use Rattle.records.specs.Positions.{positionsFrom, positionsOf}
-use Rattle.records.proofs.Asking.{week-long}
+use Rattle.records.specs.Week.{Reading, unread, read, read_week, ask_entries}
+use Rattle.records.specs.Positions.{positions_from, positions_of}
+use Rattle.records.proofs.Asking.{week_long}
 
 -- no double's pattern: a silent hour's
 abbrev pause : ℕ
@@ -32,7 +32,7 @@ patterns (sounding x ∷ ws) = to_bits binary64 x ∷ patterns ws
 -- a refusal is its number; a week that is taken is 0, its settings (doubles by their bits), its slots, how many hours it has, and their positions
 numbers : Reading → List ℕ
 numbers (unread k) = k ∷ []
-numbers (read st ws) = 0 ∷ to_bits binary64 st.lam ∷ to_bits binary64 st.tol ∷ st.max_iter ∷ st.order ∷ st.penalty ∷ patterns ws ++ (length (hoursOf ws) ∷ positionsOf ws)
+numbers (read st ws) = 0 ∷ to_bits binary64 st.lam ∷ to_bits binary64 st.tol ∷ st.max_iter ∷ st.order ∷ st.penalty ∷ patterns ws ++ (length (hours_of ws) ∷ positions_of ws)
 
 -- x, n times over
 times : ℕ → List ℕ → List ℕ
@@ -62,28 +62,28 @@ quiet = 2 ∷ 0 ∷ 2 ∷ 0 ∷ []
 abbrev amended : ℕ → ℕ → List ℕ
 amended p₀ p₁ = 8 ∷ 0 ∷ 4 ∷ 0 ∷ p₀ ∷ p₁ ∷ 0 ∷ 0 ∷ 0 ∷ 0 ∷ []
 
-abbrev amended-early : ℕ → ℕ → List ℕ
-amended-early p₀ p₁ = 8 ∷ 0 ∷ 4 ∷ 0 ∷ p₀ ∷ p₁ ∷ 255 ∷ 255 ∷ 255 ∷ 255 ∷ []
+abbrev amended_early : ℕ → ℕ → List ℕ
+amended_early p₀ p₁ = 8 ∷ 0 ∷ 4 ∷ 0 ∷ p₀ ∷ p₁ ∷ 255 ∷ 255 ∷ 255 ∷ 255 ∷ []
 
 -- an hour of n frames, and the rates 25/1, 30000/1001, 0/1 and 1/0
 abbrev frames : ℕ → List ℕ
 frames n = 14 ∷ 0 ∷ 5 ∷ 0 ∷ n ∷ 0 ∷ 0 ∷ 0 ∷ []
 
-abbrev whole-rate : List ℕ
-whole-rate = 25 ∷ 0 ∷ 0 ∷ 0 ∷ 1 ∷ 0 ∷ 0 ∷ 0 ∷ []
+abbrev whole_rate : List ℕ
+whole_rate = 25 ∷ 0 ∷ 0 ∷ 0 ∷ 1 ∷ 0 ∷ 0 ∷ 0 ∷ []
 
-abbrev odd-rate : List ℕ
-odd-rate = 48 ∷ 117 ∷ 0 ∷ 0 ∷ 233 ∷ 3 ∷ 0 ∷ 0 ∷ []
+abbrev odd_rate : List ℕ
+odd_rate = 48 ∷ 117 ∷ 0 ∷ 0 ∷ 233 ∷ 3 ∷ 0 ∷ 0 ∷ []
 
-abbrev zero-rate : List ℕ
-zero-rate = 0 ∷ 0 ∷ 0 ∷ 0 ∷ 1 ∷ 0 ∷ 0 ∷ 0 ∷ []
+abbrev zero_rate : List ℕ
+zero_rate = 0 ∷ 0 ∷ 0 ∷ 0 ∷ 1 ∷ 0 ∷ 0 ∷ 0 ∷ []
 
-abbrev no-rate : List ℕ
-no-rate = 1 ∷ 0 ∷ 0 ∷ 0 ∷ 0 ∷ 0 ∷ 0 ∷ 0 ∷ []
+abbrev no_rate : List ℕ
+no_rate = 1 ∷ 0 ∷ 0 ∷ 0 ∷ 0 ∷ 0 ∷ 0 ∷ 0 ∷ []
 
 -- settings whose lam and tol are patterns of a NaN, with the greatest max_iter, order 2 and penalty 255
-abbrev odd-settings : List ℕ
-odd-settings = 28 ∷ 0 ∷ 3 ∷ 0 ∷ 1 ∷ 0 ∷ 0 ∷ 0 ∷ 0 ∷ 0 ∷ 240 ∷ 127 ∷ 0 ∷ 0 ∷ 0 ∷ 0 ∷ 0 ∷ 0 ∷ 248 ∷ 255 ∷ 255 ∷ 255 ∷ 255 ∷ 255 ∷ 255 ∷ 255 ∷ 255 ∷ 255 ∷ 2 ∷ 255 ∷ []
+abbrev odd_settings : List ℕ
+odd_settings = 28 ∷ 0 ∷ 3 ∷ 0 ∷ 1 ∷ 0 ∷ 0 ∷ 0 ∷ 0 ∷ 0 ∷ 240 ∷ 127 ∷ 0 ∷ 0 ∷ 0 ∷ 0 ∷ 0 ∷ 0 ∷ 248 ∷ 255 ∷ 255 ∷ 255 ∷ 255 ∷ 255 ∷ 255 ∷ 255 ∷ 255 ∷ 255 ∷ 2 ∷ 255 ∷ []
 
 -- the settings of document 01, as numbers
 abbrev said : List ℕ
@@ -99,7 +99,7 @@ table =
     ∷ (settings ++ hour ++ punctual, said ++ (0x40bf_4000_0000_0000 ∷ 0 ∷ 2 ∷ 0 ∷ 1 ∷ []))
     ∷ (settings ++ hour ++ quiet ++ early ++ earliest, said ++ (0x40bf_4000_0000_0000 ∷ pause ∷ 0xbff0_0000_0000_0000 ∷ 0xc1e0_0000_0000_0000 ∷ 3 ∷ 0 ∷ 2 ∷ 3 ∷ []))
     ∷ (settings, said ++ (0 ∷ []))
-    ∷ (odd-settings, 0 ∷ nan_pattern ∷ nan_pattern ∷ 18446744073709551615 ∷ 2 ∷ 255 ∷ 0 ∷ [])
+    ∷ (odd_settings, 0 ∷ nan_pattern ∷ nan_pattern ∷ 18446744073709551615 ∷ 2 ∷ 255 ∷ 0 ∷ [])
     -- a record that the input cuts, a length of 0, an hour of another length, a kind that there is not
     ∷ (take 29 settings, 11 ∷ [])
     ∷ (settings ++ take 7 hour, 11 ∷ [])
@@ -123,8 +123,8 @@ table =
     ∷ (settings ++ times 169 hour ++ settings, 12 ∷ [])
     -- a correction of an hour, of a silent one, and of each; of two for one hour the last counts, and a later hour keeps its position
     ∷ (settings ++ hour ++ amended 0 0, said ++ (0 ∷ 1 ∷ 0 ∷ []))
-    ∷ (settings ++ quiet ++ hour ++ amended-early 0 0, said ++ (0xbff0_0000_0000_0000 ∷ 0x40bf_4000_0000_0000 ∷ 2 ∷ 0 ∷ 1 ∷ []))
-    ∷ (settings ++ hour ++ amended 0 0 ++ quiet ++ amended-early 0 0 ++ hour, said ++ (0xbff0_0000_0000_0000 ∷ pause ∷ 0x40bf_4000_0000_0000 ∷ 2 ∷ 0 ∷ 2 ∷ []))
+    ∷ (settings ++ quiet ++ hour ++ amended_early 0 0, said ++ (0xbff0_0000_0000_0000 ∷ 0x40bf_4000_0000_0000 ∷ 2 ∷ 0 ∷ 1 ∷ []))
+    ∷ (settings ++ hour ++ amended 0 0 ++ quiet ++ amended_early 0 0 ++ hour, said ++ (0xbff0_0000_0000_0000 ∷ pause ∷ 0x40bf_4000_0000_0000 ∷ 2 ∷ 0 ∷ 2 ∷ []))
     -- the higher byte of a position counts 256
     ∷ (settings ++ times 257 quiet ++ amended 0 1, said ++ times 256 (pause ∷ []) ++ (0 ∷ 1 ∷ 256 ∷ []))
     -- a correction of another length; one ahead of its hour, one whose position is the count so far, and one with no hour
@@ -139,37 +139,37 @@ table =
     ∷ (settings ++ times 168 hour ++ quiet ++ amended 168 0, 13 ∷ [])
     ∷ (settings ++ times 168 hour ++ amended 0 0 ++ amended 0 0, said ++ (0 ∷ []) ++ times 167 (0x40bf_4000_0000_0000 ∷ []) ++ (168 ∷ list 168 (λ i. i)))
     -- hours in frames among others: 3 at 30000/1001, none, and 200 at 25/1, which is 8000 ms
-    ∷ (settings ++ quiet ++ frames 3 ++ odd-rate ++ frames 0 ++ odd-rate ++ hour ++ frames 200 ++ whole-rate, said ++ (pause ∷ 0x4059_0666_6666_6666 ∷ 0 ∷ 0x40bf_4000_0000_0000 ∷ 0x40bf_4000_0000_0000 ∷ 4 ∷ 1 ∷ 2 ∷ 3 ∷ 4 ∷ []))
+    ∷ (settings ++ quiet ++ frames 3 ++ odd_rate ++ frames 0 ++ odd_rate ++ hour ++ frames 200 ++ whole_rate, said ++ (pause ∷ 0x4059_0666_6666_6666 ∷ 0 ∷ 0x40bf_4000_0000_0000 ∷ 0x40bf_4000_0000_0000 ∷ 4 ∷ 1 ∷ 2 ∷ 3 ∷ 4 ∷ []))
     -- one that is corrected, and a zero in a rate, also of no frames and of an hour that is corrected; a shorter body
-    ∷ (settings ++ frames 3 ++ odd-rate ++ amended-early 0 0, said ++ (0xbff0_0000_0000_0000 ∷ 1 ∷ 0 ∷ []))
-    ∷ (settings ++ frames 0 ++ zero-rate, 22 ∷ [])
-    ∷ (settings ++ frames 3 ++ no-rate ++ amended 0 0, 22 ∷ [])
-    ∷ (settings ++ (10 ∷ 0 ∷ 5 ∷ 0 ∷ 0 ∷ 0 ∷ 0 ∷ 0 ∷ []) ++ take 4 whole-rate, 11 ∷ [])
+    ∷ (settings ++ frames 3 ++ odd_rate ++ amended_early 0 0, said ++ (0xbff0_0000_0000_0000 ∷ 1 ∷ 0 ∷ []))
+    ∷ (settings ++ frames 0 ++ zero_rate, 22 ∷ [])
+    ∷ (settings ++ frames 3 ++ no_rate ++ amended 0 0, 22 ∷ [])
+    ∷ (settings ++ (10 ∷ 0 ∷ 5 ∷ 0 ∷ 0 ∷ 0 ∷ 0 ∷ 0 ∷ []) ++ take 4 whole_rate, 11 ∷ [])
     -- they count among the 168, and 13 comes before 22
-    ∷ (settings ++ times 168 hour ++ frames 3 ++ zero-rate, 13 ∷ [])
-    ∷ (settings ++ frames 3 ++ zero-rate ++ amended 1 0, 17 ∷ [])
+    ∷ (settings ++ times 168 hour ++ frames 3 ++ zero_rate, 13 ∷ [])
+    ∷ (settings ++ frames 3 ++ zero_rate ++ amended 1 0, 17 ∷ [])
     ∷ []
 
 says : List (List ℕ × List ℕ) → List (List ℕ)
 says [] = []
-says (p ∷ ps) = numbers (readWeek p.0) ∷ says ps
+says (p ∷ ps) = numbers (read_week p.0) ∷ says ps
 
 expected : List (List ℕ × List ℕ) → List (List ℕ)
 expected [] = []
 expected (p ∷ ps) = p.1 ∷ expected ps
 
 known : says table ≡ expected table
-unfolding euclid overrun rates rated list positionsFrom patterns numbers times says expected table readWeek askEntries bind entries entry_of settingsIn extended names namedFrom countSettings hoursOf recordsPast littleEndian signed32 Ieee.of_bits Ieee.to_bits Ieee.of_int Ieee.round
+unfolding euclid overrun rates rated list positions_from patterns numbers times says expected table read_week ask_entries bind entries entry_of settings_in extended names named_from count_settings hours_of records_past little_endian signed32 Ieee.of_bits Ieee.to_bits Ieee.of_int Ieee.round
 known = refl
 
 -- 4,098 bytes, all of them whole records, are too many; so are 4,097 of any kind
-length-times : (n : ℕ) (x : List ℕ) → length (times n x) ≡ n * length x
+length_times : (n : ℕ) (x : List ℕ) → length (times n x) ≡ n * length x
 unfolding times
-length-times zero x = omega arith
-length-times (suc n) x = length-append x (times n x) ∙ omega (arith, length-times n x)
+length_times zero x = omega arith
+length_times (suc n) x = length-append x (times n x) ∙ omega (arith, length_times n x)
 
-known-long : readWeek (settings ++ times 1017 quiet) ≡ unread 11
-known-long = week-long (settings ++ times 1017 quiet) (omega (arith, length-append settings (times 1017 quiet), length-times 1017 quiet))
+known_long : read_week (settings ++ times 1017 quiet) ≡ unread 11
+known_long = week_long (settings ++ times 1017 quiet) (omega (arith, length-append settings (times 1017 quiet), length_times 1017 quiet))
 
-known-longer : readWeek (times 4097 (0 ∷ [])) ≡ unread 11
-known-longer = week-long (times 4097 (0 ∷ [])) (omega (arith, length-times 4097 (0 ∷ [])))
+known_longer : read_week (times 4097 (0 ∷ [])) ≡ unread 11
+known_longer = week_long (times 4097 (0 ∷ [])) (omega (arith, length_times 4097 (0 ∷ [])))

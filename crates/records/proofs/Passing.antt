@@ -8,59 +8,59 @@ use mathlib.Core.List.{List, [], ◌∷◌, ◌++◌, append_assoc, append-nil}
 use mathlib.Core.Option.{Option, none, some, map}
 use lib.ListN.{length, drop}
 use lib.Dec.{eqb}
-use Rattle.records.specs.Entries.{Entry, slot, frames, settings, correction, countSettings}
-use Rattle.records.specs.Week.{entriesIn}
+use Rattle.records.specs.Entries.{Entry, slot, frames, settings, correction, count_settings}
+use Rattle.records.specs.Week.{entries_in}
 use Rattle.records.specs.Inner.{Found}
-use Rattle.records.proofs.Entries.{says-count}
+use Rattle.records.proofs.Entries.{says_count}
 
 -- P, and then what is still to come
 abbrev onto : List Entry → Option (List Entry) → Option (List Entry)
 onto P o = map (λ (t : List Entry). P ++ t) o
 
-onto-nil : (o : Option (List Entry)) → o ≡ onto [] o
-onto-nil none = refl
-onto-nil (some t) = refl
+onto_nil : (o : Option (List Entry)) → o ≡ onto [] o
+onto_nil none = refl
+onto_nil (some t) = refl
 
-onto-more : (P : List Entry) (e : Entry) (o : Option (List Entry)) → onto P (map (λ (t : List Entry). e ∷ t) o) ≡ onto (P ++ (e ∷ [])) o
-onto-more P e none = refl
-onto-more P e (some t) = ap some (sym (append_assoc P (e ∷ []) t))
+onto_more : (P : List Entry) (e : Entry) (o : Option (List Entry)) → onto P (map (λ (t : List Entry). e ∷ t) o) ≡ onto (P ++ (e ∷ [])) o
+onto_more P e none = refl
+onto_more P e (some t) = ap some (sym (append_assoc P (e ∷ []) t))
 
 -- the entries P have been passed, and the next record starts at `at`
 pub record Passed (s : List ℕ) (at : ℕ) (P : List Entry) : Type 0 where
-  rest : entriesIn s ≡ onto P (entriesIn (drop at s))
+  rest : entries_in s ≡ onto P (entries_in (drop at s))
 
 pub passed_none : (s : List ℕ) → Passed s 0 []
-passed_none s = record { rest = onto-nil (entriesIn s) }
+passed_none s = record { rest = onto_nil (entries_in s) }
 
 module _ {s : List ℕ} {at : ℕ} {P : List Entry} (p : Passed s at P) where
-  pub passed-end : entriesIn (drop at s) ≡ some [] → entriesIn s ≡ some P
+  pub passed-end : entries_in (drop at s) ≡ some [] → entries_in s ≡ some P
   passed-end e = p.rest ∙ ap (onto P) e ∙ ap some (append-nil P)
 
-  pub passed-bad : entriesIn (drop at s) ≡ none → entriesIn s ≡ none
+  pub passed-bad : entries_in (drop at s) ≡ none → entries_in s ≡ none
   passed-bad e = p.rest ∙ ap (onto P) e
 
-  pub passed-more : {k b n : ℕ} (f : Found s at k b n) → Passed s n (P ++ (f.entry ∷ []))
-  passed-more {k} {b} {n} f = record { rest = p.rest ∙ ap (onto P) f.rest ∙ onto-more P f.entry (entriesIn (drop n s)) }
+  pub passed_more : {k b n : ℕ} (f : Found s at k b n) → Passed s n (P ++ (f.entry ∷ []))
+  passed_more {k} {b} {n} f = record { rest = p.rest ∙ ap (onto P) f.rest ∙ onto_more P f.entry (entries_in (drop n s)) }
 
 -- what more entries add to the count of settings
-count-append : (P Q : List Entry) → countSettings (P ++ Q) ≡ countSettings P + countSettings Q
-unfolding countSettings
-count-append [] Q = omega arith
-count-append (slot w ∷ P) Q = count-append P Q
-count-append (frames f ∷ P) Q = count-append P Q
-count-append (settings st ∷ P) Q = omega (arith, count-append P Q)
-count-append (correction p x ∷ P) Q = count-append P Q
+count_append : (P Q : List Entry) → count_settings (P ++ Q) ≡ count_settings P + count_settings Q
+unfolding count_settings
+count_append [] Q = omega arith
+count_append (slot w ∷ P) Q = count_append P Q
+count_append (frames f ∷ P) Q = count_append P Q
+count_append (settings st ∷ P) Q = omega (arith, count_append P Q)
+count_append (correction p x ∷ P) Q = count_append P Q
 
 -- the count of a walk, so far
 pub record Counted (s : List ℕ) (at m : ℕ) : Type 0 where
   pub done : List Entry
   pub passed : Passed s at done
-  pub settings : m ≡ countSettings done
+  pub settings : m ≡ count_settings done
   pub inside : at ≤ length s
   pub few : m ≤ at
 
 pub counted_none : (s : List ℕ) → Counted s 0 0
-unfolding countSettings
+unfolding count_settings
 counted_none s = record { done = []; passed = passed_none s; settings = refl; inside = omega arith; few = omega arith }
 
 -- a truth counts at most one
@@ -68,13 +68,13 @@ pub at_most_one : (b : Bool) → bool_byte b ≤ 1
 at_most_one true = omega arith
 at_most_one false = omega arith
 
-pub counted-more : {s : List ℕ} {at m k b n : ℕ} → Counted s at m → Found s at k b n → Counted s n (m + bool_byte (eqb k 3))
-counted-more {s} {at} {m} {k} {b} {n} c f =
+pub counted_more : {s : List ℕ} {at m k b n : ℕ} → Counted s at m → Found s at k b n → Counted s n (m + bool_byte (eqb k 3))
+counted_more {s} {at} {m} {k} {b} {n} c f =
     let one = f.entry ∷ [] in
     record {
       done = c.done ++ one;
-      passed = passed-more c.passed f;
-      settings = ap₂ (λ (i j : ℕ). i + j) c.settings (sym (says-count f.says)) ∙ sym (count-append c.done one);
+      passed = passed_more c.passed f;
+      settings = ap₂ (λ (i j : ℕ). i + j) c.settings (sym (says_count f.says)) ∙ sym (count_append c.done one);
       inside = f.inside;
       few = omega (arith, c.few, f.body, f.more, at_most_one (eqb k 3));
     }

@@ -4,9 +4,9 @@ use Rattle.std.proofs.Math.Option.{Option, none, some, map}
 use Rattle.framing.specs.Bytes.{number_at}
 use Rattle.framing.specs.declared.Head.{Head}
 use Rattle.framing.specs.declared.Head.TheVariants.{End, Bad, Record}
-use Rattle.overrun.specs.Overrun.{framesIn}
-use Rattle.records.specs.Entries.{Entry, slot, frames, settings, correction, silent, sounding, millisecondsIn, settingsIn, countSettings}
-use Rattle.records.specs.Week.{entriesIn}
+use Rattle.overrun.specs.Overrun.{frames_in}
+use Rattle.records.specs.Entries.{Entry, slot, frames, settings, correction, silent, sounding, milliseconds_in, settings_in, count_settings}
+use Rattle.records.specs.Week.{entries_in}
 use Rattle.records.specs.declared.Tally.{Tally}
 use Rattle.records.specs.declared.Tally.TheVariants.{Broken, Whole}
 use Rattle.records.specs.declared.Opening.{Opening}
@@ -15,15 +15,15 @@ use Rattle.records.specs.declared.Opening.TheVariants.{Other, Set}
 -- the answer of `walk`
 abbrev pub tally_of : Option (List Entry) → Tally
 tally_of none = Broken
-tally_of (some es) = Whole (countSettings es)
+tally_of (some es) = Whole (count_settings es)
 
 -- the settings that come first
-abbrev pub openingOf : List Entry → Opening
-openingOf [] = Other
-openingOf (slot w ∷ es) = Other
-openingOf (frames f ∷ es) = Other
-openingOf (correction p x ∷ es) = Other
-openingOf (settings st ∷ es) = Set st
+abbrev pub opening_of : List Entry → Opening
+opening_of [] = Other
+opening_of (slot w ∷ es) = Other
+opening_of (frames f ∷ es) = Other
+opening_of (correction p x ∷ es) = Other
+opening_of (settings st ∷ es) = Set st
 
 -- whether a kind has bodies of n bytes
 abbrev pub known : ℕ → ℕ → Bool
@@ -31,11 +31,11 @@ known k n = cond (eqb k 1) (eqb n 4) (cond (eqb k 2) (eqb n 0) (cond (eqb k 3) (
 
 -- an entry, by the kind and the size of its record's body
 pub data Says (k n : ℕ) (b : List ℕ) (e : Entry) : Type 0 where
-  hour : k ≡ 1 → n ≡ 4 → e ≡ slot (sounding (millisecondsIn b)) → Says k n b e
+  hour : k ≡ 1 → n ≡ 4 → e ≡ slot (sounding (milliseconds_in b)) → Says k n b e
   quiet : k ≡ 2 → n ≡ 0 → e ≡ slot silent → Says k n b e
-  setup : k ≡ 3 → n ≡ 26 → e ≡ settings (settingsIn b) → Says k n b e
-  repair : k ≡ 4 → n ≡ 6 → e ≡ correction (number_at 0 2 b) (millisecondsIn (drop 2 b)) → Says k n b e
-  framed : k ≡ 5 → n ≡ 12 → e ≡ frames (framesIn b) → Says k n b e
+  setup : k ≡ 3 → n ≡ 26 → e ≡ settings (settings_in b) → Says k n b e
+  repair : k ≡ 4 → n ≡ 6 → e ≡ correction (number_at 0 2 b) (milliseconds_in (drop 2 b)) → Says k n b e
+  framed : k ≡ 5 → n ≡ 12 → e ≡ frames (frames_in b) → Says k n b e
 
 -- a record that says an entry stands at a place, its body from b up to n, where the next records start
 pub record Found (s : List ℕ) (at k b n : ℕ) : Type 0 where
@@ -44,10 +44,10 @@ pub record Found (s : List ℕ) (at k b n : ℕ) : Type 0 where
   pub more : b ≤ n
   pub inside : n ≤ length s
   pub says : Says k (n - b) (take (n - b) (drop b s)) entry
-  pub rest : entriesIn (drop at s) ≡ map (λ (es : List Entry). entry ∷ es) (entriesIn (drop n s))
+  pub rest : entries_in (drop at s) ≡ map (λ (es : List Entry). entry ∷ es) (entries_in (drop n s))
 
 -- the entries from a place on, by what stands there
 abbrev pub Stands : List ℕ → ℕ → Head → Type 0
-Stands s at End = entriesIn (drop at s) ≡ some []
-Stands s at Bad = entriesIn (drop at s) ≡ none
+Stands s at End = entries_in (drop at s) ≡ some []
+Stands s at Bad = entries_in (drop at s) ≡ none
 Stands s at (Record k b n) = Found s at k b n

@@ -2,14 +2,14 @@
 use Rattle.std.specs.Prelude.{◌≡◌, Bool, true, false, ◌&&◌, List, [], ◌∷◌}
 use Rattle.std.proofs.Math.Option.{some}
 use Rattle.framing.specs.Frames.{Rec}
-use Rattle.overrun.specs.Overrun.{framesIn, isRated}
+use Rattle.overrun.specs.Overrun.{frames_in, is_rated}
 use Rattle.records.specs.Entries.{Entry, slot, frames, settings, correction, entries}
 use Rattle.records.specs.Positions.{Everywhere, Somewhere}
 
 -- whether the rate of an entry counts, if it is an hour in frames
 unfoldable pub rates : Entry → Bool
 rates (slot w) = true
-rates (frames f) = isRated f
+rates (frames f) = is_rated f
 rates (settings st) = true
 rates (correction p x) = true
 
@@ -20,8 +20,8 @@ rated (e ∷ es) = rates e && rated es
 
 -- 22 is asked of the file, with the records rs that say es: where it is answered yes the rate of each record of kind 5 counts, and else one does not
 pub record Rated (rs : List Rec) (es : List Entry) : Type 0 where
-  pub right : rated es ≡ true → Everywhere 5 (λ P b. isRated (framesIn b) ≡ true) rs
-  pub wrong : rated es ≡ false → Somewhere 5 (λ P b. isRated (framesIn b) ≡ false) rs
+  pub right : rated es ≡ true → Everywhere 5 (λ P b. is_rated (frames_in b) ≡ true) rs
+  pub wrong : rated es ≡ false → Somewhere 5 (λ P b. is_rated (frames_in b) ≡ false) rs
 
 -- so for the records of every file
 abbrev pub RatedInFile : Type 0

@@ -2,8 +2,8 @@
 use Rattle.std.specs.Prelude.{ℕ, Bool, cond, List, [], ◌∷◌, length, ltb, leb, eqb}
 use Rattle.std.proofs.Math.Option.{Option, none, some, bind}
 use Rattle.framing.specs.Frames.{records}
-use Rattle.records.specs.Entries.{Slot, Entry, slot, frames, settings, correction, entries, countSettings, hoursOf}
-use Rattle.records.specs.Corrections.{weekOf, named}
+use Rattle.records.specs.Entries.{Slot, Entry, slot, frames, settings, correction, entries, count_settings, hours_of}
+use Rattle.records.specs.Corrections.{week_of, named}
 use Rattle.records.specs.Rates.{rated}
 use Rattle.records.specs.declared.Settings.{Settings}
 
@@ -13,22 +13,22 @@ pub data Reading : Type 0 where
   read : Settings → List Slot → Reading
 
 -- what the input says: what its records say, where it splits into records
-abbrev pub entriesIn : List ℕ → Option (List Entry)
-entriesIn s = bind (records s) entries
+abbrev pub entries_in : List ℕ → Option (List Entry)
+entries_in s = bind (records s) entries
 
 -- 13: at most 168 hours. 22: every rate counts (document 02, A14), as `all-rated` says
-abbrev pub askHours : Settings → List Slot → Bool → Reading
-askHours st ws all-rated = cond (leb (length (hoursOf ws)) 168) (cond all-rated (read st ws) (unread 22)) (unread 13)
+abbrev pub ask_hours : Settings → List Slot → Bool → Reading
+ask_hours st ws all-rated = cond (leb (length (hours_of ws)) 168) (cond all-rated (read st ws) (unread 22)) (unread 13)
 
 -- 12: the first record is the settings and no other is. 17: every correction names an earlier hour (document 02, A8). Then 13 and 22
-unfoldable pub askEntries : Option (List Entry) → Reading
-askEntries none = unread 11
-askEntries (some []) = unread 12
-askEntries (some (slot w ∷ es)) = unread 12
-askEntries (some (frames f ∷ es)) = unread 12
-askEntries (some (correction p x ∷ es)) = unread 12
-askEntries (some (settings st ∷ es)) = cond (eqb (countSettings es) 0) (cond (named es) (askHours st (weekOf es) (rated es)) (unread 17)) (unread 12)
+unfoldable pub ask_entries : Option (List Entry) → Reading
+ask_entries none = unread 11
+ask_entries (some []) = unread 12
+ask_entries (some (slot w ∷ es)) = unread 12
+ask_entries (some (frames f ∷ es)) = unread 12
+ask_entries (some (correction p x ∷ es)) = unread 12
+ask_entries (some (settings st ∷ es)) = cond (eqb (count_settings es) 0) (cond (named es) (ask_hours st (week_of es) (rated es)) (unread 17)) (unread 12)
 
 -- 11: at most 4,096 bytes, and whole records only. The first question answered no gives its number
-unfoldable pub readWeek : List ℕ → Reading
-readWeek s = cond (ltb 4096 (length s)) (unread 11) (askEntries (entriesIn s))
+unfoldable pub read_week : List ℕ → Reading
+read_week s = cond (ltb 4096 (length s)) (unread 11) (ask_entries (entries_in s))

@@ -1,20 +1,22 @@
 // The week's file: what its records say, one by one.
+#![tactic(auto)]
+
 ghost use Rattle.std.specs.Prelude.{◌≡◌, List, ◌+◌, ◌≤◌, length, take, drop};
 ghost use Rattle.std.proofs.Math.Option.{some};
-ghost use Rattle.records.specs.Entries.{Entry, settingsIn};
-ghost use Rattle.records.specs.Week.{entriesIn};
-ghost use Rattle.records.specs.Inner.{tally_of, openingOf, known, Stands};
+ghost use Rattle.records.specs.Entries.{Entry, settings_in};
+ghost use Rattle.records.specs.Week.{entries_in};
+ghost use Rattle.records.specs.Inner.{tally_of, opening_of, known, Stands};
 
 use framing::Head;
 
 // What a walk over the input finds: how many records of settings there are.
-#[derive(Drop)]
+#[derive(Clone, Copy)]
 pub enum Tally {
     Broken,
     Whole(usize),
 }
 
-#[derive(Drop)]
+#[derive(Clone, Copy)]
 pub struct Settings {
     pub lam: f64,
     pub tol: f64,
@@ -24,7 +26,7 @@ pub struct Settings {
 }
 
 // What comes first: settings, or something else or nothing.
-#[derive(Drop)]
+#[derive(Clone, Copy)]
 pub enum Opening {
     Other,
     Set(Settings),
@@ -63,7 +65,7 @@ pub fn record_at(s: &[u8], at: usize) -> Head
 
 // Walks over the whole input and counts its settings.
 pub fn walk(s: &[u8]) -> Tally
-    ensures { result ≡ tally_of (entriesIn s.now) }
+    ensures { result ≡ tally_of (entries_in s.now) }
 {
     let mut at: usize = 0;
     let mut settings: usize = 0;
@@ -90,7 +92,7 @@ pub fn walk(s: &[u8]) -> Tally
 // The settings in a record's body.
 fn settings_at(s: &[u8], body: usize) -> Settings
     requires { body + 26 ≤ length s.now }
-    ensures { result ≡ settingsIn (take 26 (drop body s.now)) }
+    ensures { result ≡ settings_in (take 26 (drop body s.now)) }
 {
     Settings {
         lam: float64::double(framing::eight(s, body)),
@@ -103,7 +105,7 @@ fn settings_at(s: &[u8], body: usize) -> Settings
 
 // What the first record of an input that splits is.
 pub fn first_record(s: &[u8]) -> Opening
-    ensures { (es : List Entry) → entriesIn s.now ≡ some es → result ≡ openingOf es }
+    ensures { (es : List Entry) → entries_in s.now ≡ some es → result ≡ opening_of es }
 {
     match record_at(s, 0) {
         Head::End => Opening::Other,

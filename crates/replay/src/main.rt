@@ -1,5 +1,7 @@
 // Replays stored answers of the Rust: each case of standard input is fitted, and every number and place is compared.
 // The input is words of 8 bytes, little-endian; oracle/src/replay.rs, which writes it, says what stands where.
+#![tactic(auto)]
+
 ghost use Rattle.std.specs.Prelude.{◌≤◌, ◌<◌};
 
 // The word past the case that starts at word a.

@@ -1,12 +1,14 @@
 // A stored case, fitted again and compared with the answer that is stored with it.
+#![tactic(auto)]
+
 ghost use Rattle.std.specs.Prelude.{◌≡◌, ◌≤◌, ◌<◌, length};
 ghost use Rattle.std.specs.Float.{binary64};
 ghost use Rattle.std.specs.Float.Ieee.{of_bits};
 ghost use Rattle.questions.specs.Asking.{asking};
 ghost use Rattle.fit.specs.Fit.{fit};
 ghost use Rattle.stored.specs.Words.{word_at, Within};
-ghost use Rattle.compared.specs.Outcomes.{sameOutcome};
-ghost use Rattle.rerun.specs.Cases.{optionAt, lendingOf, equalAt};
+ghost use Rattle.compared.specs.Outcomes.{same_outcome};
+ghost use Rattle.rerun.specs.Cases.{option_at, lending_of, equal_at};
 
 use stored::Lengths;
 use trend_filter::TrendFilterOptions;
@@ -22,7 +24,7 @@ fn fit_at(
 ) -> bool
     requires within { Within l }
     requires y_len_bound { (length y.now ≤ 168) × (a < 32000) }
-    ensures { result ≡ sameOutcome (fit (asking y.now lam opts.tol opts.max_iter opts.order opts.penalty) (lendingOf l)) s.now a }
+    ensures { result ≡ same_outcome (fit (asking y.now lam opts.tol opts.max_iter opts.order opts.penalty) (lending_of l)) s.now a }
 {
     let mut trend = [0.0f64; 168];
     let mut cycle = [0.0f64; 168];
@@ -53,7 +55,7 @@ fn fit_at(
 
 // Word i as an option, which is small where it is right.
 fn option_at(s: &[u8; 131072], i: usize) -> u32
-    ensures { result ≡ optionAt s.now i }
+    ensures { result ≡ option_at s.now i }
 {
     (stored::word(s, i) % 0x1_0000_0000) as u32
 }
@@ -68,7 +70,7 @@ fn double_at(s: &[u8; 131072], i: usize) -> f64
 // Whether the case that starts at word a is equal: the outcome of its fit is the one that is stored with it.
 pub fn equal_at(s: &[u8; 131072], a: usize) -> bool
     requires { a < 16384 }
-    ensures { result ≡ equalAt s.now a }
+    ensures { result ≡ equal_at s.now a }
 {
     let mut y = [0.0f64; 168];
     let l = stored::lent_at(s, a);

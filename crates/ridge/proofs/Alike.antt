@@ -15,16 +15,16 @@ use Rattle.vectors.proofs.Laws.{kept-none}
 use Rattle.banded.specs.Rows.{Matrix, placed}
 use Rattle.banded.specs.Run.{flat}
 use Rattle.banded.proofs.Laws.{above, placed_at}
-use Rattle.vectors.specs.Sums.{more, moreFrom}
-use Rattle.vectors.proofs.Sums.{more-ext}
+use Rattle.vectors.specs.Sums.{more, more_from}
+use Rattle.vectors.proofs.Sums.{more_ext}
 use Rattle.banded.specs.Layout.{Laid}
 use Rattle.ridge.specs.Layout.{Repeated}
-use Rattle.ridge.specs.Ridge.{identityAt, ridge}
+use Rattle.ridge.specs.Ridge.{identity_at, ridge}
 
 -- ---- one more place repeated
 
-pub repeat-none : (w b : ℕ) (s : List Float) → Repeated w b 0 s s
-repeat-none w b s = record { kept = kept-none b 0 s; same = λ q h g. absurd (omega arith) }
+pub repeat_none : (w b : ℕ) (s : List Float) → Repeated w b 0 s s
+repeat_none w b s = record { kept = kept-none b 0 s; same = λ q h g. absurd (omega arith) }
 
 pub repeat-more : {w b n : ℕ} {s₀ s : List Float} → Repeated w b n s₀ s → 1 ≤ w → w ≤ b → b + n < length s → Repeated w b (n + 1) s₀ (set s (b + n) (at s (b + n - w)))
 repeat-more {w} {b} {n} {s₀} {s} r h g fits =
@@ -78,37 +78,37 @@ module _ {k r e n : ℕ} {a : Matrix} {v s s' : List Float} (w : Laid k r a v s)
 row-less : (i k t : ℕ) → k ≤ i → t ≤ k → i - (i - k + t) ≡ k - t
 row-less i k t h g = omega arith
 
-column-less : (i k p t : ℕ) → k ≤ i → t ≤ p → i + p - k - (i - k + t) ≡ p - t
-column-less i k p t h g = omega arith
+column_less : (i k p t : ℕ) → k ≤ i → t ≤ p → i + p - k - (i - k + t) ≡ p - t
+column_less i k p t h g = omega arith
 
-identity-place : (k i p : ℕ) → k ≤ i → p ≤ k → identityAt i (i + p - k) ≡ identityAt k p
-identity-place k i p h g =
+identity_place : (k i p : ℕ) → k ≤ i → p ≤ k → identity_at i (i + p - k) ≡ identity_at k p
+identity_place k i p h g =
     ⊎_elim
     (λ (e : p ≡ k). rw (eq-eqb i (i + p - k) (omega arith), eq-eqb k p (sym e)))
     (λ (l : p < k). rw (ne_eqb i (i + p - k) (ne_of_gt (omega arith)), ne_eqb k p (ne_of_gt l)))
     (eq-or-lt_of_le g)
 
-ridge-inner : (k : ℕ) (c : List Float) (lam : Float) (n i p : ℕ) → k ≤ i → i < n - k → p ≤ k
-    → placed k (ridge k c lam n) i p ≡ more (identityAt k p) (λ t. lam ⊗ at c (k - t) ⊗ at c (p - t)) (p + 1)
-unfolding ridge moreFrom
-ridge-inner k c lam n i p h l g =
+ridge_inner : (k : ℕ) (c : List Float) (lam : Float) (n i p : ℕ) → k ≤ i → i < n - k → p ≤ k
+    → placed k (ridge k c lam n) i p ≡ more (identity_at k p) (λ t. lam ⊗ at c (k - t) ⊗ at c (p - t)) (p + 1)
+unfolding ridge more_from
+ridge_inner k c lam n i p h l g =
     let z : i + p - k + 1 - (i - k) ≡ p + 1 = omega arith in
     placed_at k (ridge k c lam n) i p (i + p - k) (omega arith)
-    ∙ rw (identity-place k i p h g, min-eq_left {n = i + p - k + 1} {m = n - k} (omega arith), z)
-    (more-ext (identityAt k p) _ _ (p + 1)
-    (λ t u. rw (row-less i k t h (omega arith), column-less i k p t h (omega arith))))
+    ∙ rw (identity_place k i p h g, min-eq_left {n = i + p - k + 1} {m = n - k} (omega arith), z)
+    (more_ext (identity_at k p) _ _ (p + 1)
+    (λ t u. rw (row-less i k t h (omega arith), column_less i k p t h (omega arith))))
 
-pub ridge-alike : (k : ℕ) (c : List Float) (lam : Float) (n i p : ℕ) → k < i → i < n - k → p ≤ k → placed k (ridge k c lam n) i p ≡ placed k (ridge k c lam n) (i - 1) p
-ridge-alike k c lam n i p h l g = ridge-inner k c lam n i p (omega arith) l g ∙ sym (ridge-inner k c lam n (i - 1) p (omega arith) (omega arith) g)
+pub ridge_alike : (k : ℕ) (c : List Float) (lam : Float) (n i p : ℕ) → k < i → i < n - k → p ≤ k → placed k (ridge k c lam n) i p ≡ placed k (ridge k c lam n) (i - 1) p
+ridge_alike k c lam n i p h l g = ridge_inner k c lam n i p (omega arith) l g ∙ sym (ridge_inner k c lam n (i - 1) p (omega arith) (omega arith) g)
 
 -- ---- the places of rows w up to m, of w numbers each
 
-pub rows-span : (w m : ℕ) → w ≤ m → w * w + (m - w) * w ≡ m * w
-rows-span w m h = let e : w + (m - w) ≡ m = omega arith in sym (add-mul w (m - w) w) ∙ rw e
+pub rows_span : (w m : ℕ) → w ≤ m → w * w + (m - w) * w ≡ m * w
+rows_span w m h = let e : w + (m - w) ≡ m = omega arith in sym (add-mul w (m - w) w) ∙ rw e
 
 pub rows-room : (w m n l : ℕ) → 1 ≤ w → w ≤ m → m ≤ n → n * w ≤ l → (w ≤ w * w) × (w * w + (m - w) * w ≤ l)
 rows-room w m n l some h g room =
     let one : 1 * w ≤ w * w = mul-le-mul_right w some in
     let f : m * w ≤ n * w = mul-le-mul_right w g in
-    let e = rows-span w m h in
+    let e = rows_span w m h in
     (omega (arith, one-mul w), omega arith)

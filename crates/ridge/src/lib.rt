@@ -1,4 +1,6 @@
 // The rows of I + lam D'D.
+#![tactic(auto)]
+
 ghost use Rattle.std.specs.Prelude.{◌≡◌, List, ◌≤◌, ◌-◌, ◌+◌, ◌*◌, length, Float};
 ghost use Rattle.vectors.specs.Parts.{Written};
 ghost use Rattle.differences.specs.Diff.{stencil};
@@ -6,11 +8,11 @@ ghost use Rattle.differences.specs.Series.{Series};
 ghost use Rattle.banded.specs.Rows.{placed};
 ghost use Rattle.banded.specs.Layout.{Laid};
 ghost use Rattle.ridge.specs.Layout.{Row, Rows, Repeated};
-ghost use Rattle.ridge.specs.Ridge.{identityAt, ridge};
+ghost use Rattle.ridge.specs.Ridge.{identity_at, ridge};
 
 // I at row i and column j.
 fn identity_at(i: usize, j: usize) -> f64
-    ensures { result ≡ identityAt i j }
+    ensures { result ≡ identity_at i j }
 {
     if i == j { 1.0 } else { 0.0 }
 }

@@ -13,32 +13,32 @@ use lib.Ieee.Positive.{positive, above}
 use Rattle.search.specs.Demand3.{clear}
 
 -- clear, and not NaN
-abbrev pub atLeast0 : Float → Bool
-atLeast0 nan = false
-atLeast0 (inf s) = not s
-atLeast0 (fin s m e) = not s
+abbrev pub at_least0 : Float → Bool
+at_least0 nan = false
+at_least0 (inf s) = not s
+at_least0 (fin s m e) = not s
 
-pub weaken : (x : Float) → T (atLeast0 x) → T (clear x)
+pub weaken : (x : Float) → T (at_least0 x) → T (clear x)
 weaken nan t = tt
 weaken (inf s) t = t
 weaken (fin s m e) t = t
 
-of-value : (x : Float) (a c : ℕ) → HasValue x false a c → T (atLeast0 x)
-of-value nan a c h = h
-of-value (inf s) a c h = absurd h
-of-value (fin true m e) a c h = absurd (true≢false h.0)
-of-value (fin false m e) a c h = tt
+of_value : (x : Float) (a c : ℕ) → HasValue x false a c → T (at_least0 x)
+of_value nan a c h = h
+of_value (inf s) a c h = absurd h
+of_value (fin true m e) a c h = absurd (true≢false h.0)
+of_value (fin false m e) a c h = tt
 
-units-clear : (f : Format) (q k : ℕ) → T (atLeast0 (units f false q k))
+units-clear : (f : Format) (q k : ℕ) → T (at_least0 (units f false q k))
 unfolding units
 units-clear f q k = go (ltb (q * 2 ^ k) (2 ^ (low f + suc (emax f))))
   where
-    go : (b : Bool) → T (atLeast0 (cond b (odd (suc (prec f)) false q k (low f)) (inf false)))
-    go true = of-value (odd (suc (prec f)) false q k (low f)) (q * 2 ^ k) (2 ^ low f) (odd_sign (suc (prec f)) false q k (low f))
+    go : (b : Bool) → T (at_least0 (cond b (odd (suc (prec f)) false q k (low f)) (inf false)))
+    go true = of_value (odd (suc (prec f)) false q k (low f)) (q * 2 ^ k) (2 ^ low f) (odd_sign (suc (prec f)) false q k (low f))
     go false = tt
 
-pub round-clear : (f : Format) (a c : ℕ) → T (atLeast0 (round f false a c))
-round-clear f a c = subst (λ (x : Float). T (atLeast0 x)) (sym (round_is f false a c)) (units-clear f _ _)
+pub round-clear : (f : Format) (a c : ℕ) → T (at_least0 (round f false a c))
+round-clear f a c = subst (λ (x : Float). T (at_least0 x)) (sym (round_is f false a c)) (units-clear f _ _)
 
 cond-clear : (b : Bool) (x y : Float) → T (clear x) → T (clear y) → T (clear (cond b x y))
 cond-clear true x y h k = h
@@ -60,13 +60,13 @@ mul-clear f (fin false m e) (inf false) h k = cond-clear (eqb m 0) nan (inf fals
 mul-clear f (fin false m e) (fin true n d) h k = absurd k
 mul-clear f (fin false m e) (fin false n d) h k = weaken (round f false (m * up e * (n * up d)) (down e * down d)) (round-clear f (m * up e * (n * up d)) (down e * down d))
 
-pub square-clear : (f : Format) (x : Float) → T (clear (mul f x x))
+pub square_clear : (f : Format) (x : Float) → T (clear (mul f x x))
 unfolding mul
-square-clear f nan = tt
-square-clear f (inf true) = tt
-square-clear f (inf false) = tt
-square-clear f (fin true m e) = weaken (round f false (m * up e * (m * up e)) (down e * down e)) (round-clear f (m * up e * (m * up e)) (down e * down e))
-square-clear f (fin false m e) = weaken (round f false (m * up e * (m * up e)) (down e * down e)) (round-clear f (m * up e * (m * up e)) (down e * down e))
+square_clear f nan = tt
+square_clear f (inf true) = tt
+square_clear f (inf false) = tt
+square_clear f (fin true m e) = weaken (round f false (m * up e * (m * up e)) (down e * down e)) (round-clear f (m * up e * (m * up e)) (down e * down e))
+square_clear f (fin false m e) = weaken (round f false (m * up e * (m * up e)) (down e * down e)) (round-clear f (m * up e * (m * up e)) (down e * down e))
 
 pub add-clear : (f : Format) (x y : Float) → T (clear x) → T (clear y) → T (clear (add f x y))
 unfolding add
@@ -85,22 +85,22 @@ add-clear f (fin false m e) (fin false n d) h k = weaken (round f false (m * up 
 
 -- ---- the stopping test
 -- tol times an infinity is that infinity
-pub infinite-product : (f : Format) (a : Float) (s : Bool) → T (positive a) → mul f a (inf s) ≡ inf (unlike false s)
+pub infinite_product : (f : Format) (a : Float) (s : Bool) → T (positive a) → mul f a (inf s) ≡ inf (unlike false s)
 unfolding mul
-infinite-product f nan s p = absurd p
-infinite-product f (inf t) s p = absurd p
-infinite-product f (fin true m e) s p = absurd p
-infinite-product f (fin false m e) s p = cond_no (eqb m 0) nan (inf (unlike false s)) (not_T (eqb m 0) (λ z. omega (arith, ltb→lt 0 m p, eqb→eq m 0 z)))
+infinite_product f nan s p = absurd p
+infinite_product f (inf t) s p = absurd p
+infinite_product f (fin true m e) s p = absurd p
+infinite_product f (fin false m e) s p = cond_no (eqb m 0) nan (inf (unlike false s)) (not_T (eqb m 0) (λ z. omega (arith, ltb→lt 0 m p, eqb→eq m 0 z)))
 
 -- tol times a clear value that is no NaN is such a value
-pub scaled : (f : Format) (tol P : Float) → T (positive tol) → T (atLeast0 P) → T (atLeast0 (mul f tol P))
+pub scaled : (f : Format) (tol P : Float) → T (positive tol) → T (at_least0 P) → T (at_least0 (mul f tol P))
 unfolding mul
 scaled f nan P p h = absurd p
 scaled f (inf s) P p h = absurd p
 scaled f (fin true m e) P p h = absurd p
 scaled f (fin false m e) nan p h = h
 scaled f (fin false m e) (inf true) p h = absurd h
-scaled f (fin false m e) (inf false) p h = subst (λ (x : Float). T (atLeast0 x)) (sym (infinite-product f (fin false m e) false p)) tt
+scaled f (fin false m e) (inf false) p h = subst (λ (x : Float). T (at_least0 x)) (sym (infinite_product f (fin false m e) false p)) tt
 scaled f (fin false m e) (fin true n d) p h = absurd h
 scaled f (fin false m e) (fin false n d) p h = round-clear f (m * up e * (n * up d)) (down e * down d)
 
@@ -116,24 +116,24 @@ and_no true true t u v = v
 and_no true false t u v = u
 and_no false b t u v = t
 
-pub minus-below : (a b : ℕ) → T (not (ltb 0 (a + b) || (eqb a b && (false || eqb a 0)))) → ⊥
-minus-below a b t =
+pub minus_below : (a b : ℕ) → T (not (ltb 0 (a + b) || (eqb a b && (false || eqb a 0)))) → ⊥
+minus_below a b t =
     let n = neither (ltb 0 (a + b)) (eqb a b && (false || eqb a 0)) t in
     let z = zero-sum a b (nltb→le 0 (a + b) n.0) in
     and_no (eqb a b) (eqb a 0) (eq→eqb (z.0 ∙ sym z.1)) (eq→eqb z.0) n.1
 
-zero-below : (a b : ℕ) → a ≡ 0 → T (not (ltb a b || (eqb a b && true))) → ⊥
-zero-below a b e t =
+zero_below : (a b : ℕ) → a ≡ 0 → T (not (ltb a b || (eqb a b && true))) → ⊥
+zero_below a b e t =
     let n = neither (ltb a b) (eqb a b && true) t in
     let l : b ≤ a = nltb→le a b n.0 in
     let q : a ≡ b = omega arith in
     and_no (eqb a b) true (eq→eqb q) tt n.1
 
-no-product : (u w : ℕ) → 0 * u * w ≡ 0
-no-product u w = ap (λ (x : ℕ). x * w) (zero-mul u) ∙ zero-mul w
+no_product : (u w : ℕ) → 0 * u * w ≡ 0
+no_product u w = ap (λ (x : ℕ). x * w) (zero-mul u) ∙ zero-mul w
 
 -- what is not at most a value that is not below 0 is a NaN or above 0
-pub awake : (g x : Float) → T (atLeast0 x) → T (not (le g x)) → T (is_nan g || above g)
+pub awake : (g x : Float) → T (at_least0 x) → T (not (le g x)) → T (is_nan g || above g)
 unfolding le is_nan
 awake nan x h t = tt
 awake (inf true) nan h t = absurd h
@@ -145,12 +145,12 @@ awake (fin true m e) nan h t = absurd h
 awake (fin true m e) (inf true) h t = absurd h
 awake (fin true m e) (inf false) h t = absurd t
 awake (fin true m e) (fin true n d) h t = absurd h
-awake (fin true m e) (fin false n d) h t = absurd (minus-below (m * up e * down d) (n * up d * down e) t)
+awake (fin true m e) (fin false n d) h t = absurd (minus_below (m * up e * down d) (n * up d * down e) t)
 awake (fin false zero e) nan h t = absurd h
 awake (fin false zero e) (inf true) h t = absurd h
 awake (fin false zero e) (inf false) h t = absurd t
 awake (fin false zero e) (fin true n d) h t = absurd h
-awake (fin false zero e) (fin false n d) h t = absurd (zero-below (0 * up e * down d) (n * up d * down e) (no-product (up e) (down d)) t)
+awake (fin false zero e) (fin false n d) h t = absurd (zero_below (0 * up e * down d) (n * up d * down e) (no_product (up e) (down d)) t)
 awake (fin false (suc m) e) x h t = lt→ltb 0 (suc m) (zero-lt-suc m)
 
 -- a gap that does not stop the search is a NaN or above 0

@@ -13,8 +13,8 @@ use Rattle.search.specs.declared.Reason.TheVariants.{GapSmall, LimitSpent, Stall
 use Rattle.search.specs.Search.{Turn, lost, moved, Problem, Point, Ended, Next, stop, go, gap, ended, enough, stuck, improved, advance, turned, iterate, run}
 
 -- the end of an iteration that a bad pivot ends
-abbrev pub afterLoss : {S : Type 0} → Point S → Ended S
-afterLoss p = record { state = p.state; n-iter = suc p.n-iter; first = p.first; best = p.best; improvements = p.improvements; reason = PivotLost }
+abbrev pub after_loss : {S : Type 0} → Point S → Ended S
+after_loss p = record { state = p.state; n_iter = suc p.n_iter; first = p.first; best = p.best; improvements = p.improvements; reason = PivotLost }
 
 -- ---- one equation for each way an iteration can go
 abbrev follow : {S : Type 0} → Problem S → Float → ℕ → Next S → Ended S
@@ -61,7 +61,7 @@ module _ {S : Type 0} (L : Problem S) (tol : Float) where
   run-stalled r p e f = run-next r p ∙ ap (follow L tol r) (wide-next p true e f)
 
   -- a bad pivot
-  pub run-lost : (r : ℕ) (p : Point S) → enough L tol p ≡ false → stuck p ≡ false → L.move (gap L p.state) p.state ≡ lost → run L tol (suc r) p ≡ afterLoss p
+  pub run-lost : (r : ℕ) (p : Point S) → enough L tol p ≡ false → stuck p ≡ false → L.move (gap L p.state) p.state ≡ lost → run L tol (suc r) p ≡ after_loss p
   run-lost r p e f m = turn-next r p lost e f m
 
   -- a step, b says whether it is an improvement
@@ -73,7 +73,7 @@ pub data Trace {S : Type 0} (L : Problem S) (tol : Float) : ℕ → Point S → 
   closes : (r : ℕ) (p : Point S) → enough L tol p ≡ true → Trace L tol r p (ended p GapSmall)
   spends : (p : Point S) → enough L tol p ≡ false → Trace L tol zero p (ended p LimitSpent)
   stalls : (r : ℕ) (p : Point S) → enough L tol p ≡ false → stuck p ≡ true → Trace L tol (suc r) p (ended p Stalled)
-  loses : (r : ℕ) (p : Point S) → enough L tol p ≡ false → stuck p ≡ false → L.move (gap L p.state) p.state ≡ lost → Trace L tol (suc r) p (afterLoss p)
+  loses : (r : ℕ) (p : Point S) → enough L tol p ≡ false → stuck p ≡ false → L.move (gap L p.state) p.state ≡ lost → Trace L tol (suc r) p (after_loss p)
   gains : {r : ℕ} {p : Point S} {e : Ended S} (t : S) → enough L tol p ≡ false → stuck p ≡ false → L.move (gap L p.state) p.state ≡ moved t → improved L p t ≡ true → Trace L tol r (advance L p t true) e → Trace L tol (suc r) p e
   stays : {r : ℕ} {p : Point S} {e : Ended S} (t : S) → enough L tol p ≡ false → stuck p ≡ false → L.move (gap L p.state) p.state ≡ moved t → improved L p t ≡ false → Trace L tol r (advance L p t false) e → Trace L tol (suc r) p e
 
@@ -120,15 +120,15 @@ module _ {S : Type 0} (L : Problem S) (tol : Float) where
 
 -- ---- the counts
 module _ {S : Type 0} {L : Problem S} {tol : Float} where
-  pub steps-grow : {r : ℕ} {p : Point S} {e : Ended S} → Trace L tol r p e → p.n-iter ≤ e.n-iter
-  steps-grow (closes r p e) = le_refl p.n-iter
-  steps-grow (spends p e) = le_refl p.n-iter
-  steps-grow (stalls r p e f) = le_refl p.n-iter
-  steps-grow (loses r p e f m) = le-suc p.n-iter
-  steps-grow (gains {p = p} t e f m w tr) = le_trans (le-suc p.n-iter) (steps-grow tr)
-  steps-grow (stays {p = p} t e f m w tr) = le_trans (le-suc p.n-iter) (steps-grow tr)
+  pub steps-grow : {r : ℕ} {p : Point S} {e : Ended S} → Trace L tol r p e → p.n_iter ≤ e.n_iter
+  steps-grow (closes r p e) = le_refl p.n_iter
+  steps-grow (spends p e) = le_refl p.n_iter
+  steps-grow (stalls r p e f) = le_refl p.n_iter
+  steps-grow (loses r p e f m) = le-suc p.n_iter
+  steps-grow (gains {p = p} t e f m w tr) = le_trans (le-suc p.n_iter) (steps-grow tr)
+  steps-grow (stays {p = p} t e f m w tr) = le_trans (le-suc p.n_iter) (steps-grow tr)
 
-  pub steps-within : {r : ℕ} {p : Point S} {e : Ended S} → Trace L tol r p e → e.n-iter ≤ p.n-iter + r
+  pub steps-within : {r : ℕ} {p : Point S} {e : Ended S} → Trace L tol r p e → e.n_iter ≤ p.n_iter + r
   steps-within (closes r p e) = omega arith
   steps-within (spends p e) = omega arith
   steps-within (stalls r p e f) = omega arith
@@ -160,18 +160,18 @@ module _ {S : Type 0} {L : Problem S} {tol : Float} (I : S → Type 0) (keeps : 
   kept-to-end (stays t e f m w tr) h = kept-to-end tr (subst (Led I) m (keeps _ _ h))
 
 -- ---- ten idle iterations for each improvement, and ten more
-not-ten : (n : ℕ) → n ≤ 10 → eqb n 10 ≡ false → n ≤ 9
-not-ten n h f = le_of_le-suc-ne h (λ (e : n ≡ 10). T_not (eqb n 10) (subst (λ (x : Bool). T (not x)) (sym f) tt) (eq→eqb e))
+not_ten : (n : ℕ) → n ≤ 10 → eqb n 10 ≡ false → n ≤ 9
+not_ten n h f = le_of_le-suc-ne h (λ (e : n ≡ 10). T_not (eqb n 10) (subst (λ (x : Bool). T (not x)) (sym f) tt) (eq→eqb e))
 
 -- a stall count that does not end the search can rise
-pub idle-room : (n : ℕ) → n ≤ 10 → eqb n 10 ≡ false → suc n ≤ 10
-idle-room n h f = let z = not-ten n h f in omega arith
+pub idle_room : (n : ℕ) → n ≤ 10 → eqb n 10 ≡ false → suc n ≤ 10
+idle_room n h f = let z = not_ten n h f in omega arith
 
 module _ {S : Type 0} {L : Problem S} {tol : Float} where
-  pub idle : {r : ℕ} {p : Point S} {e : Ended S} → Trace L tol r p e → p.stall ≤ 10 → p.n-iter ≤ 10 * p.improvements + p.stall → e.n-iter ≤ 10 * e.improvements + 10
+  pub idle : {r : ℕ} {p : Point S} {e : Ended S} → Trace L tol r p e → p.stall ≤ 10 → p.n_iter ≤ 10 * p.improvements + p.stall → e.n_iter ≤ 10 * e.improvements + 10
   idle (closes r p e) h g = omega arith
   idle (spends p e) h g = omega arith
   idle (stalls r p e f) h g = omega arith
-  idle (loses r p e f m) h g = let z = not-ten p.stall h f in omega arith
-  idle (gains {p = p} t e f m w tr) h g = let z = not-ten p.stall h f in idle tr (lit≤ tt) (omega arith)
-  idle (stays {p = p} t e f m w tr) h g = let z = not-ten p.stall h f in idle tr (omega arith) (omega arith)
+  idle (loses r p e f m) h g = let z = not_ten p.stall h f in omega arith
+  idle (gains {p = p} t e f m w tr) h g = let z = not_ten p.stall h f in idle tr (lit≤ tt) (omega arith)
+  idle (stays {p = p} t e f m w tr) h g = let z = not_ten p.stall h f in idle tr (omega arith) (omega arith)

@@ -6,16 +6,16 @@ use Rattle.float64.specs.Ops.{c0}
 use Rattle.search.specs.Search.{Problem, searched}
 
 -- finite and above 0, as question 6 asks it of a tolerance
-abbrev pub finiteAbove0 : Float → Bool
-finiteAbove0 x = is_finite x && lt c0 x
+abbrev pub finite_above0 : Float → Bool
+finite_above0 x = is_finite x && lt c0 x
 
 -- a NaN, or not below 0
-abbrev pub notBelow0 : Float → Bool
-notBelow0 x = not (lt x c0)
+abbrev pub not_below0 : Float → Bool
+not_below0 x = not (lt x c0)
 
 -- Where P is a NaN or not below 0 at every state: of two such tolerances the one that is not smaller costs no more iterations, from any state and under any limit.
 abbrev pub LooserSearch : {S : Type 0} → Problem S → Type 0
 LooserSearch {S} L =
-    ((s : S) → T (notBelow0 (L.primal s)))
-    → (tol looser : Float) → T (finiteAbove0 tol) → T (finiteAbove0 looser) → T (le tol looser)
-    → (max-iter : ℕ) (s : S) → (searched L looser max-iter s).n-iter ≤ (searched L tol max-iter s).n-iter
+    ((s : S) → T (not_below0 (L.primal s)))
+    → (tol looser : Float) → T (finite_above0 tol) → T (finite_above0 looser) → T (le tol looser)
+    → (max_iter : ℕ) (s : S) → (searched L looser max_iter s).n_iter ≤ (searched L tol max_iter s).n_iter

@@ -1,9 +1,11 @@
 // Why a search stopped, and the number that stands for it. All else here is definitions (specs/).
+#![tactic(auto)]
+
 ghost use Rattle.std.specs.Prelude.{◌≡◌};
-ghost use Rattle.search.specs.Reasons.{reasonNumber};
+ghost use Rattle.search.specs.Reasons.{reason_number};
 
 // Why a search stopped; a closed path made none.
-#[derive(Drop)]
+#[derive(Clone, Copy)]
 pub enum Reason {
     ClosedPath,
     GapSmall,
@@ -14,7 +16,7 @@ pub enum Reason {
 
 // The reason's number.
 pub fn number(r: Reason) -> u64
-    ensures { result ≡ reasonNumber r }
+    ensures { result ≡ reason_number r }
 {
     match r {
         Reason::ClosedPath => 0,

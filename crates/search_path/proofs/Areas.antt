@@ -9,29 +9,29 @@ use lib.ListN.{length}
 use lib.Ieee.{Float, nan}
 use Rattle.vectors.specs.Parts.{part}
 use Rattle.vectors.proofs.Parts.{put_back, part-put}
-use Rattle.dual_point.specs.Lanes.{searchArea, candidateTrend}
+use Rattle.dual_point.specs.Lanes.{search_area, candidate_trend}
 use Rattle.gram.specs.Prepared.{preparation}
 use Rattle.questions.specs.Questions.{Asked}
-use Rattle.fit.specs.Fit.{searchOf, pathEnd}
+use Rattle.fit.specs.Fit.{search_of, path_end}
 use Rattle.closed_paths.specs.declared.Finding.{Finding}
-use Rattle.closed_paths.specs.Trends.{trendOf, foundOf}
+use Rattle.closed_paths.specs.Trends.{trend_of, found_of}
 use Rattle.search_path.specs.Search.{Reached}
 
-module _ (a : Asked) (w x d : List Float) (r : Finding) (fits : preparation (length a.y) + searchArea (length a.y) ≤ length w) (size : length x ≡ searchArea (length a.y)) (h : Reached a x d r) where
+module _ (a : Asked) (w x d : List Float) (r : Finding) (fits : preparation (length a.y) + search_area (length a.y) ≤ length w) (size : length x ≡ search_area (length a.y)) (h : Reached a x d r) where
   abbrev after : List Float
-  after = put_back (preparation (length a.y)) (searchArea (length a.y)) w x
+  after = put_back (preparation (length a.y)) (search_area (length a.y)) w x
 
-  won-trend : trendOf a.y after r.trend ≡ (pathEnd a (searchOf a)).trend
-  unfolding trendOf
+  won-trend : trend_of a.y after r.trend ≡ (path_end a (search_of a)).trend
+  unfolding trend_of
   won-trend =
       let n = length a.y in
       let p = preparation n in
-      let put-at = part-put p (searchArea n) w x fits size nan in
+      let put-at = part-put p (search_area n) w x fits size nan in
       let first = ap (λ (q : ℕ). part q n after) (sym (add-zero p)) ∙ put-at 0 n (omega arith) in
-      ap (trendOf a.y after) h.place
-      ∙ (λ i. cond h.second (put-at (candidateTrend n) n (omega arith) i) (first i))
+      ap (trend_of a.y after) h.place
+      ∙ (λ i. cond h.second (put-at (candidate_trend n) n (omega arith) i) (first i))
       ∙ h.trend
 
-  pub search-says : foundOf a.order a.y after d r ≡ pathEnd a (searchOf a)
-  unfolding pathEnd
+  pub search-says : found_of a.order a.y after d r ≡ path_end a (search_of a)
+  unfolding path_end
   search-says = λ i. record { trend = won-trend i; dual = h.dual i; numbers = h.numbers i }

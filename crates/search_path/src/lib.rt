@@ -1,12 +1,14 @@
 // L1 with 0 < lam < lam_max: the search and its polish.
+#![tactic(auto)]
+
 ghost use Rattle.std.specs.Prelude.{◌≡◌, cond, ℕ, ◌≤◌, length};
 ghost use Rattle.vectors.specs.Vec.{put, KeptOf};
 ghost use Rattle.certificate.specs.Certificate.{clamped};
 ghost use Rattle.polish.specs.Places.{Polishable};
-ghost use Rattle.dual_point.specs.Lanes.{searchArea};
+ghost use Rattle.dual_point.specs.Lanes.{search_area};
 ghost use Rattle.questions.specs.Asking.{asking};
-ghost use Rattle.fit.specs.Fit.{searchOf, pathEnd};
-ghost use Rattle.closed_paths.specs.Trends.{searchMarks};
+ghost use Rattle.fit.specs.Fit.{search_of, path_end};
+ghost use Rattle.closed_paths.specs.Trends.{search_marks};
 ghost use Rattle.closed_paths.specs.Taken.{AsksSearch, Finds};
 ghost use Rattle.search_path.specs.Search.{SearchedArea};
 
@@ -82,10 +84,10 @@ pub fn search_path(
     max_iter: u64,
     k: usize,
 ) -> Finding
-    requires { AsksSearch k (searchArea (length y.now)) (searchMarks (length y.now)) y.now work.old cycle.old (length dual.old) marks.old }
-    ensures { Finds (λ (p : ℕ). pathEnd (asking y.now lam tol max_iter k p) (searchOf (asking y.now lam tol max_iter k p))) k (searchArea (length y.now)) y.now
+    requires { AsksSearch k (search_area (length y.now)) (search_marks (length y.now)) y.now work.old cycle.old (length dual.old) marks.old }
+    ensures { Finds (λ (p : ℕ). path_end (asking y.now lam tol max_iter k p) (search_of (asking y.now lam tol max_iter k p))) k (search_area (length y.now)) y.now
         work.old work.new cycle.old cycle.new dual.old dual.new result
-        × KeptOf 0 0 (searchMarks (length y.now)) marks.old marks.new }
+        × KeptOf 0 0 (search_marks (length y.now)) marks.old marks.new }
 {
     closed_paths::differences_to(cycle, work, y, k);
     let n = y.len();

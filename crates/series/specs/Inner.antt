@@ -6,11 +6,11 @@ use Rattle.float64.specs.Ops.{c0}
 use Rattle.vectors.specs.Vec.{put}
 use Rattle.vectors.specs.Parts.{Wrote}
 use Rattle.framing.specs.Bytes.{number_at, signed32}
-use Rattle.overrun.specs.Overrun.{framesIn, overrun}
-use Rattle.records.specs.Entries.{Slot, Entry, silent, sounding, hoursOf}
-use Rattle.records.specs.Corrections.{weekOf, named}
+use Rattle.overrun.specs.Overrun.{frames_in, overrun}
+use Rattle.records.specs.Entries.{Slot, Entry, silent, sounding, hours_of}
+use Rattle.records.specs.Corrections.{week_of, named}
 use Rattle.records.specs.Rates.{rated}
-use Rattle.records.specs.Positions.{positionsOf}
+use Rattle.records.specs.Positions.{positions_of}
 use Rattle.records.specs.Week.{Reading, unread, read}
 use Rattle.series.specs.declared.Gathered.{Gathered}
 use Rattle.series.specs.declared.Week.{Week}
@@ -19,54 +19,54 @@ use Rattle.series.specs.declared.Week.TheVariants.{Refused, Read}
 -- the answer of `read_week`
 abbrev pub answer : Reading → Week
 answer (unread k) = Refused k
-answer (read st ws) = Read st (length (hoursOf ws))
+answer (read st ws) = Read st (length (hours_of ws))
 
 -- what stands in a lent slice then: after a refusal what it held, else what f gives of the week, in its first places
-abbrev pub lentWith : {A : Type 0} → (List Slot → List A) → Reading → List A → List A
-lentWith f (unread k) y = y
-lentWith f (read st ws) y = put y 0 (f ws)
+abbrev pub lent_with : {A : Type 0} → (List Slot → List A) → Reading → List A → List A
+lent_with f (unread k) y = y
+lent_with f (read st ws) y = put y 0 (f ws)
 
 pub record Reads (a : Reading) (r : Week) (y₀ y : List Float) (q₀ q : List ℕ) : Type 0 where
   pub said : r ≡ answer a
-  pub wrote : y ≡ lentWith hoursOf a y₀
-  pub numbered : q ≡ lentWith positionsOf a q₀
+  pub wrote : y ≡ lent_with hours_of a y₀
+  pub numbered : q ≡ lent_with positions_of a q₀
 
 -- how many slots a record of kind k is
-abbrev pub slotsAt : ℕ → ℕ
-slotsAt k = cond (eqb k 1) 1 (cond (eqb k 2) 1 (cond (eqb k 5) 1 0))
+abbrev pub slots_at : ℕ → ℕ
+slots_at k = cond (eqb k 1) 1 (cond (eqb k 2) 1 (cond (eqb k 5) 1 0))
 
 -- slots as the code keeps them: whether each sounds, and its milliseconds, which are not read where it is silent
-abbrev pub slotWith : Bool → Float → Slot
-slotWith true x = sounding x
-slotWith false x = silent
+abbrev pub slot_with : Bool → Float → Slot
+slot_with true x = sounding x
+slot_with false x = silent
 
-unfoldable pub slotsIn : List Float → List Bool → List Slot
-slotsIn [] ts = []
-slotsIn (x ∷ xs) [] = []
-slotsIn (x ∷ xs) (t ∷ ts) = slotWith t x ∷ slotsIn xs ts
+unfoldable pub slots_in : List Float → List Bool → List Slot
+slots_in [] ts = []
+slots_in (x ∷ xs) [] = []
+slots_in (x ∷ xs) (t ∷ ts) = slot_with t x ∷ slots_in xs ts
 
 -- milliseconds at a place of the input
-abbrev pub millisecondsAt : List ℕ → ℕ → Float
-millisecondsAt s b = of_int binary64 (signed32 (number_at b 4 s))
+abbrev pub milliseconds_at : List ℕ → ℕ → Float
+milliseconds_at s b = of_int binary64 (signed32 (number_at b 4 s))
 
 -- what a record of kind k says in milliseconds, its body starting at b: +0 where it says none
-abbrev pub saidAt : List ℕ → ℕ → ℕ → Float
-saidAt s k b = cond (eqb k 1) (millisecondsAt s b) (cond (eqb k 4) (millisecondsAt s (b + 2)) (cond (eqb k 5) (overrun (framesIn (take 12 (drop b s)))) c0))
+abbrev pub said_at : List ℕ → ℕ → ℕ → Float
+said_at s k b = cond (eqb k 1) (milliseconds_at s b) (cond (eqb k 4) (milliseconds_at s (b + 2)) (cond (eqb k 5) (overrun (frames_in (take 12 (drop b s)))) c0))
 
 -- slots W once the correction to x milliseconds whose body starts at b is made, if it names one of the first n
-abbrev pub correctedAt : List ℕ → ℕ → Float → ℕ → List Slot → List Slot
-correctedAt s b x n W = cond (ltb (number_at b 2 s) n) (set W (number_at b 2 s) (sounding x)) W
+abbrev pub corrected_at : List ℕ → ℕ → Float → ℕ → List Slot → List Slot
+corrected_at s b x n W = cond (ltb (number_at b 2 s) n) (set W (number_at b 2 s) (sounding x)) W
 
 -- slots W, of which the first n have been read, once the record of kind k is whose body starts at b and says x; and whether it names one of them, if it is a correction
-abbrev pub slotsOnce : List ℕ → ℕ → ℕ → Float → ℕ → List Slot → List Slot
-slotsOnce s k b x n W = cond (eqb k 1) (set W n (sounding x)) (cond (eqb k 5) (set W n (sounding x)) (cond (eqb k 2) (set W n silent) (cond (eqb k 4) (correctedAt s b x n W) W)))
+abbrev pub slots_once : List ℕ → ℕ → ℕ → Float → ℕ → List Slot → List Slot
+slots_once s k b x n W = cond (eqb k 1) (set W n (sounding x)) (cond (eqb k 5) (set W n (sounding x)) (cond (eqb k 2) (set W n silent) (cond (eqb k 4) (corrected_at s b x n W) W)))
 
 abbrev pub names_at : List ℕ → ℕ → ℕ → ℕ → Bool
 names_at s k b n = cond (eqb k 4) (ltb (number_at b 2 s) n) true
 
 -- the week of entries stands in the first of the slots W, which were W₀; r says how many slots it has, at most 1,024, whether every correction names an earlier one, and whether every rate counts
 pub record ReadSlots (es : List Entry) (W₀ W : List Slot) (r : Gathered) : Type 0 where
-  pub week : Wrote W₀ 0 (weekOf es) W r.n
+  pub week : Wrote W₀ 0 (week_of es) W r.n
   pub few : r.n ≤ 1024
   pub names : r.named ≡ named es
   pub rates : r.rated ≡ rated es

@@ -1,17 +1,19 @@
 // The week's series: `read_week` gathers the slots of a file, corrections made, and closes up those that sound, or refuses.
+#![tactic(auto)]
+
 ghost use Rattle.std.specs.Prelude.{◌≡◌, List, ◌∷◌, [], ◌+◌, ◌≤◌, ◌<◌, ltb, length, set, Float};
 ghost use Rattle.std.proofs.Math.Option.{some};
 ghost use Rattle.framing.specs.Bytes.{number_at};
-ghost use Rattle.records.specs.Entries.{Entry, sounding, hoursOf};
-ghost use Rattle.records.specs.Positions.{positionsFrom, positionsOf};
-ghost use Rattle.records.specs.Week.{readWeek, entriesIn, askHours};
-ghost use Rattle.series.specs.Inner.{Reads, slotsAt, slotWith, slotsIn, saidAt, correctedAt, slotsOnce, names_at, ReadSlots, WroteHours};
+ghost use Rattle.records.specs.Entries.{Entry, sounding, hours_of};
+ghost use Rattle.records.specs.Positions.{positions_from, positions_of};
+ghost use Rattle.records.specs.Week.{read_week, entries_in, ask_hours};
+ghost use Rattle.series.specs.Inner.{Reads, slots_at, slot_with, slots_in, said_at, corrected_at, slots_once, names_at, ReadSlots, WroteHours};
 
 use framing::Head;
 use records::{Opening, Settings, Tally};
 
 // How many slots the week has, whether every correction names an earlier one, and whether every rate counts.
-#[derive(Drop)]
+#[derive(Clone, Copy)]
 struct Gathered {
     n: usize,
     named: bool,
@@ -19,7 +21,7 @@ struct Gathered {
 }
 
 // A refusal's number, or the settings and how many hours there are.
-#[derive(Drop)]
+#[derive(Clone, Copy)]
 pub enum Week {
     Refused(u32),
     Read { settings: Settings, n: usize },
@@ -27,7 +29,7 @@ pub enum Week {
 
 // How many slots of the week a record is: silent or not, an hour is one.
 fn slots(kind: u64) -> usize
-    ensures { (result ≡ slotsAt kind) × (result ≤ 1) }
+    ensures { (result ≡ slots_at kind) × (result ≤ 1) }
 {
     match kind {
         1 => 1,
@@ -40,7 +42,7 @@ fn slots(kind: u64) -> usize
 // The milliseconds that a record says: NaN where question 22 refuses its rate, and 0 where it says none.
 fn said(s: &[u8], kind: u64, body: usize) -> f64
     requires { (kind ≡ 1 → body + 4 ≤ length s.now) × (kind ≡ 4 → body + 6 ≤ length s.now) × (kind ≡ 5 → body + 12 ≤ length s.now) }
-    ensures { result ≡ saidAt s.now kind body }
+    ensures { result ≡ said_at s.now kind body }
 {
     match kind {
         1 => framing::signed(framing::four(s, body)),
@@ -53,7 +55,7 @@ fn said(s: &[u8], kind: u64, body: usize) -> f64
 // Slot p sounds with x milliseconds.
 fn sound(x: f64, ms: &mut [f64], sounds: &mut [bool], p: usize)
     requires { (p < length ms.old) × (p < length sounds.old) }
-    ensures { slotsIn ms.new sounds.new ≡ set (slotsIn ms.old sounds.old) p (sounding x) }
+    ensures { slots_in ms.new sounds.new ≡ set (slots_in ms.old sounds.old) p (sounding x) }
 {
     ms[p] = x;
     sounds[p] = true;
@@ -63,7 +65,7 @@ fn sound(x: f64, ms: &mut [f64], sounds: &mut [bool], p: usize)
 fn correct(s: &[u8], body: usize, x: f64, ms: &mut [f64], sounds: &mut [bool], n: usize) -> bool
     requires { (body + 6 ≤ length s.now) × (n < length ms.old) × (n < length sounds.old) }
     ensures value { result ≡ ltb (number_at body 2 s.now) n }
-    ensures sounds_after { slotsIn ms.new sounds.new ≡ correctedAt s.now body x n (slotsIn ms.old sounds.old) }
+    ensures sounds_after { slots_in ms.new sounds.new ≡ corrected_at s.now body x n (slots_in ms.old sounds.old) }
 {
     let p = framing::two(s, body) as usize;
     if p < n {
@@ -86,7 +88,7 @@ fn put_record(
 ) -> bool
     requires { (kind ≡ 4 → body + 6 ≤ length s.now) × (n < length ms.old) × (n < length sounds.old) }
     ensures value { result ≡ names_at s.now kind body n }
-    ensures sounds_after { slotsIn ms.new sounds.new ≡ slotsOnce s.now kind body x n (slotsIn ms.old sounds.old) }
+    ensures sounds_after { slots_in ms.new sounds.new ≡ slots_once s.now kind body x n (slots_in ms.old sounds.old) }
 {
     match kind {
         1 | 5 => {
@@ -105,7 +107,7 @@ fn put_record(
 // Puts the week of an input that splits at the start of ms and sounds.
 fn read_slots(s: &[u8], ms: &mut [f64; 1024], sounds: &mut [bool; 1024]) -> Gathered
     requires { length s.now ≤ 4096 }
-    ensures { (es : List Entry) → entriesIn s.now ≡ some es → ReadSlots es (slotsIn ms.old sounds.old) (slotsIn ms.new sounds.new) result }
+    ensures { (es : List Entry) → entries_in s.now ≡ some es → ReadSlots es (slots_in ms.old sounds.old) (slots_in ms.new sounds.new) result }
 {
     let mut at: usize = 0;
     let mut n: usize = 0;
@@ -132,7 +134,7 @@ fn read_slots(s: &[u8], ms: &mut [f64; 1024], sounds: &mut [bool; 1024]) -> Gath
 
 // How many slots sound.
 fn sounding(sounds: &[bool]) -> usize
-    ensures { (xs : List Float) → length xs ≡ length sounds.now → result ≡ length (hoursOf (slotsIn xs sounds.now)) }
+    ensures { (xs : List Float) → length xs ≡ length sounds.now → result ≡ length (hours_of (slots_in xs sounds.now)) }
 {
     let mut hours: usize = 0;
     let mut i: usize = 0;
@@ -145,8 +147,8 @@ fn sounding(sounds: &[bool]) -> usize
 
 // Puts an hour that sounds at place n of y and its position at place n of positions, and answers the next place.
 fn put_hour(sounds: bool, x: f64, p: u32, y: &mut [f64], positions: &mut [u32], n: usize) -> usize
-    requires { (n + length (hoursOf (slotWith sounds x ∷ [])) ≤ length y.old) × (n + length (hoursOf (slotWith sounds x ∷ [])) ≤ length positions.old) }
-    ensures { WroteHours (hoursOf (slotWith sounds x ∷ [])) (positionsFrom p (slotWith sounds x ∷ [])) n y.old y.new positions.old positions.new result }
+    requires { (n + length (hours_of (slot_with sounds x ∷ [])) ≤ length y.old) × (n + length (hours_of (slot_with sounds x ∷ [])) ≤ length positions.old) }
+    ensures { WroteHours (hours_of (slot_with sounds x ∷ [])) (positions_from p (slot_with sounds x ∷ [])) n y.old y.new positions.old positions.new result }
 {
     if sounds {
         y[n] = x;
@@ -160,8 +162,8 @@ fn put_hour(sounds: bool, x: f64, p: u32, y: &mut [f64], positions: &mut [u32], 
 // Puts the hours of a week at the start of y and their positions at the start of positions, and answers how many there are.
 fn close_up(ms: &[f64], sounds: &[bool], y: &mut [f64], positions: &mut [u32]) -> usize
     requires ms_len { (length ms.now ≡ length sounds.now) × (length ms.now ≤ 1024) }
-    requires sounds_in_bounds { (length (hoursOf (slotsIn ms.now sounds.now)) ≤ length y.old) × (length y.old ≤ length positions.old) }
-    ensures { WroteHours (hoursOf (slotsIn ms.now sounds.now)) (positionsOf (slotsIn ms.now sounds.now)) 0 y.old y.new positions.old positions.new result }
+    requires sounds_in_bounds { (length (hours_of (slots_in ms.now sounds.now)) ≤ length y.old) × (length y.old ≤ length positions.old) }
+    ensures { WroteHours (hours_of (slots_in ms.now sounds.now)) (positions_of (slots_in ms.now sounds.now)) 0 y.old y.new positions.old positions.new result }
 {
     let mut n: usize = 0;
     let mut i: usize = 0;
@@ -182,7 +184,7 @@ fn take_hours(
     positions: &mut [u32; 168],
 ) -> Week
     requires { (length ms.now ≡ length sounds.now) × (length ms.now ≤ 1024) }
-    ensures { Reads (askHours st (slotsIn ms.now sounds.now) rated) result y.old y.new positions.old positions.new }
+    ensures { Reads (ask_hours st (slots_in ms.now sounds.now) rated) result y.old y.new positions.old positions.new }
 {
     if sounding(sounds) > 168 {
         return Week::Refused(13);
@@ -196,7 +198,7 @@ fn take_hours(
 
 // Questions 11, 12, 17, 13 and 22 over the bytes of a week, and then its settings and its hours, which go to the start of y, and their positions to the start of positions.
 pub fn read_week(s: &[u8], y: &mut [f64; 168], positions: &mut [u32; 168]) -> Week
-    ensures { Reads (readWeek s.now) result y.old y.new positions.old positions.new }
+    ensures { Reads (read_week s.now) result y.old y.new positions.old positions.new }
 {
     if s.len() > 4096 {
         return Week::Refused(11);

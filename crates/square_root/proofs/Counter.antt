@@ -7,7 +7,7 @@ use lib.Pow.{pow_mono}
 
 -- a count, wherever its loop's test is reached
 pub record Counter (j : ℕ) : Type 0 where
-  pub never-past-64 : j ≤ 64
+  pub never_past_64 : j ≤ 64
 
 -- the weight of the digit that j more come after, as the machine makes it
 pub bit : (j : ℕ) → j < 64 → 1 * 2 ^ j % 2 ^ 64 ≡ 2 ^ j

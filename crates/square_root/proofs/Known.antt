@@ -3,11 +3,11 @@ use mathlib.Core.Path.{◌≡◌, refl}
 use mathlib.Core.List.{List, [], ◌∷◌, map}
 use Prim.Native.Nat.{ℕ}
 use lib.Ieee.{binary64, of_bits}
-use Rattle.square_root.specs.Sqrt.{sqrtOf}
+use Rattle.square_root.specs.Sqrt.{sqrt_of}
 
 -- the bits of a double, and those of its root
-abbrev pub knownRoots : List (ℕ × ℕ)
-knownRoots =
+abbrev pub known_roots : List (ℕ × ℕ)
+known_roots =
     (0x4010_0000_0000_0000, 0x4000_0000_0000_0000)  -- 4 gives 2
     ∷ (0x0000_0000_0000_0001, 0x1e60_0000_0000_0000)  -- 2 ^ -1074 gives 2 ^ -537
     ∷ (0x3ff0_0000_0000_0001, 0x3ff0_0000_0000_0000)  -- 1 + 2 ^ -52 gives 1
@@ -23,6 +23,6 @@ knownRoots =
     ∷ (0x7ff8_0000_0000_0000, 0x7ff8_0000_0000_0000)  -- NaN stays
     ∷ []
 
-pub known-roots : map (λ (p : ℕ × ℕ). sqrtOf (of_bits binary64 p.0)) knownRoots ≡ map (λ (p : ℕ × ℕ). of_bits binary64 p.1) knownRoots
-unfolding sqrtOf of_bits
+pub known-roots : map (λ (p : ℕ × ℕ). sqrt_of (of_bits binary64 p.0)) known_roots ≡ map (λ (p : ℕ × ℕ). of_bits binary64 p.1) known_roots
+unfolding sqrt_of of_bits
 known-roots = refl

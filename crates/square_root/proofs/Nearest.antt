@@ -1,4 +1,4 @@
--- The double that `nearestRoot` names, and how far the others are from the root of n. Assumes nothing.
+-- The double that `nearest_root` names, and how far the others are from the root of n. Assumes nothing.
 use mathlib.Core.Path.{◌≡◌, refl, sym, ap, ◌∙◌, subst}
 use mathlib.Core.Logic.{inl, inr}
 use Prim.Native.Nat.{ℕ, suc, ◌+◌, ◌-◌, ◌*◌, ◌/◌, ◌^◌, ◌≤◌, ◌<◌, zero-le, compare, Ordering}
@@ -13,28 +13,28 @@ use lib.Ieee.Digits.{size-lt, size_reaches, size-le}
 use lib.Ieee.Exact.{HasValue, units_val}
 use lib.Ieee.Fits.{up_pos, down_pos, nearest-le, odd-fits}
 use lib.Ieee.Bits.{is_true}
-use Rattle.square_root.specs.Sqrt.{isqrt, nearestRoot}
-use Rattle.float64.specs.Units.{inUnits}
-use Rattle.square_root.proofs.Root.{Root, sq-back, isqrt-root}
+use Rattle.square_root.specs.Sqrt.{isqrt, nearest_root}
+use Rattle.float64.specs.Units.{in_units}
+use Rattle.square_root.proofs.Root.{Root, sq_back, isqrt_root}
 use Rattle.float64.proofs.Doubles.{Grid, Fit}
-use Rattle.float64.proofs.Spacing.{Cmp, cmp, spaced, gap, value-units}
+use Rattle.float64.proofs.Spacing.{Cmp, cmp, spaced, gap, value_units}
 
 -- r is nearer to the root of n than any other z: the half way between the two, (r + z) / 2, lies beyond the root. Both sides are
 -- squared, and multiplied by 4.
 pub record Nearer (n r z : ℕ) : Type 0 where
-  pub from-below : z < r → (r + z) * (r + z) < 4 * n
-  pub from-above : r < z → 4 * n < (r + z) * (r + z)
+  pub from_below : z < r → (r + z) * (r + z) < 4 * n
+  pub from_above : r < z → 4 * n < (r + z) * (r + z)
 
 -- ---- squares
 
-sq-lt : (a b : ℕ) → a < b → a * a < b * b
-sq-lt a b h = lt_of_le_of_lt (mul-le-mul_left a (le_of_lt h)) (mul-lt-mul_of_pos_right h (lt_of_le_of_lt zero-le h))
+sq_lt : (a b : ℕ) → a < b → a * a < b * b
+sq_lt a b h = lt_of_le_of_lt (mul-le-mul_left a (le_of_lt h)) (mul-lt-mul_of_pos_right h (lt_of_le_of_lt zero-le h))
 
-under-root : (n a z : ℕ) → a * a ≤ n → z < a → (a + z) * (a + z) < 4 * n
-under-root n a z h g = omega (arith, sq-lt (a + z) (a + a) (omega arith))
+under_root : (n a z : ℕ) → a * a ≤ n → z < a → (a + z) * (a + z) < 4 * n
+under_root n a z h g = omega (arith, sq_lt (a + z) (a + a) (omega arith))
 
 over_root : (n a z : ℕ) → n < a * a → a < z → 4 * n < (a + z) * (a + z)
-over_root n a z h g = omega (arith, sq-lt (a + a) (a + z) (omega arith))
+over_root n a z h g = omega (arith, sq_lt (a + a) (a + z) (omega arith))
 
 -- ---- a root between q * 2 ^ k and the next double
 
@@ -48,8 +48,8 @@ module _ (n q k : ℕ) (lo : q * 2 ^ k * (q * 2 ^ k) ≤ n) (hi : n < suc q * 2 
 
   stays : (z : ℕ) → Grid z → 4 * n < mid * mid → Nearer n (q * 2 ^ k) z
   stays z g h = record {
-    from-below = under-root n (q * 2 ^ k) z lo;
-    from-above = λ u. elim (gap q k z l g) [
+    from_below = under_root n (q * 2 ^ k) z lo;
+    from_above = λ u. elim (gap q k z l g) [
       | inl v ↦ absurd (not-le_of_lt u v)
       | inr v ↦ let w : mid ≤ q * 2 ^ k + z = omega (arith, middle, v) in lt_of_lt_of_le h (mul-le-mul w w)
     ];
@@ -57,11 +57,11 @@ module _ (n q k : ℕ) (lo : q * 2 ^ k * (q * 2 ^ k) ≤ n) (hi : n < suc q * 2 
 
   moves : (z : ℕ) → Grid z → mid * mid < 4 * n → Nearer n (suc q * 2 ^ k) z
   moves z g h = record {
-    from-below = λ u. elim (gap q k z l g) [
+    from_below = λ u. elim (gap q k z l g) [
       | inl v ↦ let w : suc q * 2 ^ k + z ≤ mid = omega (arith, middle, v) in lt_of_le_of_lt (mul-le-mul w w) h
       | inr v ↦ absurd (not-le_of_lt u v)
     ];
-    from-above = over_root n (suc q * 2 ^ k) z hi;
+    from_above = over_root n (suc q * 2 ^ k) z hi;
   }
 
   -- there is no tie: n has too many zeros
@@ -83,7 +83,7 @@ module _ (n q k : ℕ) (lo : q * 2 ^ k * (q * 2 ^ k) ≤ n) (hi : n < suc q * 2 
 
 -- ---- the root of n, for the n that doubles give
 
--- `nearestRoot`, from its k and its q on
+-- `nearest_root`, from its k and its q on
 pub kept : ℕ → ℕ
 kept n = (size n + 1) / 2 - 53
 
@@ -95,9 +95,9 @@ pub digits : ℕ → ℕ
 unfolding kept lead
 digits n = nearest (lead n) (compare (4 * n) ((2 * lead n + 1) * 2 ^ kept n * ((2 * lead n + 1) * 2 ^ kept n)))
 
-nearestRoot-is : (n : ℕ) → nearestRoot n ≡ units binary64 false (digits n) (kept n)
-unfolding nearestRoot digits
-nearestRoot-is n = refl
+nearest_root_is : (n : ℕ) → nearest_root n ≡ units binary64 false (digits n) (kept n)
+unfolding nearest_root digits
+nearest_root_is n = refl
 
 module _ (n : ℕ) (a : 2 ^ 104 ≤ n) (b : n < 2 ^ 3172) where
   size_in : (104 + (kept n + kept n) < size n) × (size n ≤ 106 + (kept n + kept n)) × (kept n ≤ 1533)
@@ -118,16 +118,16 @@ module _ (n : ℕ) (a : 2 ^ 104 ≤ n) (b : n < 2 ^ 3172) where
 
   is-lead : Root (n / (2 ^ kept n * 2 ^ kept n)) (lead n)
   unfolding lead
-  is-lead = isqrt-root (n / (2 ^ kept n * 2 ^ kept n))
+  is-lead = isqrt_root (n / (2 ^ kept n * 2 ^ kept n))
 
-  lead-ge : 2 ^ 52 ≤ lead n
-  lead-ge =
-      le_of_suc-le-suc (sq-back (2 ^ 52) (suc (lead n))
+  lead_ge : 2 ^ 52 ≤ lead n
+  lead_ge =
+      le_of_suc-le-suc (sq_back (2 ^ 52) (suc (lead n))
       (lt_of_le_of_lt ((le-div_iff_mul-le pow-two).1 (le_trans (le_of_eq (sym (power 104))) (size_reaches n (104 + (kept n + kept n)) size_in.0))) is-lead.1))
 
-  lead-lt : lead n < 2 ^ 53
-  lead-lt =
-      sq-back (lead n) (2 ^ 53)
+  lead_lt : lead n < 2 ^ 53
+  lead_lt =
+      sq_back (lead n) (2 ^ 53)
       (lt_of_le_of_lt is-lead.0 ((div-lt_iff_lt-mul pow-two).1 (lt_of_lt_of_le (size-lt n) (le_trans (pow_mono size_in.1) (le_of_eq (power 106))))))
 
   above_lead : lead n * 2 ^ kept n * (lead n * 2 ^ kept n) ≤ n
@@ -138,29 +138,29 @@ module _ (n : ℕ) (a : 2 ^ 104 ≤ n) (b : n < 2 ^ 3172) where
 
   digits_le : digits n ≤ 2 ^ 53
   unfolding digits
-  digits_le = le_trans (nearest-le (lead n) (compare (4 * n) ((2 * lead n + 1) * 2 ^ kept n * ((2 * lead n + 1) * 2 ^ kept n)))) lead-lt
+  digits_le = le_trans (nearest-le (lead n) (compare (4 * n) ((2 * lead n + 1) * 2 ^ kept n * ((2 * lead n + 1) * 2 ^ kept n)))) lead_lt
 
-  in-range : digits n * 2 ^ kept n < 2 ^ 2098
-  in-range = lt_of_le_of_lt (mul-le-mul digits_le (pow_mono {j = 1533} kept-le)) (lit< tt)
+  in_range : digits n * 2 ^ kept n < 2 ^ 2098
+  in_range = lt_of_le_of_lt (mul-le-mul digits_le (pow_mono {j = 1533} kept-le)) (lit< tt)
 
-  pub root-value : HasValue (nearestRoot n) false (digits n * 2 ^ kept n) (2 ^ 1074)
-  root-value = subst (λ (x : Float). HasValue x false (digits n * 2 ^ kept n) (2 ^ 1074)) (sym (nearestRoot-is n)) (units_val binary64 false (digits n) (kept n) in-range)
+  pub root-value : HasValue (nearest_root n) false (digits n * 2 ^ kept n) (2 ^ 1074)
+  root-value = subst (λ (x : Float). HasValue x false (digits n * 2 ^ kept n) (2 ^ 1074)) (sym (nearest_root_is n)) (units_val binary64 false (digits n) (kept n) in_range)
 
-  root-units : inUnits (nearestRoot n) ≡ digits n * 2 ^ kept n
-  root-units = value-units (nearestRoot n) false (digits n * 2 ^ kept n) root-value
+  root-units : in_units (nearest_root n) ≡ digits n * 2 ^ kept n
+  root-units = value_units (nearest_root n) false (digits n * 2 ^ kept n) root-value
 
-  pub root-nearer : (z : ℕ) → Grid n → Grid z → Nearer n (inUnits (nearestRoot n)) z
+  pub root-nearer : (z : ℕ) → Grid n → Grid z → Nearer n (in_units (nearest_root n)) z
   unfolding digits
   root-nearer z g w =
       subst (λ (r : ℕ). Nearer n r z) (sym root-units)
-      (nearer n (lead n) (kept n) above_lead below_next lead-ge (compare (4 * n) ((2 * lead n + 1) * 2 ^ kept n * ((2 * lead n + 1) * 2 ^ kept n))) z g w (cmp (4 * n) ((2 * lead n + 1) * 2 ^ kept n * ((2 * lead n + 1) * 2 ^ kept n))))
+      (nearer n (lead n) (kept n) above_lead below_next lead_ge (compare (4 * n) ((2 * lead n + 1) * 2 ^ kept n * ((2 * lead n + 1) * 2 ^ kept n))) z g w (cmp (4 * n) ((2 * lead n + 1) * 2 ^ kept n * ((2 * lead n + 1) * 2 ^ kept n))))
 
 units-fit : (q k : ℕ) → q ≤ 2 ^ 53 → q * 2 ^ k < 2 ^ 2098 → T (fits binary64 (units binary64 false q k))
 unfolding units
 units-fit q k a h = rw (is_true (ltb (q * 2 ^ k) (2 ^ 2098)) (lt→ltb (q * 2 ^ k) (2 ^ 2098) h)) (odd-fits binary64 54 false q k (omega arith) a h)
 
-pub root-fits : (n : ℕ) → 2 ^ 104 ≤ n → n < 2 ^ 3172 → T (fits binary64 (nearestRoot n))
-root-fits n a b = subst (λ (y : Float). T (fits binary64 y)) (sym (nearestRoot-is n)) (units-fit (digits n) (kept n) (digits_le n a b) (in-range n a b))
+pub root_fits : (n : ℕ) → 2 ^ 104 ≤ n → n < 2 ^ 3172 → T (fits binary64 (nearest_root n))
+root_fits n a b = subst (λ (y : Float). T (fits binary64 y)) (sym (nearest_root_is n)) (units-fit (digits n) (kept n) (digits_le n a b) (in_range n a b))
 
 -- ---- a double above zero
 

@@ -7,8 +7,8 @@ use native.Mathlib.Decide.{dec_le}
 use native.Mathlib.Omega.{arith}
 use lib.Pow.{pow_mono}
 use Rattle.square_root.specs.Sqrt.{isqrt}
-use Rattle.square_root.specs.Parts.{roundedRoot}
-use Rattle.square_root.proofs.Root.{Root, sq-back, isqrt-root, isqrt-is}
+use Rattle.square_root.specs.Parts.{rounded_root}
+use Rattle.square_root.proofs.Root.{Root, sq_back, isqrt_root, isqrt_is}
 use Rattle.square_root.proofs.Rounded.{rounded-up, rounded-down}
 
 -- ---- digit by digit
@@ -40,15 +40,15 @@ module _ (h root j : ℕ) (d : Digits h root (suc j)) where
   none g = record { below = d.below; above = g; room = omega (arith, same, d.room) }
 
 pub end : (h root : ℕ) → Digits h root 0 → root ≡ isqrt h
-end h root d = sym (isqrt-is h root (d.below, subst (λ (x : ℕ). h < x * x) (add-one root) d.above))
+end h root d = sym (isqrt_is h root (d.below, subst (λ (x : ℕ). h < x * x) (add-one root) d.above))
 
 -- ---- a step of Newton's method: from x to half of x + h / x
 
-step-above : (h x e f : ℕ) → h < (x + e + 1) * x → e ≤ 2 * f + 1 → h < (x + f + 1) * (x + f + 1)
-step-above h x e f g k = omega (arith, mul-le-mul_left x k)
+step_above : (h x e f : ℕ) → h < (x + e + 1) * x → e ≤ 2 * f + 1 → h < (x + f + 1) * (x + f + 1)
+step_above h x e f g k = omega (arith, mul-le-mul_left x k)
 
-step-below : (h x e g : ℕ) → (x + e) * x ≤ h → 2 * suc g ≤ e → g * g ≤ x → (x + g) * (x + g) ≤ h
-step-below h x e g k l m = omega (arith, mul-le-mul_left x l)
+step_below : (h x e g : ℕ) → (x + e) * x ≤ h → 2 * suc g ≤ e → g * g ≤ x → (x + g) * (x + g) ≤ h
+step_below h x e g k l m = omega (arith, mul-le-mul_left x l)
 
 -- for an x that is less than 2 ^ 13 below the root
 module _ (h x : ℕ) (lo : x * x ≤ h) (hi : h < (x + 2 ^ 13) * (x + 2 ^ 13)) (big : 2 ^ 26 ≤ x) where
@@ -74,7 +74,7 @@ module _ (h x : ℕ) (lo : x * x ≤ h) (hi : h < (x + 2 ^ 13) * (x + 2 ^ 13)) (
   pub newton_above : h < suc ((x + h / x) / 2) * suc ((x + h / x) / 2)
   newton_above =
       let n : suc ((x + h / x) / 2) ≡ x + e / 2 + 1 = omega (arith, quotient) in
-      rw n (step-above h x e (e / 2) over (omega arith))
+      rw n (step_above h x e (e / 2) over (omega arith))
 
   -- and at most 1 too high
   pub newton_below : ((x + h / x) / 2 - 1) * ((x + h / x) / 2 - 1) ≤ h
@@ -85,18 +85,18 @@ module _ (h x : ℕ) (lo : x * x ≤ h) (hi : h < (x + 2 ^ 13) * (x + 2 ^ 13)) (
       go (suc g) p =
           let n : (x + h / x) / 2 - 1 ≡ x + g = omega (arith, quotient) in
           let m : g ≤ 2 ^ 13 = omega (arith, short) in
-          rw n (step-below h x e g under (omega arith) (le_trans (mul-le-mul m m) big))
+          rw n (step_below h x e g under (omega arith) (le_trans (mul-le-mul m m) big))
 
 -- the whole root of h from the root s of its leading digits
 module _ (h s : ℕ) (r : s ≡ isqrt (h / 2 ^ 26)) (l : 2 ^ 52 ≤ h) (g : h < 2 ^ 54) where
   is-root : Root (h / 2 ^ 26) s
-  is-root = subst (Root (h / 2 ^ 26)) (sym r) (isqrt-root (h / 2 ^ 26))
+  is-root = subst (Root (h / 2 ^ 26)) (sym r) (isqrt_root (h / 2 ^ 26))
 
   short-ge : 2 ^ 13 ≤ s
-  short-ge = le_of_suc-le-suc (sq-back (2 ^ 13) (suc s) (lt_of_le_of_lt (omega arith) is-root.1))
+  short-ge = le_of_suc-le-suc (sq_back (2 ^ 13) (suc s) (lt_of_le_of_lt (omega arith) is-root.1))
 
   short-lt : s < 2 ^ 14
-  short-lt = sq-back s (2 ^ 14) (lt_of_le_of_lt is-root.0 (omega arith))
+  short-lt = sq_back s (2 ^ 14) (lt_of_le_of_lt is-root.0 (omega arith))
 
   abbrev x : ℕ
   x = s * 2 ^ 13
@@ -123,24 +123,24 @@ module _ (h s : ℕ) (r : s ≡ isqrt (h / 2 ^ 26)) (l : 2 ^ 52 ≤ h) (g : h < 
   too-high k =
       let y = (x + h / x) / 2 in
       let n : y ≡ suc (y - 1) = omega (arith, step-pos) in
-      sym (isqrt-is h (y - 1) (newton_below h x lo hi from-ge, subst (λ (z : ℕ). h < z * z) n k))
+      sym (isqrt_is h (y - 1) (newton_below h x lo hi from-ge, subst (λ (z : ℕ). h < z * z) n k))
 
   pub just-right : (x + h / x) / 2 * ((x + h / x) / 2) ≤ h → (x + h / x) / 2 ≡ isqrt h
-  just-right k = sym (isqrt-is h ((x + h / x) / 2) (k, newton_above h x lo hi from-ge))
+  just-right k = sym (isqrt_is h ((x + h / x) / 2) (k, newton_above h x lo hi from-ge))
 
 -- ---- the nearest whole number
 
-pub rounded-is : (n r : ℕ) → r * r < n + r → n ≤ r * r + r → roundedRoot n ≡ r
-rounded-is n r a b = go (dec_le (r * r) n)
+pub rounded_is : (n r : ℕ) → r * r < n + r → n ≤ r * r + r → rounded_root n ≡ r
+rounded_is n r a b = go (dec_le (r * r) n)
   where
-    before : (q : ℕ) → suc q * suc q < n + suc q → n < suc q * suc q → roundedRoot n ≡ suc q
+    before : (q : ℕ) → suc q * suc q < n + suc q → n < suc q * suc q → rounded_root n ≡ suc q
     before q k l = rounded-up n q (n - q * q) (omega arith) (omega arith) (omega arith) ∙ add-one q
 
-    less : (r : ℕ) → r * r < n + r → n < r * r → roundedRoot n ≡ r
+    less : (r : ℕ) → r * r < n + r → n < r * r → rounded_root n ≡ r
     less zero k l = absurd (omega arith)
     less (suc q) k l = before q k l
 
-    go : Dec (r * r ≤ n) → roundedRoot n ≡ r
+    go : Dec (r * r ≤ n) → rounded_root n ≡ r
     go (yes k) = rounded-down n r (n - r * r) (omega arith) (omega arith) (omega arith)
     go (no f) = less r a (lt_of_not-le f)
 
@@ -149,22 +149,22 @@ rounded-is n r a b = go (dec_le (r * r) n)
 -- what keeps each number of the last step in range
 pub record Ranges (w s : ℕ) : Type 0 where
   pub square : s * s ≤ w
-  pub lead-ge : 2 ^ 26 ≤ s
-  pub lead-lt : s < 2 ^ 27
+  pub lead_ge : 2 ^ 26 ≤ s
+  pub lead_lt : s < 2 ^ 27
   pub rest : w - s * s ≤ s * 2
   pub digits : (w - s * s) * 2 ^ 26 / (s * 2) ≤ 2 ^ 26
   pub left : (w - s * s) * 2 ^ 26 % (s * 2) < s * 2
   pub squared : (w - s * s) * 2 ^ 26 / (s * 2) * ((w - s * s) * 2 ^ 26 / (s * 2)) ≤ 2 ^ 52
 
 module _ (w s : ℕ) (h : Root w s) (l : 2 ^ 52 ≤ w) (g : w < 2 ^ 54) where
-  lead-ge : 2 ^ 26 ≤ s
-  lead-ge = le_of_suc-le-suc (sq-back (2 ^ 26) (suc s) (lt_of_le_of_lt l h.1))
+  lead_ge : 2 ^ 26 ≤ s
+  lead_ge = le_of_suc-le-suc (sq_back (2 ^ 26) (suc s) (lt_of_le_of_lt l h.1))
 
-  lead-lt : s < 2 ^ 27
-  lead-lt = sq-back s (2 ^ 27) (lt_of_le_of_lt h.0 g)
+  lead_lt : s < 2 ^ 27
+  lead_lt = sq_back s (2 ^ 27) (lt_of_le_of_lt h.0 g)
 
   pos-lead : 0 < s * 2
-  pos-lead = omega (arith, lead-ge)
+  pos-lead = omega (arith, lead_ge)
 
   abbrev t : ℕ
   t = (w - s * s) * 2 ^ 26
@@ -194,16 +194,16 @@ module _ (w s : ℕ) (h : Root w s) (l : 2 ^ 52 ≤ w) (g : w < 2 ^ 54) where
   square_le = mul-le-mul last-le last-le
 
   pub ranges : Ranges w s
-  ranges = record { square = h.0; lead-ge = lead-ge; lead-lt = lead-lt; rest = rest_le; digits = last-le; left = left_lt; squared = square_le }
+  ranges = record { square = h.0; lead_ge = lead_ge; lead_lt = lead_lt; rest = rest_le; digits = last-le; left = left_lt; squared = square_le }
 
   total : w * 2 ^ 52 + q * q ≡ root * root + v
   total = omega (arith, split, h.0)
 
-  pub last_up : root + q * q < v → root + 1 ≡ roundedRoot (w * 2 ^ 52)
-  last_up k = sym (rounded-is (w * 2 ^ 52) (root + 1) (omega (arith, total)) (omega (arith, total, left_lt)))
+  pub last_up : root + q * q < v → root + 1 ≡ rounded_root (w * 2 ^ 52)
+  last_up k = sym (rounded_is (w * 2 ^ 52) (root + 1) (omega (arith, total)) (omega (arith, total, left_lt)))
 
-  pub last-stays : v ≤ root + q * q → root ≡ roundedRoot (w * 2 ^ 52)
-  last-stays k = sym (rounded-is (w * 2 ^ 52) root (omega (arith, total, lead-ge, square_le, mul-le-mul_left q last-le)) (omega (arith, total)))
+  pub last-stays : v ≤ root + q * q → root ≡ rounded_root (w * 2 ^ 52)
+  last-stays k = sym (rounded_is (w * 2 ^ 52) root (omega (arith, total, lead_ge, square_le, mul-le-mul_left q last-le)) (omega (arith, total)))
 
 -- a number below 2 ^ j that has s zeros at its end has s below j
 pub zeros-lt : (t m s j : ℕ) → 0 < t → m ≡ t * 2 ^ s → m < 2 ^ j → s < j

@@ -1,4 +1,4 @@
--- Whole-number roots, and the double that `nearestRoot` names. Assumes nothing.
+-- Whole-number roots, and the double that `nearest_root` names. Assumes nothing.
 use mathlib.Core.Path.{◌≡◌, refl, sym, ap, ap₂, ◌∙◌}
 use Prim.Native.Nat.{ℕ, zero, suc, ◌+◌, ◌-◌, ◌*◌, ◌/◌, ◌^◌, ◌≤◌, ◌<◌, compare, Ordering}
 use native.Mathlib.Nat.{le_refl, le_trans, le_of_eq, le_antisymm, le_of_suc-le-suc, lt_of_lt_of_le, lt_of_le_of_lt, lt_of_not-le, not-le_of_lt, mul-le-mul, mul-le-mul_right, mul-pos, mul-lt-mul_of_pos_right, mul-div_cancel}
@@ -8,65 +8,65 @@ use lib.Dec.{T, leb, leb→le, nleb→lt}
 use lib.Pow.{pow-add, pow_pos, pow_mono}
 use lib.Ieee.{binary64, size, nearest, units}
 use lib.Ieee.Digits.{size-lt, size-le}
-use Rattle.square_root.specs.Sqrt.{step, isqrtOf, isqrt, nearestRoot}
-use Rattle.square_root.specs.Parts.{roundedRoot}
+use Rattle.square_root.specs.Sqrt.{step, isqrt_of, isqrt, nearest_root}
+use Rattle.square_root.specs.Parts.{rounded_root}
 use Rattle.float64.proofs.Spacing.{Cmp, cmp}
 
 -- ---- what `compare` says
 
-pub cmp-is : (o p : Ordering) (a b : ℕ) → Cmp o a b → Cmp p a b → o ≡ p
-cmp-is Ordering.lt Ordering.lt a b h k = refl
-cmp-is Ordering.lt Ordering.eq a b h k = absurd (omega arith)
-cmp-is Ordering.lt Ordering.gt a b h k = absurd (omega arith)
-cmp-is Ordering.eq Ordering.lt a b h k = absurd (omega arith)
-cmp-is Ordering.eq Ordering.eq a b h k = refl
-cmp-is Ordering.eq Ordering.gt a b h k = absurd (omega arith)
-cmp-is Ordering.gt Ordering.lt a b h k = absurd (omega arith)
-cmp-is Ordering.gt Ordering.eq a b h k = absurd (omega arith)
-cmp-is Ordering.gt Ordering.gt a b h k = refl
+pub cmp_is : (o p : Ordering) (a b : ℕ) → Cmp o a b → Cmp p a b → o ≡ p
+cmp_is Ordering.lt Ordering.lt a b h k = refl
+cmp_is Ordering.lt Ordering.eq a b h k = absurd (omega arith)
+cmp_is Ordering.lt Ordering.gt a b h k = absurd (omega arith)
+cmp_is Ordering.eq Ordering.lt a b h k = absurd (omega arith)
+cmp_is Ordering.eq Ordering.eq a b h k = refl
+cmp_is Ordering.eq Ordering.gt a b h k = absurd (omega arith)
+cmp_is Ordering.gt Ordering.lt a b h k = absurd (omega arith)
+cmp_is Ordering.gt Ordering.eq a b h k = absurd (omega arith)
+cmp_is Ordering.gt Ordering.gt a b h k = refl
 
-cmp-scale : (o : Ordering) (a b c : ℕ) → 0 < c → Cmp o a b → Cmp o (a * c) (b * c)
-cmp-scale Ordering.lt a b c C h = mul-lt-mul_of_pos_right h C
-cmp-scale Ordering.eq a b c C h = ap (λ (x : ℕ). x * c) h
-cmp-scale Ordering.gt a b c C h = mul-lt-mul_of_pos_right h C
+cmp_scale : (o : Ordering) (a b c : ℕ) → 0 < c → Cmp o a b → Cmp o (a * c) (b * c)
+cmp_scale Ordering.lt a b c C h = mul-lt-mul_of_pos_right h C
+cmp_scale Ordering.eq a b c C h = ap (λ (x : ℕ). x * c) h
+cmp_scale Ordering.gt a b c C h = mul-lt-mul_of_pos_right h C
 
-compare-scale : (a b c : ℕ) → 0 < c → compare (a * c) (b * c) ≡ compare a b
-compare-scale a b c C = cmp-is (compare (a * c) (b * c)) (compare a b) (a * c) (b * c) (cmp (a * c) (b * c)) (cmp-scale (compare a b) a b c C (cmp a b))
+compare_scale : (a b c : ℕ) → 0 < c → compare (a * c) (b * c) ≡ compare a b
+compare_scale a b c C = cmp_is (compare (a * c) (b * c)) (compare a b) (a * c) (b * c) (cmp (a * c) (b * c)) (cmp_scale (compare a b) a b c C (cmp a b))
 
--- ---- whole-number roots
+-- ---- whole_number roots
 
 -- r is the whole part of n's root
 abbrev pub Root : ℕ → ℕ → Type 0
 Root n r = (r * r ≤ n) × (n < suc r * suc r)
 
-pub sq-back : (a b : ℕ) → a * a < b * b → a < b
-sq-back a b h = lt_of_not-le (λ (g : b ≤ a). not-le_of_lt h (mul-le-mul g g))
+pub sq_back : (a b : ℕ) → a * a < b * b → a < b
+sq_back a b h = lt_of_not-le (λ (g : b ≤ a). not-le_of_lt h (mul-le-mul g g))
 
-step-root : (n r : ℕ) → Root (n / 4) r → Root n (step n (2 * r))
-step-root n r h = go (leb (suc (2 * r) * suc (2 * r)) n) (leb→le (suc (2 * r) * suc (2 * r)) n) (nleb→lt (suc (2 * r) * suc (2 * r)) n)
+step_root : (n r : ℕ) → Root (n / 4) r → Root n (step n (2 * r))
+step_root n r h = go (leb (suc (2 * r) * suc (2 * r)) n) (leb→le (suc (2 * r) * suc (2 * r)) n) (nleb→lt (suc (2 * r) * suc (2 * r)) n)
   where
     go : (b : Bool) → (T b → suc (2 * r) * suc (2 * r) ≤ n) → (T (not b) → n < suc (2 * r) * suc (2 * r)) → Root n (cond b (suc (2 * r)) (2 * r))
     go true p q = (p tt, omega arith)
     go false p q = (omega arith, q tt)
 
-isqrtOf-root : (d n : ℕ) → n < 4 ^ d → Root n (isqrtOf d n)
-unfolding isqrtOf
-isqrtOf-root zero n h = (omega arith, omega arith)
-isqrtOf-root (suc d) n h = step-root n (isqrtOf d (n / 4)) (isqrtOf-root d (n / 4) (omega arith))
+isqrt_of_root : (d n : ℕ) → n < 4 ^ d → Root n (isqrt_of d n)
+unfolding isqrt_of
+isqrt_of_root zero n h = (omega arith, omega arith)
+isqrt_of_root (suc d) n h = step_root n (isqrt_of d (n / 4)) (isqrt_of_root d (n / 4) (omega arith))
 
-two-four : (k : ℕ) → 2 ^ k ≤ 4 ^ k
-two-four zero = le_refl 1
-two-four (suc k) = omega (arith, two-four k)
+two_four : (k : ℕ) → 2 ^ k ≤ 4 ^ k
+two_four zero = le_refl 1
+two_four (suc k) = omega (arith, two_four k)
 
-pub isqrt-root : (n : ℕ) → Root n (isqrt n)
+pub isqrt_root : (n : ℕ) → Root n (isqrt n)
 unfolding isqrt
-isqrt-root n = isqrtOf-root (size n) n (lt_of_lt_of_le (size-lt n) (two-four (size n)))
+isqrt_root n = isqrt_of_root (size n) n (lt_of_lt_of_le (size-lt n) (two_four (size n)))
 
-root-le : (n q r : ℕ) → Root n q → Root n r → q ≤ r
-root-le n q r h k = le_of_suc-le-suc (sq-back q (suc r) (lt_of_le_of_lt h.0 k.1))
+root_le : (n q r : ℕ) → Root n q → Root n r → q ≤ r
+root_le n q r h k = le_of_suc-le-suc (sq_back q (suc r) (lt_of_le_of_lt h.0 k.1))
 
-pub isqrt-is : (n q : ℕ) → Root n q → isqrt n ≡ q
-isqrt-is n q h = le_antisymm (root-le n (isqrt n) q (isqrt-root n) h) (root-le n q (isqrt n) h (isqrt-root n))
+pub isqrt_is : (n q : ℕ) → Root n q → isqrt n ≡ q
+isqrt_is n q h = le_antisymm (root_le n (isqrt n) q (isqrt_root n) h) (root_le n q (isqrt n) h (isqrt_root n))
 
 -- ---- the root of a number with 2 * k zeros after it
 
@@ -86,16 +86,16 @@ module _ (n k q : ℕ) (h : Root n q) (l : 2 ^ 52 ≤ q) (g : q < 2 ^ 53) where
       let full : 104 + (k + k) < size z = lt_of_not-le (λ (y : size z ≤ 104 + (k + k)). not-le_of_lt (size-lt z) (le_trans (pow_mono y) above)) in
       omega arith
 
-  pub nearestRoot-at : nearestRoot (n * (2 ^ k * 2 ^ k)) ≡ units binary64 false (roundedRoot n) k
-  unfolding nearestRoot roundedRoot
+  pub nearestRoot-at : nearest_root (n * (2 ^ k * 2 ^ k)) ≡ units binary64 false (rounded_root n) k
+  unfolding nearest_root rounded_root
   nearestRoot-at =
       rw digits
       (rw cut
-      (rw (isqrt-is n q h)
+      (rw (isqrt_is n q h)
       (ap (λ (o : Ordering). units binary64 false (nearest q o) k) (same_test))))
     where
       same_test : compare (4 * (n * (2 ^ k * 2 ^ k))) ((2 * q + 1) * 2 ^ k * ((2 * q + 1) * 2 ^ k)) ≡ compare (4 * n) ((2 * q + 1) * (2 * q + 1))
       same_test =
           let a : 4 * (n * (2 ^ k * 2 ^ k)) ≡ 4 * n * (2 ^ k * 2 ^ k) = omega arith in
           let b : (2 * q + 1) * 2 ^ k * ((2 * q + 1) * 2 ^ k) ≡ (2 * q + 1) * (2 * q + 1) * (2 ^ k * 2 ^ k) = omega arith in
-          ap₂ compare a b ∙ compare-scale (4 * n) ((2 * q + 1) * (2 * q + 1)) (2 ^ k * 2 ^ k) (mul-pos (pow_pos k) (pow_pos k))
+          ap₂ compare a b ∙ compare_scale (4 * n) ((2 * q + 1) * (2 * q + 1)) (2 ^ k * 2 ^ k) (mul-pos (pow_pos k) (pow_pos k))

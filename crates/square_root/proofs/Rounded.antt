@@ -7,9 +7,9 @@ use native.Mathlib.Omega.{arith}
 use lib.Ieee.{nearest}
 use lib.Ieee.Nearest.{nearest-ge}
 use Rattle.square_root.specs.Sqrt.{isqrt}
-use Rattle.square_root.specs.Parts.{roundedRoot}
+use Rattle.square_root.specs.Parts.{rounded_root}
 use Rattle.float64.proofs.Spacing.{Cmp, cmp}
-use Rattle.square_root.proofs.Root.{cmp-is, Root, sq-back, isqrt-root, isqrt-is}
+use Rattle.square_root.proofs.Root.{cmp_is, Root, sq_back, isqrt_root, isqrt_is}
 
 -- ---- with n = q * q + rest
 
@@ -17,33 +17,33 @@ module _ (n q rest : ℕ) (e : n ≡ q * q + rest) (r : rest ≤ 2 * q) where
   is-root : Root n q
   is-root = (omega arith, omega arith)
 
-  pub rounded-up : q < rest → roundedRoot n ≡ q + 1
-  unfolding roundedRoot
-  rounded-up h = rw (isqrt-is n q is-root) (ap (nearest q) (cmp-is (compare (4 * n) ((2 * q + 1) * (2 * q + 1))) Ordering.gt (4 * n) ((2 * q + 1) * (2 * q + 1)) (cmp (4 * n) ((2 * q + 1) * (2 * q + 1))) (omega arith)) ∙ sym (add-one q))
+  pub rounded-up : q < rest → rounded_root n ≡ q + 1
+  unfolding rounded_root
+  rounded-up h = rw (isqrt_is n q is-root) (ap (nearest q) (cmp_is (compare (4 * n) ((2 * q + 1) * (2 * q + 1))) Ordering.gt (4 * n) ((2 * q + 1) * (2 * q + 1)) (cmp (4 * n) ((2 * q + 1) * (2 * q + 1))) (omega arith)) ∙ sym (add-one q))
 
-  pub rounded-down : rest ≤ q → roundedRoot n ≡ q
-  unfolding roundedRoot
-  rounded-down h = rw (isqrt-is n q is-root) (ap (nearest q) (cmp-is (compare (4 * n) ((2 * q + 1) * (2 * q + 1))) Ordering.lt (4 * n) ((2 * q + 1) * (2 * q + 1)) (cmp (4 * n) ((2 * q + 1) * (2 * q + 1))) (omega arith)))
+  pub rounded-down : rest ≤ q → rounded_root n ≡ q
+  unfolding rounded_root
+  rounded-down h = rw (isqrt_is n q is-root) (ap (nearest q) (cmp_is (compare (4 * n) ((2 * q + 1) * (2 * q + 1))) Ordering.lt (4 * n) ((2 * q + 1) * (2 * q + 1)) (cmp (4 * n) ((2 * q + 1) * (2 * q + 1))) (omega arith)))
 
 -- ---- how large it is
 
 module _ (w : ℕ) (a : 2 ^ 52 ≤ w) (b : w + 2 ≤ 2 ^ 54) where
   pub root_in : (2 ^ 52 ≤ isqrt (w * 2 ^ 52)) × (isqrt (w * 2 ^ 52) < 2 ^ 53)
   root_in =
-      let r = isqrt-root (w * 2 ^ 52) in (
-        le_of_suc-le-suc (sq-back (2 ^ 52) (suc (isqrt (w * 2 ^ 52))) (lt_of_le_of_lt (omega arith) r.1)),
-        sq-back (isqrt (w * 2 ^ 52)) (2 ^ 53) (lt_of_le_of_lt r.0 (omega arith)),
+      let r = isqrt_root (w * 2 ^ 52) in (
+        le_of_suc-le-suc (sq_back (2 ^ 52) (suc (isqrt (w * 2 ^ 52))) (lt_of_le_of_lt (omega arith) r.1)),
+        sq_back (isqrt (w * 2 ^ 52)) (2 ^ 53) (lt_of_le_of_lt r.0 (omega arith)),
       )
 
   near-lt : (q : ℕ) (o : Ordering) → q < 2 ^ 53 → Cmp o (4 * (w * 2 ^ 52)) ((2 * q + 1) * (2 * q + 1)) → nearest q o < 2 ^ 53
   near-lt q Ordering.lt h c = h
-  near-lt q Ordering.eq h c = let s : 2 * q + 1 < 2 ^ 54 - 1 = sq-back (2 * q + 1) (2 ^ 54 - 1) (lt_of_le_of_lt (le_of_eq (sym c)) (omega arith)) in omega arith
-  near-lt q Ordering.gt h c = let s : 2 * q + 1 < 2 ^ 54 - 1 = sq-back (2 * q + 1) (2 ^ 54 - 1) (lt_of_le_of_lt (le_of_lt c) (omega arith)) in omega arith
+  near-lt q Ordering.eq h c = let s : 2 * q + 1 < 2 ^ 54 - 1 = sq_back (2 * q + 1) (2 ^ 54 - 1) (lt_of_le_of_lt (le_of_eq (sym c)) (omega arith)) in omega arith
+  near-lt q Ordering.gt h c = let s : 2 * q + 1 < 2 ^ 54 - 1 = sq_back (2 * q + 1) (2 ^ 54 - 1) (lt_of_le_of_lt (le_of_lt c) (omega arith)) in omega arith
 
-  pub rounded-ge : 2 ^ 52 ≤ roundedRoot (w * 2 ^ 52)
-  unfolding roundedRoot
+  pub rounded-ge : 2 ^ 52 ≤ rounded_root (w * 2 ^ 52)
+  unfolding rounded_root
   rounded-ge = let q = isqrt (w * 2 ^ 52) in le_trans root_in.0 (nearest-ge q (compare (4 * (w * 2 ^ 52)) ((2 * q + 1) * (2 * q + 1))))
 
-  pub rounded-lt : roundedRoot (w * 2 ^ 52) < 2 ^ 53
-  unfolding roundedRoot
+  pub rounded-lt : rounded_root (w * 2 ^ 52) < 2 ^ 53
+  unfolding rounded_root
   rounded-lt = let q = isqrt (w * 2 ^ 52) in near-lt q (compare (4 * (w * 2 ^ 52)) ((2 * q + 1) * (2 * q + 1))) root_in.1 (cmp (4 * (w * 2 ^ 52)) ((2 * q + 1) * (2 * q + 1)))

@@ -6,8 +6,8 @@ use Rattle.std.specs.Float.Ieee.{nearest, of_bits}
 use Rattle.square_root.specs.Sqrt.{isqrt}
 
 -- the whole number nearest to the root of n
-unfoldable pub roundedRoot : ℕ → ℕ
-roundedRoot n = let q = isqrt n in nearest q (compare (4 * n) ((2 * q + 1) * (2 * q + 1)))
+unfoldable pub rounded_root : ℕ → ℕ
+rounded_root n = let q = isqrt n in nearest q (compare (4 * n) ((2 * q + 1) * (2 * q + 1)))
 
 -- r is the bit pattern of the double x, which is finite and has no sign
 pub record Bits (x : Float) (r : ℕ) : Type 0 where

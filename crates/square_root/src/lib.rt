@@ -1,9 +1,11 @@
 // The square root, worked out on the bit pattern and equal to its definition for every double.
+#![tactic(auto)]
+
 ghost use Rattle.std.specs.Prelude.{◌≡◌, ◌+◌, ◌*◌, ◌^◌, ◌<◌, ◌≤◌};
 ghost use Rattle.std.specs.Float.{binary64};
 ghost use Rattle.std.specs.Float.Ieee.{of_bits};
-ghost use Rattle.square_root.specs.Sqrt.{sqrtOf, nearestRoot, isqrt};
-ghost use Rattle.square_root.specs.Parts.{roundedRoot, Bits, Lifted, Scaled};
+ghost use Rattle.square_root.specs.Sqrt.{sqrt_of, nearest_root, isqrt};
+ghost use Rattle.square_root.specs.Parts.{rounded_root, Bits, Lifted, Scaled};
 
 // How many places the digits t of a subnormal go up until they are 53. s counts them and never passes 64: proofs/Counter.antt.
 fn places(t: u64) -> u64
@@ -50,7 +52,7 @@ fn whole_root(h: u64) -> u64
 fn rooted(w: u64) -> u64
     requires bound { 2 ^ 52 ≤ w }
     requires w_bound { w + 2 ≤ 2 ^ 54 }
-    ensures { result ≡ roundedRoot (w * 2 ^ 52) }
+    ensures { result ≡ rounded_root (w * 2 ^ 52) }
 {
     let s = whole_root(w);
     let t = (w - s * s) * 0x400_0000;
@@ -63,7 +65,7 @@ fn rooted(w: u64) -> u64
 // The bits of the double nearest to the root of m * 2 ^ e.
 fn root_bits(m: u64, e: u64) -> u64
     requires { Scaled m e }
-    ensures { Bits (nearestRoot (m * 2 ^ e)) result }
+    ensures { Bits (nearest_root (m * 2 ^ e)) result }
 {
     if e % 2 == 0 {
         (e / 2 - 26) * 0x10_0000_0000_0000 + rooted(m)
@@ -76,7 +78,7 @@ fn root_bits(m: u64, e: u64) -> u64
 fn positive_bits(b: u64) -> u64
     requires b_nonzero { 0 < b }
     requires b_bound { b < 2047 * 2 ^ 52 }
-    ensures { Bits (sqrtOf (of_bits binary64 b)) result }
+    ensures { Bits (sqrt_of (of_bits binary64 b)) result }
 {
     let t = b % 0x10_0000_0000_0000;
     let x = b / 0x10_0000_0000_0000;
@@ -89,7 +91,7 @@ fn positive_bits(b: u64) -> u64
 }
 
 pub fn sqrt(x: f64) -> f64
-    ensures { result ≡ sqrtOf x }
+    ensures { result ≡ sqrt_of x }
 {
     if x != x {
         return x;

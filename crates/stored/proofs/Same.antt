@@ -11,24 +11,24 @@ use borrow.Author.Tests.{lt-ltb, le-ltb}
 use Rattle.vectors.specs.Vec.{list, put}
 use Rattle.vectors.specs.Parts.{Written}
 use Rattle.vectors.proofs.Laws.{length-list, at-list, written-put}
-use Rattle.stored.specs.Words.{word_at, countAt, doublesAt, sameTo}
+use Rattle.stored.specs.Words.{word_at, count_at, doubles_at, same_to}
 
-pub count_low : (s : List ℕ) (i most : ℕ) {w : ℕ} → w ≡ word_at s i → w < most → w ≡ countAt s i most
-unfolding countAt
+pub count_low : (s : List ℕ) (i most : ℕ) {w : ℕ} → w ≡ word_at s i → w < most → w ≡ count_at s i most
+unfolding count_at
 count_low s i most e h = simp (sym e, lt-ltb _ _ h)
 
-pub count-high : (s : List ℕ) (i most : ℕ) {w : ℕ} → w ≡ word_at s i → most ≤ w → most ≡ countAt s i most
-unfolding countAt
-count-high s i most e h = simp (sym e, le-ltb _ _ h)
+pub count_high : (s : List ℕ) (i most : ℕ) {w : ℕ} → w ≡ word_at s i → most ≤ w → most ≡ count_at s i most
+unfolding count_at
+count_high s i most e h = simp (sym e, le-ltb _ _ h)
 
 -- the doubles stored from word a on
-abbrev pub doubleFrom : List ℕ → ℕ → ℕ → Float
-doubleFrom s a i = of_bits binary64 (word_at s (a + i))
+abbrev pub double_from : List ℕ → ℕ → ℕ → Float
+double_from s a i = of_bits binary64 (word_at s (a + i))
 
-pub loaded : (s : List ℕ) (a n : ℕ) {v₀ v : List Float} → Written 0 n (doubleFrom s a) v₀ v → n ≤ length v₀ → v ≡ put v₀ 0 (doublesAt s a n)
-unfolding doublesAt
-loaded s a n w h = written-put (list n (doubleFrom s a)) w (length-list n (doubleFrom s a)) h (λ i l. sym (at-list n (doubleFrom s a) i l))
+pub loaded : (s : List ℕ) (a n : ℕ) {v₀ v : List Float} → Written 0 n (double_from s a) v₀ v → n ≤ length v₀ → v ≡ put v₀ 0 (doubles_at s a n)
+unfolding doubles_at
+loaded s a n w h = written-put (list n (double_from s a)) w (length-list n (double_from s a)) h (λ i l. sym (at-list n (double_from s a) i l))
 
-pub same_more : (f : ℕ → ℕ) (s : List ℕ) (a n : ℕ) {all r : Bool} {x w : ℕ} → all ≡ sameTo f s a n → r ≡ all && eqb x w → x ≡ f n → w ≡ word_at s (a + n) → r ≡ sameTo f s a (n + 1)
-unfolding sameTo
+pub same_more : (f : ℕ → ℕ) (s : List ℕ) (a n : ℕ) {all r : Bool} {x w : ℕ} → all ≡ same_to f s a n → r ≡ all && eqb x w → x ≡ f n → w ≡ word_at s (a + n) → r ≡ same_to f s a (n + 1)
+unfolding same_to
 same_more f s a n e r x w = rw (add-one n, r, e, x, w)

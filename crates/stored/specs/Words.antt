@@ -11,43 +11,43 @@ unfoldable pub word_at : List ℕ → ℕ → ℕ
 word_at s i = cond (ltb i 16384) (number_at (8 * i) 8 s) 0
 
 -- word i as a count, at most `most`
-unfoldable pub countAt : List ℕ → ℕ → ℕ → ℕ
-countAt s i most = cond (ltb (word_at s i) most) (word_at s i) most
+unfoldable pub count_at : List ℕ → ℕ → ℕ → ℕ
+count_at s i most = cond (ltb (word_at s i) most) (word_at s i) most
 
 -- the n doubles stored from word a on
-unfoldable pub doublesAt : List ℕ → ℕ → ℕ → List Float
-doublesAt s a n = list n (λ i. of_bits binary64 (word_at s (a + i)))
+unfoldable pub doubles_at : List ℕ → ℕ → ℕ → List Float
+doubles_at s a n = list n (λ i. of_bits binary64 (word_at s (a + i)))
 
 -- whether f 0, .. , f (n - 1) are the words from a on
-unfoldable pub sameTo : (ℕ → ℕ) → List ℕ → ℕ → ℕ → Bool
-sameTo f s a zero = true
-sameTo f s a (suc n) = sameTo f s a n && eqb (f n) (word_at s (a + n))
+unfoldable pub same_to : (ℕ → ℕ) → List ℕ → ℕ → ℕ → Bool
+same_to f s a zero = true
+same_to f s a (suc n) = same_to f s a n && eqb (f n) (word_at s (a + n))
 
 -- whether doubles, by their bits, are the words from a on; and whole numbers
-abbrev pub sameDoubles : List Float → List ℕ → ℕ → Bool
-sameDoubles x s a = sameTo (λ i. to_bits binary64 (at x i)) s a (length x)
+abbrev pub same_doubles : List Float → List ℕ → ℕ → Bool
+same_doubles x s a = same_to (λ i. to_bits binary64 (at x i)) s a (length x)
 
 abbrev pub same_numbers : List ℕ → List ℕ → ℕ → Bool
-same_numbers x s a = sameTo (λ i. get_or x i 0) s a (length x)
+same_numbers x s a = same_to (λ i. get_or x i 0) s a (length x)
 
 -- whether the places of a fit are the words from a on: its trend, its cycle, its knots, its dual point
-unfoldable pub samePlaces : List Float → List Float → List ℕ → List Float → List ℕ → ℕ → Bool
-samePlaces t c k d s a = sameDoubles t s a && (sameDoubles c s (a + length t) && (same_numbers k s (a + 2 * length t) && sameDoubles d s (a + 2 * length t + length k)))
+unfoldable pub same_places : List Float → List Float → List ℕ → List Float → List ℕ → ℕ → Bool
+same_places t c k d s a = same_doubles t s a && (same_doubles c s (a + length t) && (same_numbers k s (a + 2 * length t) && same_doubles d s (a + 2 * length t + length k)))
 
 -- the word past the answer that is stored from word a on, of a series of n with m differences: a refusal is its number; a fit is 0, its 10 numbers, trend, cycle, knots and dual point
 unfoldable pub past_at : List ℕ → ℕ → ℕ → ℕ → ℕ
-past_at s a n m = cond (eqb (word_at s a) 0) (a + 11 + 2 * n + countAt s (a + 6) 168 + m) (a + 1)
+past_at s a n m = cond (eqb (word_at s a) 0) (a + 11 + 2 * n + count_at s (a + 6) 168 + m) (a + 1)
 
 -- the lengths of the case that starts at word a, cut where the buffers of a week end
 unfoldable pub lent_at : List ℕ → ℕ → Lengths
-lent_at s a = record { n = countAt s (a + 3) 168; trend = countAt s (a + 4) 168; cycle = countAt s (a + 5) 168; knots = countAt s (a + 6) 168; dual = countAt s (a + 7) 168; work = countAt s (a + 8) 6720; marks = countAt s (a + 9) 336 }
+lent_at s a = record { n = count_at s (a + 3) 168; trend = count_at s (a + 4) 168; cycle = count_at s (a + 5) 168; knots = count_at s (a + 6) 168; dual = count_at s (a + 7) 168; work = count_at s (a + 8) 6720; marks = count_at s (a + 9) 336 }
 
 -- lengths that those buffers have
 pub record Within (l : Lengths) : Type 0 where
-  pub n-in : l.n ≤ 168
-  pub trend-in : l.trend ≤ 168
-  pub cycle-in : l.cycle ≤ 168
-  pub knots-in : l.knots ≤ 168
-  pub dual-in : l.dual ≤ 168
+  pub n_in : l.n ≤ 168
+  pub trend_in : l.trend ≤ 168
+  pub cycle_in : l.cycle ≤ 168
+  pub knots_in : l.knots ≤ 168
+  pub dual_in : l.dual ≤ 168
   pub work_in : l.work ≤ 6720
-  pub marks-in : l.marks ≤ 336
+  pub marks_in : l.marks ≤ 336

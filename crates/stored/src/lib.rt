@@ -1,7 +1,9 @@
 // Stored answers: words of 8 bytes, the lowest first, and whether numbers are the ones stored from a word on.
+#![tactic(auto)]
+
 ghost use Rattle.std.specs.Prelude.{◌≡◌, ◌&&◌, ◌+◌, ◌≤◌, ◌<◌, length};
 ghost use Rattle.vectors.specs.Vec.{put};
-ghost use Rattle.stored.specs.Words.{word_at, countAt, doublesAt, sameDoubles, same_numbers, samePlaces, past_at, lent_at, Within};
+ghost use Rattle.stored.specs.Words.{word_at, count_at, doubles_at, same_doubles, same_numbers, same_places, past_at, lent_at, Within};
 
 // Word i; 0 beyond the end.
 pub fn word(s: &[u8; 131072], i: usize) -> u64
@@ -16,7 +18,7 @@ pub fn word(s: &[u8; 131072], i: usize) -> u64
 
 // Word i as a count, at most `most`.
 pub fn count_at(s: &[u8; 131072], i: usize, most: usize) -> usize
-    ensures { (result ≡ countAt s.now i most) × (result ≤ most) }
+    ensures { (result ≡ count_at s.now i most) × (result ≤ most) }
 {
     let w = word(s, i);
     if w < most as u64 { w as usize } else { most }
@@ -25,7 +27,7 @@ pub fn count_at(s: &[u8; 131072], i: usize, most: usize) -> usize
 // The first n places of y become the doubles stored from word a on.
 pub fn load(y: &mut [f64], s: &[u8; 131072], a: usize, n: usize)
     requires { (n ≤ length y.old) × (a + n ≤ 65536) }
-    ensures { y.new ≡ put y.old 0 (doublesAt s.now a n) }
+    ensures { y.new ≡ put y.old 0 (doubles_at s.now a n) }
 {
     let mut i = 0;
     while i < n {
@@ -44,7 +46,7 @@ pub fn both(a: bool, b: bool) -> bool
 // Whether doubles are, by their bits, the words from a on; then whole numbers.
 pub fn same_doubles(x: &[f64], s: &[u8; 131072], a: usize) -> bool
     requires { a + length x.now ≤ 65536 }
-    ensures { result ≡ sameDoubles x.now s.now a }
+    ensures { result ≡ same_doubles x.now s.now a }
 {
     let mut all = true;
     let mut i = 0;
@@ -98,7 +100,7 @@ pub fn same_places(
 ) -> bool
     requires trend_len_bound { (length trend.now ≤ 168) × (length cycle.now ≤ 168) × (length knots.now ≤ 168) × (length dual.now ≤ 168) }
     requires a_bound { a < 32768 }
-    ensures { result ≡ samePlaces trend.now cycle.now knots.now dual.now s.now a }
+    ensures { result ≡ same_places trend.now cycle.now knots.now dual.now s.now a }
 {
     let n = trend.len();
     let t = same_doubles(trend, s, a);
@@ -121,7 +123,7 @@ pub fn past(s: &[u8; 131072], a: usize, n: usize, m: usize) -> usize
 }
 
 // The lengths of a series and of what is lent with it, cut where the buffers of a week end.
-#[derive(Drop)]
+#[derive(Clone, Copy)]
 pub struct Lengths {
     pub n: usize,
     pub trend: usize,

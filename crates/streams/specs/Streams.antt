@@ -23,16 +23,16 @@ failed End = false
 failed Failed = true
 
 -- how many bytes came with it
-abbrev pub bytesOf : Got → ℕ
-bytesOf (Bytes k) = k
-bytesOf End = 0
-bytesOf Failed = 0
+abbrev pub bytes_of : Got → ℕ
+bytes_of (Bytes k) = k
+bytes_of End = 0
+bytes_of Failed = 0
 
 -- whether there may be more
-abbrev pub goesOn : Got → Bool
-goesOn (Bytes k) = true
-goesOn End = false
-goesOn Failed = false
+abbrev pub goes_on : Got → Bool
+goes_on (Bytes k) = true
+goes_on End = false
+goes_on Failed = false
 
 -- the input, of which n bytes were read when a call answered so: whole at its end or where there was no more room, else broken
 abbrev pub input_of : ℕ → Got → Input

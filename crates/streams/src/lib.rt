@@ -1,7 +1,9 @@
 // Reading an input whole and writing an output whole, over the C library's read and write. A call that fails is told apart from the
 // end of the input, and is first tried again.
+#![tactic(auto)]
+
 ghost use Rattle.std.specs.Prelude.{◌≡◌, ◌≤◌, length};
-ghost use Rattle.streams.specs.Streams.{came, answered, failed, bytesOf, goesOn, input_of, Within, Held};
+ghost use Rattle.streams.specs.Streams.{came, answered, failed, bytes_of, goes_on, input_of, Within, Held};
 
 // How often a call that fails is tried again.
 const TRIES: u32 = 200;
@@ -20,7 +22,7 @@ fn pause() {
 }
 
 // What a call answered: how many bytes it moved, at least one, that the input is at its end, or that it failed.
-#[derive(Drop)]
+#[derive(Clone, Copy)]
 pub enum Got {
     Bytes(usize),
     End,
@@ -28,7 +30,7 @@ pub enum Got {
 }
 
 // An input: how many bytes it has, or that it could not be read to its end.
-#[derive(Drop)]
+#[derive(Clone, Copy)]
 pub enum Input {
     Whole(usize),
     Broken,
@@ -85,7 +87,7 @@ fn read_some(fd: i32, buf: &mut [u8]) -> Got
 
 // How many bytes came.
 fn bytes_of(g: Got) -> usize
-    ensures { result ≡ bytesOf g }
+    ensures { result ≡ bytes_of g }
 {
     match g {
         Got::Bytes(n) => n,
@@ -96,7 +98,7 @@ fn bytes_of(g: Got) -> usize
 
 // Whether there may be more.
 fn goes_on(g: Got) -> bool
-    ensures { result ≡ goesOn g }
+    ensures { result ≡ goes_on g }
 {
     match g {
         Got::Bytes(_) => true,

@@ -16,22 +16,22 @@ use Rattle.vectors.specs.Vec.{at}
 use Rattle.vectors.specs.Parts.{Kept, part}
 use Rattle.vectors.proofs.Laws.{length-list, at-list, kept-none, kept_then}
 use Rattle.vectors.proofs.Parts.{length_part, part-below, put_back, mid-put, length-put, kept_put, part-put, part-size}
-use Rattle.banded.specs.Rows.{ofRows, rows}
-use Rattle.banded.specs.Solve.{backAt, forward, divided, back, solve}
-use Rattle.banded.specs.Run.{ofRun, Holds, Stands}
-use Rattle.banded.proofs.Laws.{above, lessFrom-ext, holds_of, shape-rows, keeps-part, side-part, part-stands, stands-part}
+use Rattle.banded.specs.Rows.{of_rows, rows}
+use Rattle.banded.specs.Solve.{back_at, forward, divided, back, solve}
+use Rattle.banded.specs.Run.{of_run, Holds, Stands}
+use Rattle.banded.proofs.Laws.{above, less_from_ext, holds_of, shape_rows, keeps-part, side-part, part_stands, stands_part}
 use Rattle.banded.proofs.Forward.{length-forward}
 use Rattle.elimination.specs.Decomposed.{Decomposed}
 use Rattle.substitution.specs.Solved.{Backed, Carried, Substituted, Solved}
 
-pub rows-kept : {k m b n : ℕ} {f : List (List Float)} {s₀ s : List Float} → Holds k m f s₀ → Kept b n s₀ s → m * (k + 1) ≤ b → Holds k m f s
-rows-kept {k} {m} {b} {n} {f} {s₀} {s} h w e =
+pub rows_kept : {k m b n : ℕ} {f : List (List Float)} {s₀ s : List Float} → Holds k m f s₀ → Kept b n s₀ s → m * (k + 1) ≤ b → Holds k m f s
+rows_kept {k} {m} {b} {n} {f} {s₀} {s} h w e =
     record { shape = h.shape; same = λ i j u g. w.below (i * (k + 1) + j) (omega (arith, above k m i j u g)) ∙ h.same i j u g }
 
 -- one more element in front
-stands-cons : (b : ℕ) {c : ℕ} (s : List Float) {x y : Float} (u : List Float) → Stands c u s → c ≡ b + 1 → b < length s → x ≡ y → Stands b (y ∷ u) (set s b x)
-stands-cons b {c} s {x} {y} u h e fits q zero z = rw add-zero (get_or-set_same s b x nan fits ∙ q)
-stands-cons b {c} s {x} {y} u h e fits q (suc j) z =
+stands_cons : (b : ℕ) {c : ℕ} (s : List Float) {x y : Float} (u : List Float) → Stands c u s → c ≡ b + 1 → b < length s → x ≡ y → Stands b (y ∷ u) (set s b x)
+stands_cons b {c} s {x} {y} u h e fits q zero z = rw add-zero (get_or-set_same s b x nan fits ∙ q)
+stands_cons b {c} s {x} {y} u h e fits q (suc j) z =
     let f : b + suc j ≡ c + j = omega arith in
     rw f (get_or-set_other s b (c + j) x nan (ne_of_gt (omega arith)) ∙ h j (omega arith))
 
@@ -41,7 +41,7 @@ pub length-divided : (k : ℕ) (f : List (List Float)) (u : List Float) → leng
 unfolding divided
 length-divided k f u = length-list (length u) _
 
-pub at-divided : (k : ℕ) (f : List (List Float)) (u : List Float) (i : ℕ) → i < length u → at (divided k f u) i ≡ at u i ⊘ ofRows k f i i
+pub at-divided : (k : ℕ) (f : List (List Float)) (u : List Float) (i : ℕ) → i < length u → at (divided k f u) i ≡ at u i ⊘ of_rows k f i i
 unfolding divided
 at-divided k f u i h = at-list (length u) _ i h
 
@@ -52,12 +52,12 @@ length_back k f w (suc n) = ap suc (length_back k f w n)
 
 -- ---- one place more, at q
 
-pub backed-none : (k m : ℕ) (s : List Float) → Backed k m 0 s s
+pub backed_none : (k m : ℕ) (s : List Float) → Backed k m 0 s s
 unfolding back
-backed-none k m s = record { kept = kept-none (m * (k + 1) + (m - 0)) 0 s; made = λ f u h l st j b. absurd (omega arith) }
+backed_none k m s = record { kept = kept-none (m * (k + 1) + (m - 0)) 0 s; made = λ f u h l st j b. absurd (omega arith) }
 
 module _ {k m t : ℕ} {s₀ s : List Float} {x : Float} (i q : ℕ) (w : Backed k m t s₀ s) (c : t < m) (is : i ≡ m - (t + 1)) (at-q : q ≡ m * (k + 1) + i) (room : m * (k + 1) + m ≤ length s)
-    (x-is : x ≡ backAt k (ofRun k s) (λ r. at s (m * (k + 1) + r)) (at s (m * (k + 1) + i) ⊘ ofRun k s i i) i m) where
+    (x-is : x ≡ back_at k (of_run k s) (λ r. at s (m * (k + 1) + r)) (at s (m * (k + 1) + i) ⊘ of_run k s i i) i m) where
   kept_more : Kept q (t + 1) s₀ (set s q x)
   kept_more =
       let v = w.kept in
@@ -68,7 +68,7 @@ module _ {k m t : ℕ} {s₀ s : List Float} {x : Float} (i q : ℕ) (w : Backed
       }
 
   made_more : (f : List (List Float)) (u : List Float) → Holds k m f s₀ → length u ≡ m → Stands (m * (k + 1)) u s₀ → Stands q (back k f (divided k f u) (suc t)) (set s q x)
-  unfolding back backAt
+  unfolding back back_at
   made_more f u h l st =
       let v = w.kept in
       let b = m * (k + 1) in
@@ -76,11 +76,11 @@ module _ {k m t : ℕ} {s₀ s : List Float} {x : Float} (i q : ℕ) (w : Backed
       let ly : length y ≡ m = length-divided k f u ∙ l in
       let j : length y - (t + 1) ≡ i = omega arith in
       let e : b + (m - t) ≡ q + 1 = omega arith in
-      let hs = rows-kept h v (omega arith) in
-      let old : at s (b + i) ⊘ ofRun k s i i ≡ at y i = rw (v.below (b + i) (omega arith), st i (omega arith), hs.same i (i + k - i) (omega arith) (omega arith), at-divided k f u i (omega arith)) in
-      stands-cons q s (back k f y t) (w.made f u h l st) e (omega arith)
+      let hs = rows_kept h v (omega arith) in
+      let old : at s (b + i) ⊘ of_run k s i i ≡ at y i = rw (v.below (b + i) (omega arith), st i (omega arith), hs.same i (i + k - i) (omega arith) (omega arith), at-divided k f u i (omega arith)) in
+      stands_cons q s (back k f y t) (w.made f u h l st) e (omega arith)
       (x-is ∙ rw (j, ly, old)
-      (lessFrom-ext (at y i) _ _ (i + 1) (min (i + k + 1) m)
+      (less_from_ext (at y i) _ _ (i + 1) (min (i + k + 1) m)
       (λ r lo hi.
       let d : r < m = omega (arith, min-le_right (i + k + 1) m) in
       let g : b + r ≡ b + (m - t) + (r - (i + 1)) = omega arith in
@@ -96,39 +96,39 @@ module _ {k m t : ℕ} {s₀ s : List Float} {x : Float} (i q : ℕ) (w : Backed
 pub carried_none : (k m t : ℕ) (s : List Float) → Carried k m t t s s
 carried_none k m t s = record { size = refl; done = λ v h. h }
 
-pub carried-more : {k m from t t' : ℕ} {s₀ s : List Float} {x : Float} (i q : ℕ) → Carried k m from t s₀ s → t < m → i ≡ m - (t + 1) → q ≡ m * (k + 1) + i → m * (k + 1) + m ≤ length s
-    → x ≡ backAt k (ofRun k s) (λ r. at s (m * (k + 1) + r)) (at s (m * (k + 1) + i) ⊘ ofRun k s i i) i m → t' ≡ t + 1 → Carried k m from t' s₀ (set s q x)
-carried-more {s = s} {x = x} i q w c is at-q room x-is z = record { size = length-set s q x ∙ w.size; done = λ v h. backed-more i q (w.done v h) c is at-q room x-is z }
+pub carried_more : {k m from t t' : ℕ} {s₀ s : List Float} {x : Float} (i q : ℕ) → Carried k m from t s₀ s → t < m → i ≡ m - (t + 1) → q ≡ m * (k + 1) + i → m * (k + 1) + m ≤ length s
+    → x ≡ back_at k (of_run k s) (λ r. at s (m * (k + 1) + r)) (at s (m * (k + 1) + i) ⊘ of_run k s i i) i m → t' ≡ t + 1 → Carried k m from t' s₀ (set s q x)
+carried_more {s = s} {x = x} i q w c is at-q room x-is z = record { size = length-set s q x ∙ w.size; done = λ v h. backed-more i q (w.done v h) c is at-q room x-is z }
 
-pub carried-then : {k m a b c : ℕ} {s₀ s s' : List Float} → Carried k m a b s₀ s → Carried k m b c s s' → Carried k m a c s₀ s'
-carried-then v w = record { size = w.size ∙ v.size; done = λ u h. w.done u (v.done u h) }
+pub carried_then : {k m a b c : ℕ} {s₀ s s' : List Float} → Carried k m a b s₀ s → Carried k m b c s s' → Carried k m a c s₀ s'
+carried_then v w = record { size = w.size ∙ v.size; done = λ u h. w.done u (v.done u h) }
 
 pub substituted : {k m : ℕ} {s₀ s : List Float} → Carried k m 0 m s₀ s → Substituted k m s₀ s
 substituted {k} {m} {s₀} {s} w =
     let n = m * (k + 1) in
     let z : n + (m - m) ≡ n = omega arith in
     let u = part n m s₀ in
-    let b = w.done s₀ (backed-none k m s₀) in
+    let b = w.done s₀ (backed_none k m s₀) in
     record {
       kept = rw z at b.kept;
-      made = λ f sh e. stands-part n m (back k f (divided k f u) m) s (length_back k f (divided k f u) m)
-          (rw z at (b.made f u (holds_of k m f s₀ sh e) (length_part n m s₀) (part-stands n m s₀)));
+      made = λ f sh e. stands_part n m (back k f (divided k f u) m) s (length_back k f (divided k f u) m)
+          (rw z at (b.made f u (holds_of k m f s₀ sh e) (length_part n m s₀) (part_stands n m s₀)));
     }
 
-pub solve-is : (k m : ℕ) (f : List (List Float)) (b : List Float) → length b ≡ m → solve k f b ≡ back k f (divided k f (forward k f b m)) m
+pub solve_is : (k m : ℕ) (f : List (List Float)) (b : List Float) → length b ≡ m → solve k f b ≡ back k f (divided k f (forward k f b m)) m
 unfolding solve
-solve-is k m f b l = rw (l, length-divided k f (forward k f b m), length-forward k f b m)
+solve_is k m f b l = rw (l, length-divided k f (forward k f b m), length-forward k f b m)
 
 -- where the last min k m places are not all, there are more than k, and those are k
-pub more-than : {k m n : ℕ} → n ≡ min k m → (n ≡ m → ⊥) → k < m
-more-than {k} {m} {n} e h =
+pub more_than : {k m n : ℕ} → n ≡ min k m → (n ≡ m → ⊥) → k < m
+more_than {k} {m} {n} e h =
     ⊎_elim
     (λ (z : m - k ≡ 0). absurd (h (e ∙ min-eq_right {n = m} {m = k} (omega arith))))
     (λ (z : 0 < m - k). omega arith)
     (eq-zero-or-pos (m - k))
 
-pub last-k : {k m n : ℕ} → n ≡ min k m → (n ≡ m → ⊥) → n ≡ k
-last-k {k} {m} {n} e h = let l = more-than e h in e ∙ min-eq_left {n = k} {m = m} (omega arith)
+pub last_k : {k m n : ℕ} → n ≡ min k m → (n ≡ m → ⊥) → n ≡ k
+last_k {k} {m} {n} e h = let l = more_than e h in e ∙ min-eq_left {n = k} {m = m} (omega arith)
 
 -- ---- a system that stands from place p of a longer run on: what the calls on its places leave
 
@@ -162,7 +162,7 @@ module _ (p : ℕ) (s : List Float) {k m : ℕ} {x : List Float} {ok : Bool} (ro
             let f = rows k a m in
             let b = part (p + n) m s in
             part-put p (n + m) s₁ x' room₁ places' nan n m (omega arith)
-            ∙ v.made f (shape-rows k a m) (d.factor a (keeps-part k p m s room g) good)
+            ∙ v.made f (shape_rows k a m) (d.factor a (keeps-part k p m s room g) good)
             ∙ ap (λ (u : List Float). back k f (divided k f u) m) (d.side a (keeps-part k p m s room g) good ∙ ap (λ (u : List Float). forward k f u m) (side-part k p m s room))
-            ∙ sym (solve-is k m f b (length_part (p + n) m s));
+            ∙ sym (solve_is k m f b (length_part (p + n) m s));
       }

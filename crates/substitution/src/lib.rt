@@ -1,16 +1,18 @@
 // The solution of a banded system from its factor and the right side carried forward: division by the pivots, and back. Then both in one call.
+#![tactic(auto)]
+
 ghost use Rattle.std.specs.Prelude.{◌≡◌, ◌≤◌, ◌+◌, ◌*◌, min, length};
 ghost use Rattle.float64.specs.Ops.{◌⊘◌};
 ghost use Rattle.vectors.specs.Vec.{at};
-ghost use Rattle.banded.specs.Solve.{backAt};
-ghost use Rattle.banded.specs.Run.{ofRun, HasRow};
+ghost use Rattle.banded.specs.Solve.{back_at};
+ghost use Rattle.banded.specs.Run.{of_run, HasRow};
 ghost use Rattle.substitution.specs.Solved.{Fits, Stretch, Carried, Substituted, Solved};
 
 // Place i of the solution, from the places after it.
 fn back_at(s: &[f64], k: usize, m: usize, i: usize) -> f64
     requires { HasRow k m i (length s.now) }
-    ensures { result ≡ backAt k (ofRun k s.now) (λ r. at s.now (m * (k + 1) + r))
-        (at s.now (m * (k + 1) + i) ⊘ ofRun k s.now i i) i m }
+    ensures { result ≡ back_at k (of_run k s.now) (λ r. at s.now (m * (k + 1) + r))
+        (at s.now (m * (k + 1) + i) ⊘ of_run k s.now i i) i m }
 {
     let b = m * (k + 1);
     let d = banded::get(s, k + 1, i, k);

@@ -9,15 +9,15 @@ use borrow.Author.Tests.{ltb-true, eqb-false}
 use lib.Ieee.{Float}
 use Rattle.float64.proofs.Clash.{clash}
 use Rattle.vectors.proofs.Laws.{kept-none, kept_then}
-use Rattle.questions.specs.Questions.{Asked, Lent, needsFor, question}
+use Rattle.questions.specs.Questions.{Asked, Lent, needs_for, question}
 use Rattle.questions.proofs.Laws.{passed}
 use Rattle.fit.specs.Outputs.{Outputs}
-use Rattle.fit.specs.Fit.{Found, Outcome, refused, fitted, lamMaxOf, path, written, outcome, fit, after}
-use Rattle.fit.specs.Ways.{soundDD}
+use Rattle.fit.specs.Fit.{Found, Outcome, refused, fitted, lam_max_of, path, written, outcome, fit, after}
+use Rattle.fit.specs.Ways.{sound_dd}
 use Rattle.fit.proofs.Lengths.{lengths}
 use Rattle.fit.proofs.Demand3.{bounds}
-use Rattle.fit.proofs.Passed.{fit_passed, refused-by}
-use Rattle.closed_paths.proofs.Areas.{kept-wide, work-fits}
+use Rattle.fit.proofs.Passed.{fit_passed, refused_by}
+use Rattle.closed_paths.proofs.Areas.{kept_wide, work_fits}
 use Rattle.prepared_fit.specs.declared.Written.{Written}
 use Rattle.prepared_fit.specs.Begun.{Stops, Readies, Begins}
 use Rattle.prepared_fit.specs.Fitted.{AsksFit, tallied, Fitted}
@@ -25,8 +25,8 @@ use Rattle.trend_filter.specs.declared.Answer.{Answer}
 use Rattle.trend_filter.specs.declared.Answer.TheVariants.{Refused}
 use Rattle.prepared_fit.specs.declared.Begun.{Begun}
 use Rattle.prepared_fit.specs.declared.Begun.TheVariants.{Stopped, Ready}
-use Rattle.trend_filter.specs.Answers.{Buffers, lent, summaryOf, answer_of, early, Gives, Answered}
-use Rattle.trend_filter.specs.Inner.{toldOf}
+use Rattle.trend_filter.specs.Answers.{Buffers, lent, summary_of, answer_of, early, Gives, Answered}
+use Rattle.trend_filter.specs.Inner.{told_of}
 
 -- ---- past the questions
 
@@ -35,11 +35,11 @@ unfolding early
 not-early a l e = go (fit a l) refl
   where
     go : (o : Outcome) → fit a l ≡ o → early o ≡ true → ⊥
-    go (refused q) p t = let w = refused-by a l q (ltb-true q 10 t) p in eqb-false q 0 w.1 (sym w.0 ∙ e)
+    go (refused q) p t = let w = refused_by a l q (ltb-true q 10 t) p in eqb-false q 0 w.1 (sym w.0 ∙ e)
     go (fitted f) p t = clash t refl
 
 -- the preparation
-sound-fit : (a : Asked) (l : Lent) → question a l ≡ 0 → soundDD a ≡ true → fit a l ≡ outcome a (path a)
+sound-fit : (a : Asked) (l : Lent) → question a l ≡ 0 → sound_dd a ≡ true → fit a l ≡ outcome a (path a)
 sound-fit a l e s = fit_passed a l e ∙ ap (λ (b : Bool). cond b (outcome a (path a)) (refused 10)) s
 
 -- which way a call began
@@ -53,10 +53,10 @@ readies {a} {l} {w₀} {w} e h = subst (Begins a l w₀ w) e h
 
 -- ---- the answer
 
-same-told : (a : Asked) (o : Option Found) → toldOf (lamMaxOf a) (tallied a o) ≡ answer_of (outcome a o)
-unfolding toldOf tallied answer_of outcome summaryOf written
-same-told a none = refl
-same-told a (some f) = refl
+same_told : (a : Asked) (o : Option Found) → told_of (lam_max_of a) (tallied a o) ≡ answer_of (outcome a o)
+unfolding told_of tallied answer_of outcome summary_of written
+same_told a none = refl
+same_told a (some f) = refl
 
 module _ (a : Asked) (b : Buffers) (w : List Float) where
   -- a refusal: trend, cycle, knots and dual are as found
@@ -65,7 +65,7 @@ module _ (a : Asked) (b : Buffers) (w : List Float) where
   answered-refused q s = record {
     gives = subst (λ (o : Outcome). Gives o (Refused q) b.out b.out) (sym s.refuses) (record { answer = refl; out = refl });
     unused = λ e. (s.unused (sym (ap early s.refuses) ∙ e), refl);
-    scratch = record { work = kept-wide 0 (needsFor a).work s.kept (omega arith) (omega (arith, work-fits a)); marks = kept-none 0 (needsFor a).marks b.marks };
+    scratch = record { work = kept_wide 0 (needs_for a).work s.kept (omega arith) (omega (arith, work_fits a)); marks = kept-none 0 (needs_for a).marks b.marks };
     sizes = lengths a (lent b);
     bounds = bounds a (lent b);
   }
@@ -79,23 +79,23 @@ module _ (a : Asked) (b : Buffers) (w : List Float) where
         record {
           path = record {
             search = record {
-              l1 = record { room = record { series = q.series; work = omega (arith, work-fits a) }; cycle = q.cycle; star = h.star; differences = h.differences };
+              l1 = record { room = record { series = q.series; work = omega (arith, work_fits a) }; cycle = q.cycle; star = h.star; differences = h.differences };
               dual = omega (arith, q.dual);
               marked = q.marks;
             };
-            top-is = h.top-is;
+            top_is = h.top_is;
           };
           trend = q.trend;
           knots = q.knots;
         }
 
-    pub answered-fit : (z : Answer) (r : Written) (c : Outputs) (v : List Float) (marks : List ℕ) → z ≡ toldOf top r → Fitted a r b.out c w v b.marks marks → Answered a z b (record { out = c; work = v; marks = marks })
+    pub answered-fit : (z : Answer) (r : Written) (c : Outputs) (v : List Float) (marks : List ℕ) → z ≡ told_of top r → Fitted a r b.out c w v b.marks marks → Answered a z b (record { out = c; work = v; marks = marks })
     answered-fit z r c v marks e f = record {
       gives = subst (λ (o : Outcome). Gives o z b.out c) (sym (sound-fit a (lent b) h.passes h.sound))
-          (record { answer = e ∙ ap₂ toldOf h.top-is f.tally ∙ same-told a (path a); out = f.out });
+          (record { answer = e ∙ ap₂ told_of h.top_is f.tally ∙ same_told a (path a); out = f.out });
       unused = λ t. absurd (not-early a (lent b) h.passes t);
       scratch = record {
-        work = kept_then 0 (needsFor a).work h.kept f.work (omega arith) (omega arith) (omega (arith, work-fits a)) (omega (arith, work-fits a));
+        work = kept_then 0 (needs_for a).work h.kept f.work (omega arith) (omega arith) (omega (arith, work_fits a)) (omega (arith, work_fits a));
         marks = f.marked;
       };
       sizes = lengths a (lent b);

@@ -3,7 +3,7 @@ use Rattle.std.specs.Prelude.{◌≡◌, Bool, true, false, List, ℕ, ltb, leng
 use Rattle.std.specs.Float.{nan}
 use Rattle.vectors.specs.Vec.{KeptOf}
 use Rattle.questions.specs.declared.Figures.{Figures}
-use Rattle.questions.specs.Questions.{Asked, Lent, needsFor}
+use Rattle.questions.specs.Questions.{Asked, Lent, needs_for}
 use Rattle.questions.specs.Asking.{lending}
 use Rattle.fit.specs.declared.Numbers.{Numbers}
 use Rattle.fit.specs.Outputs.{Outputs, outputs}
@@ -29,16 +29,16 @@ lent b = lending (length b.out.trend) (length b.out.cycle) (length b.out.knots) 
 
 -- the numbers as a caller is told them, with how many knots there are and lam_max
 abbrev pub summed : Numbers → ℕ → Float → Summary
-summed s knots lam-max = record { knots = knots; lam_max = lam-max; gap = s.gap; first_gap = s.first_gap; best_gap = s.best_gap; objective = s.objective; n_iter = s.n_iter; improvements = s.improvements; converged = s.converged; reason = s.reason }
+summed s knots lam_max = record { knots = knots; lam_max = lam_max; gap = s.gap; first_gap = s.first_gap; best_gap = s.best_gap; objective = s.objective; n_iter = s.n_iter; improvements = s.improvements; converged = s.converged; reason = s.reason }
 
 -- a fit's numbers
-unfoldable pub summaryOf : FitResult → Summary
-summaryOf f = summed f.numbers (length f.knots) f.lam-max
+unfoldable pub summary_of : FitResult → Summary
+summary_of f = summed f.numbers (length f.knots) f.lam_max
 
 -- the answer: a fit with its numbers, or a refusal's number alone
 unfoldable pub answer_of : Outcome → Answer
 answer_of (refused q) = Refused q
-answer_of (fitted f) = Fit (summaryOf f)
+answer_of (fitted f) = Fit (summary_of f)
 
 -- whether it is refused by a question of 1 to 9
 unfoldable pub early : Outcome → Bool
@@ -60,7 +60,7 @@ pub record Answered (a : Asked) (r : Answer) (b c : Buffers) : Type 0 where
   pub gives : Gives (fit a (lent b)) r b.out c.out
   -- questions 1 to 9 leave work and marks unchanged
   pub unused : early (fit a (lent b)) ≡ true → (c.work ≡ b.work) × (c.marks ≡ b.marks)
-  pub scratch : Scratch (needsFor a) b c
+  pub scratch : Scratch (needs_for a) b c
   -- how many places a fit writes, and the bounds of demand 3 on its numbers
   pub sizes : (f : FitResult) → fit a (lent b) ≡ fitted f → Lengths a f
-  pub bounds : (f : FitResult) → fit a (lent b) ≡ fitted f → Bounds a.max-iter f
+  pub bounds : (f : FitResult) → fit a (lent b) ≡ fitted f → Bounds a.max_iter f

@@ -8,33 +8,33 @@ use Rattle.crossings.specs.Crossings.{CrossingsListed}
 use Rattle.trend_filter.specs.Told.{ToldBy}
 
 -- 0 for a list, else the refusal's number
-abbrev pub listedCode : Listed → ℕ
-listedCode (Count n) = 0
-listedCode (Unlisted q) = q
+abbrev pub listed_code : Listed → ℕ
+listed_code (Count n) = 0
+listed_code (Unlisted q) = q
 
 -- what an array that held v holds afterwards: how many are listed, or as found after a refusal
-abbrev pub listedIn : Listed → List ℕ → List ℕ
-listedIn (Count n) v = n ∷ []
-listedIn (Unlisted q) v = v
+abbrev pub listed_in : Listed → List ℕ → List ℕ
+listed_in (Count n) v = n ∷ []
+listed_in (Unlisted q) v = v
 
 -- the whole of a call: an answer with all its promises, and how it is told
 pub record CrossingsTold (level : Float) (t : List Float) (r : ℕ) (b c v₀ v : List ℕ) : Type 0 where
   pub answer : Listed
   pub listed : CrossingsListed level t answer b c
-  pub told : ToldBy listedCode listedIn answer r v₀ v
+  pub told : ToldBy listed_code listed_in answer r v₀ v
 
 -- 0 for a knot and where there is none, else the refusal's number
-abbrev pub knotCode : Near → ℕ
-knotCode (Knot k) = 0
-knotCode NoKnot = 0
-knotCode (Refused q) = q
+abbrev pub knot_code : Near → ℕ
+knot_code (Knot k) = 0
+knot_code NoKnot = 0
+knot_code (Refused q) = q
 
 -- what an array that held v holds afterwards: 1 and the knot, 0 and 0 where there is none, or as found after a refusal
-abbrev pub knotIn : Near → List ℕ → List ℕ
-knotIn (Knot k) v = 1 ∷ k ∷ []
-knotIn NoKnot v = 0 ∷ 0 ∷ []
-knotIn (Refused q) v = v
+abbrev pub knot_in : Near → List ℕ → List ℕ
+knot_in (Knot k) v = 1 ∷ k ∷ []
+knot_in NoKnot v = 0 ∷ 0 ∷ []
+knot_in (Refused q) v = v
 
 -- the answer s as a caller in C is told it
 abbrev pub KnotTold : Near → ℕ → List ℕ → List ℕ → Type 0
-KnotTold s r v₀ v = ToldBy knotCode knotIn s r v₀ v
+KnotTold s r v₀ v = ToldBy knot_code knot_in s r v₀ v

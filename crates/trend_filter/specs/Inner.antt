@@ -7,10 +7,10 @@ use Rattle.trend_filter.specs.declared.Answer.TheVariants.{Fit, Refused}
 use Rattle.trend_filter.specs.Answers.{summed}
 
 -- what a caller is told of a prepared series, whose lam_max is top
-unfoldable pub toldOf : Float → Written → Answer
-toldOf top Lost = Refused 10
-toldOf top (Done t) = Fit (summed t.numbers t.knots top)
+unfoldable pub told_of : Float → Written → Answer
+told_of top Lost = Refused 10
+told_of top (Done t) = Fit (summed t.numbers t.knots top)
 
 -- 1 for true, 0 for false
-abbrev pub oneIf : Bool → ℕ
-oneIf b = cond b 1 0
+abbrev pub one_if : Bool → ℕ
+one_if b = cond b 1 0

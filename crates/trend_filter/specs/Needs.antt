@@ -5,15 +5,15 @@ use Rattle.questions.specs.declared.Needed.TheVariants.{Given, Refused}
 use Rattle.trend_filter.specs.Told.{ToldBy}
 
 -- 0 for figures, else the refusal's number
-abbrev pub needsCode : Needed → ℕ
-needsCode (Given g) = 0
-needsCode (Refused q) = q
+abbrev pub needs_code : Needed → ℕ
+needs_code (Given g) = 0
+needs_code (Refused q) = q
 
 -- what an array that held v holds afterwards: work, marks and steps, or as found after a refusal
-abbrev pub needsIn : Needed → List ℕ → List ℕ
-needsIn (Given g) v = g.work ∷ g.marks ∷ g.steps ∷ []
-needsIn (Refused q) v = v
+abbrev pub needs_in : Needed → List ℕ → List ℕ
+needs_in (Given g) v = g.work ∷ g.marks ∷ g.steps ∷ []
+needs_in (Refused q) v = v
 
 -- the answer s as a caller in C is told it: the code r, and an array, which held v₀ before and holds v after
 abbrev pub NeedsTold : Needed → ℕ → List ℕ → List ℕ → Type 0
-NeedsTold s r v₀ v = ToldBy needsCode needsIn s r v₀ v
+NeedsTold s r v₀ v = ToldBy needs_code needs_in s r v₀ v

@@ -2,10 +2,10 @@
 ghost use Rattle.std.specs.Prelude.{◌≡◌, length};
 ghost use Rattle.questions.specs.Asking.{asking};
 ghost use Rattle.trend_filter.specs.Calls.{Told, Called};
-ghost use Rattle.trend_filter.specs.Inner.{oneIf};
+ghost use Rattle.trend_filter.specs.Inner.{one_if};
 ghost use Rattle.trend_filter.specs.Answers.{buffers};
 ghost use Rattle.questions.specs.Beforehand.{needed};
-ghost use Rattle.crossings.specs.Nearest.{nearestKnot};
+ghost use Rattle.crossings.specs.Nearest.{nearest_knot};
 ghost use Rattle.trend_filter.specs.Needs.{NeedsTold};
 ghost use Rattle.trend_filter.specs.Crossings.{CrossingsTold, KnotTold};
 
@@ -14,7 +14,7 @@ use crossings::{Listed, Near};
 use questions::Needed;
 
 fn one_if(b: bool) -> u64
-    ensures { result ≡ oneIf b }
+    ensures { result ≡ one_if b }
 {
     if b { 1 } else { 0 }
 }
@@ -116,7 +116,7 @@ pub extern "C" fn trend_filter_nearest_knot(
     knots: &[u32],
     found: &mut [u64; 2],
 ) -> u32
-    ensures { KnotTold (nearestKnot place (length trend.now) knots.now) result found.old found.new }
+    ensures { KnotTold (nearest_knot place (length trend.now) knots.now) result found.old found.new }
 {
     match crossings::nearest_knot(place, trend, knots) {
         Near::Refused(q) => q,

@@ -1,16 +1,18 @@
 // The trend of a series: the questions and the preparation, then the fit of what is prepared, each once (crate prepared_fit).
+#![tactic(auto)]
+
 pub mod c;
 
 ghost use Rattle.std.specs.Prelude.{◌≡◌};
 ghost use Rattle.questions.specs.Asking.{asking};
 ghost use Rattle.trend_filter.specs.Answers.{buffers, Answered};
-ghost use Rattle.trend_filter.specs.Inner.{toldOf};
+ghost use Rattle.trend_filter.specs.Inner.{told_of};
 
 use prepared_fit::{Begun, Written};
 use search::Reason;
 
 // penalty 1 is L1, 2 is L2.
-#[derive(Drop)]
+#[derive(Clone, Copy)]
 pub struct TrendFilterOptions {
     pub order: u32,
     pub penalty: u32,
@@ -18,7 +20,7 @@ pub struct TrendFilterOptions {
     pub max_iter: u64,
 }
 
-#[derive(Drop)]
+#[derive(Clone, Copy)]
 pub struct Summary {
     pub knots: usize,
     pub lam_max: f64,
@@ -33,7 +35,7 @@ pub struct Summary {
 }
 
 // A fit with its numbers, or a refusal's number.
-#[derive(Drop)]
+#[derive(Clone, Copy)]
 pub enum Answer {
     Fit(Summary),
     Refused(u32),
@@ -41,7 +43,7 @@ pub enum Answer {
 
 // What a caller is told of a prepared series.
 fn told(w: Written, lam_max: f64) -> Answer
-    ensures { result ≡ toldOf lam_max w }
+    ensures { result ≡ told_of lam_max w }
 {
     match w {
         Written::Lost => Answer::Refused(10),

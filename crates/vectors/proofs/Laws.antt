@@ -18,17 +18,17 @@ unfolding list
 length-list zero f = refl
 length-list (suc n) f = length-append (list n f) (f n ∷ []) ∙ rw (length-list n f) (add-one n)
 
-pub getD-list : {A : Type 0} (z : A) (n : ℕ) (f : ℕ → A) (j : ℕ) → j < n → get_or (list n f) j z ≡ f j
+pub get_d_list : {A : Type 0} (z : A) (n : ℕ) (f : ℕ → A) (j : ℕ) → j < n → get_or (list n f) j z ≡ f j
 unfolding list
-getD-list z zero f j h = absurd (omega arith)
-getD-list z (suc n) f j h =
+get_d_list z zero f j h = absurd (omega arith)
+get_d_list z (suc n) f j h =
     ⊎_elim
     (λ (e : j ≡ n). rw e (get_or_at (list n f) (f n) [] z n (length-list n f)))
-    (λ (l : j < n). get_or-append (list n f) (f n ∷ []) z j (omega (arith, length-list n f)) ∙ getD-list z n f j l)
+    (λ (l : j < n). get_or-append (list n f) (f n ∷ []) z j (omega (arith, length-list n f)) ∙ get_d_list z n f j l)
     (eq-or-lt_of_le (le_of_suc-le-suc h))
 
 pub at-list : (n : ℕ) (f : ℕ → Float) (j : ℕ) → j < n → at (list n f) j ≡ f j
-at-list n f j h = getD-list nan n f j h
+at-list n f j h = get_d_list nan n f j h
 
 -- two vectors are the same where their places are
 pub list_ext : {A : Type 0} (n : ℕ) (f g : ℕ → A) → ((j : ℕ) → j < n → f j ≡ g j) → list n f ≡ list n g
@@ -37,10 +37,10 @@ list_ext zero f g h = refl
 list_ext (suc n) f g h = rw (list_ext n f g (λ j l. h j (omega arith)), h n (omega arith))
 
 -- a vector is the list of its places
-pub list-is : {A : Type 0} (z : A) (v : List A) → v ≡ list (length v) (λ i. get_or v i z)
-list-is z v =
+pub list_is : {A : Type 0} (z : A) (v : List A) → v ≡ list (length v) (λ i. get_or v i z)
+list_is z v =
     ext_get_or z v (list (length v) (λ i. get_or v i z)) (sym (length-list (length v) (λ i. get_or v i z)))
-    (λ i h. sym (getD-list z (length v) (λ i. get_or v i z) i h))
+    (λ i h. sym (get_d_list z (length v) (λ i. get_or v i z) i h))
 
 module _ {A : Type 0} {z : A} where
   -- nothing written yet
@@ -81,7 +81,7 @@ module _ {A : Type 0} {z : A} where
   pub front : {n : ℕ} {f : ℕ → A} {v₀ v : List A} → WrittenOf z 0 n f v₀ v → n ≤ length v → take n v ≡ list n f
   front {n} {f} {v₀} {v} w h =
       ext_get_or z (take n v) (list n f) (length-take-le n v h ∙ sym (length-list n f))
-      (λ i l. let m : i < n = omega (arith, length-take-le n v h) in get_or-take n v i z m ∙ w.inside i (omega arith) m ∙ sym (getD-list z n f i m))
+      (λ i l. let m : i < n = omega (arith, length-take-le n v h) in get_or-take n v i z m ∙ w.inside i (omega arith) m ∙ sym (get_d_list z n f i m))
 
   -- what is left alone
   pub written-kept : {lo n : ℕ} {f : ℕ → A} {s₀ s : List A} → WrittenOf z lo (lo + n) f s₀ s → KeptOf z lo n s₀ s
@@ -99,24 +99,24 @@ module _ {A : Type 0} {z : A} where
   }
 
 -- a loop that stores f 0, f 1, .. from place lo on: one more
-pub store-more : {A : Type 0} {z : A} (lo i : ℕ) (f : ℕ → A) (s₀ s : List A) (x : A) → WrittenOf z lo (lo + i) (λ j. f (j - lo)) s₀ s → lo + i < length s → x ≡ f i
+pub store_more : {A : Type 0} {z : A} (lo i : ℕ) (f : ℕ → A) (s₀ s : List A) (x : A) → WrittenOf z lo (lo + i) (λ j. f (j - lo)) s₀ s → lo + i < length s → x ≡ f i
     → WrittenOf z lo (lo + (i + 1)) (λ j. f (j - lo)) s₀ (set s (lo + i) x)
-store-more lo i f s₀ s x w h e =
+store_more lo i f s₀ s x w h e =
     let q : lo + (i + 1) ≡ lo + i + 1 = omega arith in
     let d : lo + i - lo ≡ i = omega arith in
     rw q (up w (omega arith) h (e ∙ rw d))
 
 -- a case that is not taken may differ
-pub cond-cong : {A : Type 0} (b : Bool) (x y t : A) → (b ≡ true → x ≡ y) → cond b x t ≡ cond b y t
-cond-cong true x y t h = h refl
-cond-cong false x y t h = refl
+pub cond_cong : {A : Type 0} (b : Bool) (x y t : A) → (b ≡ true → x ≡ y) → cond b x t ≡ cond b y t
+cond_cong true x y t h = h refl
+cond_cong false x y t h = refl
 
 -- a loop that wrote t from place 0 on
 pub written-put : {A : Type 0} {z : A} {n : ℕ} {f : ℕ → A} {v₀ v : List A} (t : List A) → WrittenOf z 0 n f v₀ v
     → length t ≡ n → n ≤ length v₀ → ((i : ℕ) → i < n → f i ≡ get_or t i z) → v ≡ put v₀ 0 t
 written-put {A} {z} {n} {f} {v₀} {v} t w e h q =
     let size = w.size in
-    let a : take n v ≡ t = front w (omega arith) ∙ list_ext n f (λ i. get_or t i z) q ∙ sym (rw e at (list-is z t)) in
+    let a : take n v ≡ t = front w (omega arith) ∙ list_ext n f (λ i. get_or t i z) q ∙ sym (rw e at (list_is z t)) in
     let b : drop n v ≡ drop n v₀ =
     ext_get_or z (drop n v) (drop n v₀) (omega (arith, length-drop n v, length-drop n v₀))
     (λ i l. get_or-drop n v i z ∙ w.above (n + i) (omega arith) ∙ sym (get_or-drop n v₀ i z)) in

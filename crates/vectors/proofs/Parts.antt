@@ -10,7 +10,7 @@ use lib.Seq.{ext_get_or, take_at, drop_at, length-take-le, get_or-drop, get_or-t
 use lib.Ieee.{Float, nan}
 use Rattle.vectors.specs.Vec.{at, list, KeptOf}
 use Rattle.vectors.specs.Parts.{Kept, part_of, part, WrittenOf}
-use Rattle.vectors.proofs.Laws.{length-list, getD-list, list_ext}
+use Rattle.vectors.proofs.Laws.{length-list, get_d_list, list_ext}
 
 module _ {A : Type 0} (z : A) where
   pub length-partOf : (a n : ℕ) (s : List A) → length (part_of z a n s) ≡ n
@@ -20,7 +20,7 @@ module _ {A : Type 0} (z : A) where
   -- place i of a part is place q of the run
   pub getD-partOf : (a n : ℕ) (s : List A) (i q : ℕ) → i < n → a + i ≡ q → get_or (part_of z a n s) i z ≡ get_or s q z
   unfolding part_of
-  getD-partOf a n s i q h e = getD-list z n (λ i. get_or s (a + i) z) i h ∙ ap (λ (p : ℕ). get_or s p z) e
+  getD-partOf a n s i q h e = get_d_list z n (λ i. get_or s (a + i) z) i h ∙ ap (λ (p : ℕ). get_or s p z) e
 
   pub partOf-ext : (a b n : ℕ) (s t : List A) → ((j : ℕ) → j < n → get_or s (a + j) z ≡ get_or t (b + j) z) → part_of z a n s ≡ part_of z b n t
   unfolding part_of
@@ -68,8 +68,8 @@ at_part a n s i q h e = getD-partOf nan a n s i q h e
 pub first_part : (n : ℕ) (s : List Float) → n ≤ length s → take n s ≡ part 0 n s
 first_part n s h = first-partOf nan n s h
 
-pub range-part : (a e n : ℕ) (s : List Float) → e ≡ a + n → e ≤ length s → take (e - a) (drop a s) ≡ part a n s
-range-part a e n s q h = range-partOf nan a e n s q h
+pub range_part : (a e n : ℕ) (s : List Float) → e ≡ a + n → e ≤ length s → take (e - a) (drop a s) ≡ part a n s
+range_part a e n s q h = range-partOf nan a e n s q h
 
 -- ---- a call on the part of a run from a on, n places: the run that it leaves, where x is what it left in the part
 
@@ -114,8 +114,8 @@ module _ {A : Type 0} (a n : ℕ) (s x : List A) (fits : a + n ≤ length s) (e 
 
 -- ---- the m places of a run from n on
 
-pub mid-is : (n m : ℕ) (s : List Float) → n + m ≤ length s → take m (drop n s) ≡ part n m s
-mid-is n m s h = let d : n + m - n ≡ m = omega arith in rw d at (range-part n (n + m) m s refl h)
+pub mid_is : (n m : ℕ) (s : List Float) → n + m ≤ length s → take m (drop n s) ≡ part n m s
+mid_is n m s h = let d : n + m - n ≡ m = omega arith in rw d at (range_part n (n + m) m s refl h)
 
 -- ---- what a call on a part leaves of the run
 
@@ -123,8 +123,8 @@ pub split : (a b : ℕ) → (a < b) ⊎ (b ≤ a)
 split a b = ⊎_elim (λ (e : b - a ≡ zero). inr (omega arith)) (λ (h : zero < b - a). inl (omega arith)) (eq-zero-or-pos (b - a))
 
 -- a part of the run that changed within it
-pub kept-within : (a n b l : ℕ) (s x : List Float) → a + n ≤ length s → length x ≡ n → Kept b l (take n (drop a s)) x → Kept (a + b) l s (put_back a n s x)
-kept-within a n b l s x f e w = record {
+pub kept_within : (a n b l : ℕ) (s x : List Float) → a + n ≤ length s → length x ≡ n → Kept b l (take n (drop a s)) x → Kept (a + b) l s (put_back a n s x)
+kept_within a n b l s x f e w = record {
   size = (kept_put a n s x f e nan).size;
   below = λ j h. ⊎_elim
       (λ (o : j < a). (kept_put a n s x f e nan).below j o)
@@ -146,8 +146,8 @@ kept-within a n b l s x f e w = record {
         ap (at (put_back a n s x)) (sym q) ∙ sym (getD-put a n s x f e nan i u) ∙ o ∙ get_or-take n (drop a s) i nan u ∙ get_or-drop a s i nan ∙ ap (at s) q
 
 -- what a call on the l places from a on leaves, within the n places from a on
-pub kept-part : (a l n : ℕ) (s x : List Float) → a + l ≤ length s → length x ≡ l → l ≤ n → Kept a n s (put_back a l s x)
-kept-part a l n s x fits e h =
+pub kept_part : (a l n : ℕ) (s x : List Float) → a + l ≤ length s → length x ≡ l → l ≤ n → Kept a n s (put_back a l s x)
+kept_part a l n s x fits e h =
     let k = kept_put a l s x fits e nan in
     record { size = k.size; below = k.below; above = λ j u. k.above j (omega arith) }
 
@@ -155,8 +155,8 @@ pub part-size : (a l : ℕ) (s x : List Float) → a + l ≤ length s → length
 part-size a l s x fits e = e ∙ length-take-le l (drop a s) (omega (arith, length-drop a s))
 
 -- a run of which all places from q on stayed
-pub kept-drop : {A : Type 0} (z : A) (q : ℕ) (s₀ s : List A) → length s ≡ length s₀ → drop q s ≡ drop q s₀ → KeptOf z 0 q s₀ s
-kept-drop {A} z q s₀ s n e = record {
+pub kept_drop : {A : Type 0} (z : A) (q : ℕ) (s₀ s : List A) → length s ≡ length s₀ → drop q s ≡ drop q s₀ → KeptOf z 0 q s₀ s
+kept_drop {A} z q s₀ s n e = record {
   size = n;
   below = λ j h. absurd (omega arith);
   above = λ j h.

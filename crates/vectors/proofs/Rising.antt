@@ -14,19 +14,19 @@ pub rising_none : (n : ℕ) → Rising n []
 rising_none n = record { below = λ i h. absurd (omega arith); strictly = λ i j h g. absurd (omega arith) }
 
 -- a greater bound
-pub rising-within : {m n : ℕ} {l : List ℕ} → Rising m l → m ≤ n → Rising n l
-rising-within r h = record { below = λ i k. omega (arith, r.below i k); strictly = r.strictly }
+pub rising_within : {m n : ℕ} {l : List ℕ} → Rising m l → m ≤ n → Rising n l
+rising_within r h = record { below = λ i k. omega (arith, r.below i k); strictly = r.strictly }
 
 -- a later one is not below an earlier one
-rising-later : {n : ℕ} {l : List ℕ} → Rising n l → (i j : ℕ) → i ≤ j → j < length l → get_or l i 0 ≤ get_or l j 0
-rising-later r i j h g = ⊎_elim (λ e. rw e (omega arith)) (λ s. omega (arith, r.strictly i j s g)) (eq-or-lt_of_le h)
+rising_later : {n : ℕ} {l : List ℕ} → Rising n l → (i j : ℕ) → i ≤ j → j < length l → get_or l i 0 ≤ get_or l j 0
+rising_later r i j h g = ⊎_elim (λ e. rw e (omega arith)) (λ s. omega (arith, r.strictly i j s g)) (eq-or-lt_of_le h)
 
 -- none lies between two that follow one another
 pub none_between : {n : ℕ} {l : List ℕ} → Rising n l → (j : ℕ) → j + 1 < length l → (i : ℕ) → get_or l j 0 < i → i < get_or l (j + 1) 0 → Among i l → ⊥
 none_between r j h i a b m =
     ⊎_elim
-    (λ (later : j < m.place). omega (arith, m.holds, rising-later r (j + 1) m.place (omega arith) m.within))
-    (λ (not-later : m.place ≤ j). omega (arith, m.holds, rising-later r m.place j not-later (omega arith)))
+    (λ (later : j < m.place). omega (arith, m.holds, rising_later r (j + 1) m.place (omega arith) m.within))
+    (λ (not-later : m.place ≤ j). omega (arith, m.holds, rising_later r m.place j not-later (omega arith)))
     (split j m.place)
 
 -- n itself after numbers below n
@@ -60,8 +60,8 @@ get_d_picked ps [] i h = absurd (omega arith)
 get_d_picked ps (k ∷ ks) zero h = refl
 get_d_picked ps (k ∷ ks) (suc i) h = get_d_picked ps ks i (omega arith)
 
-pub rising-picked : {n : ℕ} (ps ks : List ℕ) → Rising n ps → Rising (length ps) ks → Rising n (picked ps ks)
-rising-picked ps ks r q =
+pub rising_picked : {n : ℕ} (ps ks : List ℕ) → Rising n ps → Rising (length ps) ks → Rising n (picked ps ks)
+rising_picked ps ks r q =
     let size = length-map ks (λ (k : ℕ). get_or ps k 0) in
     record {
       below = λ i h. let g : i < length ks = omega (arith, size) in omega (arith, get_d_picked ps ks i g, r.below (get_or ks i 0) (q.below i g));

@@ -15,7 +15,7 @@ use lib.Ieee.{Float, nan}
 use Rattle.vectors.specs.Vec.{at, put}
 use Rattle.vectors.specs.Parts.{Kept, part, Wrote}
 use Rattle.vectors.proofs.Laws.{written-put}
-use Rattle.vectors.proofs.Parts.{length_part, at_part, first_part, kept-drop}
+use Rattle.vectors.proofs.Parts.{length_part, at_part, first_part, kept_drop}
 
 module _ {A : Type 0} where
   pub wrote_none : (d : List A) (at : ℕ) → at ≤ length d → Wrote d at [] d at
@@ -77,14 +77,14 @@ pub take_put : {A : Type 0} (v₀ t : List A) {v : List A} (n : ℕ) → v ≡ p
 take_put v₀ t n p e = ap (take n) p ∙ take_at t (drop (0 + length t) v₀) n e
 
 -- what was written, and what lies past it, read off the slice
-pub wrote-take : {A : Type 0} {d t e : List A} {r : ℕ} → Wrote d 0 t e r → (take r e ≡ t) × (drop r e ≡ drop r d)
-wrote-take {A} {d} {t} {e} {r} w =
+pub wrote_take : {A : Type 0} {d t e : List A} {r : ℕ} → Wrote d 0 t e r → (take r e ≡ t) × (drop r e ≡ drop r d)
+wrote_take {A} {d} {t} {e} {r} w =
     let n : length t ≡ r = omega (arith, w.next) in
     (take_put d t r w.text n, ap (drop r) w.text ∙ drop_at t (drop (0 + length t) d) r n ∙ ap (λ (k : ℕ). drop k d) (sym w.next))
 
 -- one place replaced of what stands at the start, if it has that place
-pub wrote-set : {A : Type 0} {d t e : List A} {n : ℕ} (p : ℕ) (x : A) → Wrote d 0 t e n → Wrote d 0 (set t p x) (cond (ltb p n) (set e p x) e) n
-wrote-set {A} {d} {t} {e} {n} p x w = go (ltb p n) refl
+pub wrote_set : {A : Type 0} {d t e : List A} {n : ℕ} (p : ℕ) (x : A) → Wrote d 0 t e n → Wrote d 0 (set t p x) (cond (ltb p n) (set e p x) e) n
+wrote_set {A} {d} {t} {e} {n} p x w = go (ltb p n) refl
   where
     l : length (set t p x) ≡ length t
     l = length-set t p x
@@ -102,14 +102,14 @@ wrote-set {A} {d} {t} {e} {n} p x w = go (ltb p n) refl
 pub put-fits : {A : Type 0} (v₀ t : List A) {v : List A} → v ≡ put v₀ 0 t → length t ≤ length v
 put-fits v₀ t p = omega (arith, ap length p, length-append t (drop (0 + length t) v₀))
 
-pub put-start : (n : ℕ) (v₀ t v : List Float) → v ≡ put v₀ 0 t → length t ≡ n → n ≤ length v₀ → (part 0 n v ≡ t) × Kept 0 n v₀ v
-put-start n v₀ t v e size fits =
+pub put_start : (n : ℕ) (v₀ t v : List Float) → v ≡ put v₀ 0 t → length t ≡ n → n ≤ length v₀ → (part 0 n v ≡ t) × Kept 0 n v₀ v
+put_start n v₀ t v e size fits =
     let w : Wrote v₀ 0 t v n = record { next = omega arith; room = fits; text = e } in
     let l = wrote-length w in
-    (sym (first_part n v (omega arith)) ∙ (wrote-take w).0, kept-drop nan n v₀ v l (wrote-take w).1)
+    (sym (first_part n v (omega arith)) ∙ (wrote_take w).0, kept_drop nan n v₀ v l (wrote_take w).1)
 
-pub start-put : (n : ℕ) (v₀ t v : List Float) → part 0 n v ≡ t → Kept 0 n v₀ v → n ≤ length v₀ → v ≡ put v₀ 0 t
-start-put n v₀ t v e k fits =
+pub start_put : (n : ℕ) (v₀ t v : List Float) → part 0 n v ≡ t → Kept 0 n v₀ v → n ≤ length v₀ → v ≡ put v₀ 0 t
+start_put n v₀ t v e k fits =
     written-put t
     (record { size = k.size; inside = λ j _ h. sym (at_part 0 n v j j h (zero-add j)) ∙ ap (λ (u : List Float). at u j) e; below = λ j h. absurd (omega arith); above = λ j h. k.above j (omega arith) })
     (sym (ap length e) ∙ length_part 0 n v) fits (λ i h. refl)

@@ -16,9 +16,9 @@ list zero f = []
 list (suc n) f = list n f ++ (f n ∷ [])
 
 -- the places below n, rising, of which p holds
-unfoldable pub placesTo : (ℕ → Bool) → ℕ → List ℕ
-placesTo p zero = []
-placesTo p (suc n) = placesTo p n ++ cond (p n) (n ∷ []) []
+unfoldable pub places_to : (ℕ → Bool) → ℕ → List ℕ
+places_to p zero = []
+places_to p (suc n) = places_to p n ++ cond (p n) (n ∷ []) []
 
 -- s with t in the places from a on
 abbrev pub put : {A : Type 0} → List A → ℕ → List A → List A

@@ -1,14 +1,16 @@
 // The greatest size of a vector, whether it lies within a bound, a copy of one, and a list of places made longer.
+#![tactic(auto)]
+
 ghost use Rattle.std.specs.Prelude.{◌≡◌, ◌&&◌, cond, [], ◌∷◌, ◌≤◌, ◌<◌, ◌-◌, min, length};
 ghost use Rattle.std.specs.Float.Ieee.{lt};
-ghost use Rattle.float64.specs.Helpers.{absOf};
+ghost use Rattle.float64.specs.Helpers.{abs_of};
 ghost use Rattle.vectors.specs.Vec.{put, apart};
 ghost use Rattle.vectors.specs.Parts.{Kept, part, Written, Disjoint, Wrote};
-ghost use Rattle.vectors.specs.Sums.{maxAbs, inside};
+ghost use Rattle.vectors.specs.Sums.{max_abs, inside};
 
 // The greatest size, from 0; NaN is ignored.
 pub fn max_abs(v: &[f64]) -> f64
-    ensures { result ≡ maxAbs v.now }
+    ensures { result ≡ max_abs v.now }
 {
     let mut top = 0.0;
     let mut i = 0;
@@ -21,7 +23,7 @@ pub fn max_abs(v: &[f64]) -> f64
 }
 
 fn still(all: bool, x: f64, lam: f64) -> bool
-    ensures { result ≡ all && lt (absOf x) lam }
+    ensures { result ≡ all && lt (abs_of x) lam }
 {
     let a = float64::abs(x);
     if all {

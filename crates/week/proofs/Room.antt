@@ -8,9 +8,9 @@ use lib.ListN.{length}
 use Rattle.questions.specs.Questions.{room}
 use Rattle.week.specs.Room.{WeekRoom}
 
-pub week-room : WeekRoom
+pub week_room : WeekRoom
 unfolding room
-week-room st y h =
+week_room st y h =
     let n = length y in
     rw (le-leb n 168 (omega arith), le-leb (cond (eqb st.penalty 2) (16 * n) (40 * n)) 6720 (work (eqb st.penalty 2)), le-leb (cond (eqb st.penalty 2) 0 (2 * n)) 336 (marks (eqb st.penalty 2)))
   where

@@ -15,65 +15,65 @@ use Rattle.io.specs.Counts.{IsPrefixLen}
 use Rattle.vectors.specs.Vec.{put}
 use Rattle.vectors.specs.Parts.{Wrote}
 use Rattle.vectors.proofs.Texts.{wrote-length, take_put, put-fits}
-use Rattle.records.specs.Entries.{Slot, Entry, slot, frames, settings, correction, countSettings, hoursOf}
-use Rattle.records.specs.Corrections.{weekOf, named}
+use Rattle.records.specs.Entries.{Slot, Entry, slot, frames, settings, correction, count_settings, hours_of}
+use Rattle.records.specs.Corrections.{week_of, named}
 use Rattle.records.specs.Rates.{rated}
-use Rattle.records.specs.Week.{readWeek, askEntries, entriesIn}
-use Rattle.records.specs.Positions.{positionsOf}
+use Rattle.records.specs.Week.{read_week, ask_entries, entries_in}
+use Rattle.records.specs.Positions.{positions_of}
 use Rattle.series.specs.Inner.{answer, Reads}
-use Rattle.records.proofs.Positions.{week-positions}
+use Rattle.records.proofs.Positions.{week_positions}
 use Rattle.records.specs.Week as read
 use Rattle.records.specs.declared.Settings.{Settings}
 use Rattle.series.specs.declared.Week.TheVariants as week
-use Rattle.lines.specs.Lines.{refusedLine}
-use Rattle.listing.specs.Shown.{Below, shownLine, shownListing}
+use Rattle.lines.specs.Lines.{refused_line}
+use Rattle.listing.specs.Shown.{Below, shown_line, shown_listing}
 use Rattle.questions.specs.Questions.{Asked, Lent}
 use Rattle.fit.specs.Outputs.{Outputs, outputs}
 use Rattle.fit.specs.Fit.{Outcome, refused, fitted, fit, after}
-use Rattle.fit.proofs.Lengths.{lengths, knot-places}
-use Rattle.trend_filter.specs.Answers.{summaryOf, answer_of, Gives}
+use Rattle.fit.proofs.Lengths.{lengths, knot_places}
+use Rattle.trend_filter.specs.Answers.{summary_of, answer_of, Gives}
 use Rattle.trend_filter.specs.declared.Summary.{Summary}
 use Rattle.trend_filter.specs.declared.Answer.{Answer}
 use Rattle.trend_filter.specs.declared.Answer.TheVariants as fits
 use Rattle.week.specs.Shown.{shown}
-use Rattle.week.specs.Week.{askedBy, weekLent, listingOf, outcomeText, fitText, readingText, weekText}
+use Rattle.week.specs.Week.{asked_by, week_lent, listing_of, outcome_text, fit_text, reading_text, week_text}
 
 -- what lending the written part asks
-pub wrote-counts : {d t e : List ℕ} {at r : ℕ} → Wrote d at t e r → IsPrefixLen r e
-wrote-counts {d} {t} {e} {at} {r} w =
+pub wrote_counts : {d t e : List ℕ} {at r : ℕ} → Wrote d at t e r → IsPrefixLen r e
+wrote_counts {d} {t} {e} {at} {r} w =
     let h : r ≤ length e = omega (arith, wrote-length w, w.room) in
     (h, sym (length-take-le r e h))
 
 -- a week that is taken has at most 168 hours
 abbrev Short : read.Reading → Type 0
 Short (read.unread k) = Unit
-Short (read.read st ws) = length (hoursOf ws) ≤ 168
+Short (read.read st ws) = length (hours_of ws) ≤ 168
 
-cond-case : (P : read.Reading → Type 0) (b : Bool) (x y : read.Reading) → (b ≡ true → P x) → P y → P (cond b x y)
-cond-case P true x y f g = f refl
-cond-case P false x y f g = g
+cond_case : (P : read.Reading → Type 0) (b : Bool) (x y : read.Reading) → (b ≡ true → P x) → P y → P (cond b x y)
+cond_case P true x y f g = f refl
+cond_case P false x y f g = g
 
-ask-short : (o : Option (List Entry)) → Short (askEntries o)
-unfolding askEntries
-ask-short none = tt
-ask-short (some []) = tt
-ask-short (some (slot w ∷ es)) = tt
-ask-short (some (frames f ∷ es)) = tt
-ask-short (some (correction p x ∷ es)) = tt
-ask-short (some (settings st ∷ es)) =
-    cond-case Short (eqb (countSettings es) 0) _ _
-    (λ _. cond-case Short (named es) _ _
-    (λ _. cond-case Short (leb (length (hoursOf (weekOf es))) 168) _ _
-    (λ e. cond-case Short (rated es) (read.read st (weekOf es)) (read.unread 22) (λ _. leb-true _ _ e) tt) tt) tt) tt
+ask_short : (o : Option (List Entry)) → Short (ask_entries o)
+unfolding ask_entries
+ask_short none = tt
+ask_short (some []) = tt
+ask_short (some (slot w ∷ es)) = tt
+ask_short (some (frames f ∷ es)) = tt
+ask_short (some (correction p x ∷ es)) = tt
+ask_short (some (settings st ∷ es)) =
+    cond_case Short (eqb (count_settings es) 0) _ _
+    (λ _. cond_case Short (named es) _ _
+    (λ _. cond_case Short (leb (length (hours_of (week_of es))) 168) _ _
+    (λ e. cond_case Short (rated es) (read.read st (week_of es)) (read.unread 22) (λ _. leb-true _ _ e) tt) tt) tt) tt
 
-short : (s : List ℕ) → Short (readWeek s)
-unfolding readWeek
-short s = cond-case Short (ltb 4096 (length s)) (read.unread 11) (askEntries (entriesIn s)) (λ _. tt) (ask-short (entriesIn s))
+short : (s : List ℕ) → Short (read_week s)
+unfolding read_week
+short s = cond_case Short (ltb 4096 (length s)) (read.unread 11) (ask_entries (entries_in s)) (λ _. tt) (ask_short (entries_in s))
 
 -- what an answer of `read_week` says
-was-refused : (a : read.Reading) {k : ℕ} → week.Refused k ≡ answer a → a ≡ read.unread k
-was-refused (read.unread j) e = ap read.unread (sym (let f : _ ≡ j = cc in f))
-was-refused (read.read st ws) e = impossible cc
+was_refused : (a : read.Reading) {k : ℕ} → week.Refused k ≡ answer a → a ≡ read.unread k
+was_refused (read.unread j) e = ap read.unread (sym (let f : _ ≡ j = cc in f))
+was_refused (read.read st ws) e = impossible cc
 
 -- t stands in the first n places of z
 pub record Front {A : Type 0} (n : ℕ) (z t : List A) : Type 0 where
@@ -89,64 +89,64 @@ fronted {A} {n} {z} y t p e = record {
 pub record Taken (a : read.Reading) (st : Settings) (n : ℕ) (z : List Float) (q : List ℕ) : Type 0 where
   pub slots : List Slot
   pub week : a ≡ read.read st slots
-  pub hours : Front n z (hoursOf slots)
-  pub positions : Front n q (positionsOf slots)
+  pub hours : Front n z (hours_of slots)
+  pub positions : Front n q (positions_of slots)
   pub few : n ≤ 168
 
-was-taken : (a : read.Reading) {st : Settings} {n : ℕ} {y z : List Float} {q₀ q : List ℕ} → Reads a (week.Read st n) y z q₀ q → Short a → Taken a st n z q
-was-taken (read.unread j) r h = let e = r.said in impossible cc
-was-taken (read.read sd ws) {st} {n} r h =
+was_taken : (a : read.Reading) {st : Settings} {n : ℕ} {y z : List Float} {q₀ q : List ℕ} → Reads a (week.Read st n) y z q₀ q → Short a → Taken a st n z q
+was_taken (read.unread j) r h = let e = r.said in impossible cc
+was_taken (read.read sd ws) {st} {n} r h =
     let e = r.said in
     let es : sd ≡ st = cc in
-    let en : n ≡ length (hoursOf ws) = cc in
+    let en : n ≡ length (hours_of ws) = cc in
     record {
       slots = ws;
       week = ap (λ (x : Settings). read.read x ws) es;
-      hours = fronted _ (hoursOf ws) r.wrote en;
-      positions = fronted _ (positionsOf ws) r.numbered (en ∙ sym (week-positions ws).each);
+      hours = fronted _ (hours_of ws) r.wrote en;
+      positions = fronted _ (positions_of ws) r.numbered (en ∙ sym (week_positions ws).each);
       few = omega arith;
     }
 
-pub taken-week : (s : List ℕ) {st : Settings} {n : ℕ} {y z : List Float} {q₀ q : List ℕ} → Reads (readWeek s) (week.Read st n) y z q₀ q → Taken (readWeek s) st n z q
-taken-week s r = was-taken (readWeek s) r (short s)
+pub taken_week : (s : List ℕ) {st : Settings} {n : ℕ} {y z : List Float} {q₀ q : List ℕ} → Reads (read_week s) (week.Read st n) y z q₀ q → Taken (read_week s) st n z q
+taken_week s r = was_taken (read_week s) r (short s)
 
 -- the text of a week
-pub text-refused : (s : List ℕ) {k : ℕ} → week.Refused k ≡ answer (readWeek s) → weekText s ≡ refusedLine k
-unfolding weekText readingText
-text-refused s e = ap readingText (was-refused (readWeek s) e)
+pub text_refused : (s : List ℕ) {k : ℕ} → week.Refused k ≡ answer (read_week s) → week_text s ≡ refused_line k
+unfolding week_text reading_text
+text_refused s e = ap reading_text (was_refused (read_week s) e)
 
-pub text-taken : (s : List ℕ) {st : Settings} {n : ℕ} {z : List Float} {q : List ℕ} → Taken (readWeek s) st n z q → weekText s ≡ fitText st (take n z) (take n q)
-unfolding weekText readingText
-text-taken s {st} w = ap readingText w.week ∙ ap₂ (fitText st) (sym w.hours.is) (sym w.positions.is)
+pub text_taken : (s : List ℕ) {st : Settings} {n : ℕ} {z : List Float} {q : List ℕ} → Taken (read_week s) st n z q → week_text s ≡ fit_text st (take n z) (take n q)
+unfolding week_text reading_text
+text_taken s {st} w = ap reading_text w.week ∙ ap₂ (fit_text st) (sym w.hours.is) (sym w.positions.is)
 
 -- what an answer of the fit says
-was-no-fit : (a : Asked) (ps : List ℕ) (o : Outcome) {k : ℕ} → fits.Refused k ≡ answer_of o → outcomeText a ps o ≡ refusedLine k
-unfolding outcomeText answer_of
-was-no-fit a ps (refused j) e = ap refusedLine (sym (let f : _ ≡ j = cc in f))
-was-no-fit a ps (fitted f) e = impossible cc
+was_no_fit : (a : Asked) (ps : List ℕ) (o : Outcome) {k : ℕ} → fits.Refused k ≡ answer_of o → outcome_text a ps o ≡ refused_line k
+unfolding outcome_text answer_of
+was_no_fit a ps (refused j) e = ap refused_line (sym (let f : _ ≡ j = cc in f))
+was_no_fit a ps (fitted f) e = impossible cc
 
 pub record Listed (st : Settings) (y : List Float) (ps : List ℕ) (s : Summary) (t c : List Float) (k : List ℕ) : Type 0 where
-  pub text : fitText st y ps ≡ shownListing (shown st (length y) s) ps t c k
+  pub text : fit_text st y ps ≡ shown_listing (shown st (length y) s) ps t c k
   pub few : s.knots ≤ length y
   pub below : Below k s.knots (length ps)
 
-was-fit : (st : Settings) (y : List Float) (ps : List ℕ) (o : Outcome) (before : Outputs) {r : Answer} {s : Summary} {t c d : List Float} {k : List ℕ}
-    → length ps ≡ length y → fit (askedBy st y) weekLent ≡ o → r ≡ fits.Fit s → Gives o r before (outputs t c k d) → Listed st y ps s t c k
-unfolding fitText outcomeText listingOf shownLine shownListing summaryOf answer_of after
-was-fit st y ps (refused i) before {r} {s} n g e h =
+was_fit : (st : Settings) (y : List Float) (ps : List ℕ) (o : Outcome) (before : Outputs) {r : Answer} {s : Summary} {t c d : List Float} {k : List ℕ}
+    → length ps ≡ length y → fit (asked_by st y) week_lent ≡ o → r ≡ fits.Fit s → Gives o r before (outputs t c k d) → Listed st y ps s t c k
+unfolding fit_text outcome_text listing_of shown_line shown_listing summary_of answer_of after
+was_fit st y ps (refused i) before {r} {s} n g e h =
     let p : fits.Fit s ≡ answer_of (refused i) = sym e ∙ h.answer in
     impossible cc
-was-fit st y ps (fitted f) before {r} {s} {t} {c} {d} {k} n g e h =
+was_fit st y ps (fitted f) before {r} {s} {t} {c} {d} {k} n g e h =
     let p : fits.Fit s ≡ answer_of (fitted f) = sym e ∙ h.answer in
-    let es : summaryOf f ≡ s = cc in
-    let l = lengths (askedBy st y) weekLent f g in
-    let trend-is = ap (λ (o : Outputs). o.trend) h.out in
+    let es : summary_of f ≡ s = cc in
+    let l = lengths (asked_by st y) week_lent f g in
+    let trend_is = ap (λ (o : Outputs). o.trend) h.out in
     let cycle-is = ap (λ (o : Outputs). o.cycle) h.out in
     let knots-is = ap (λ (o : Outputs). o.knots) h.out in
     let knot-at : (i : ℕ) → i < length f.knots → get_or k i 0 ≡ get_or f.knots i 0 = λ i j. ap (λ (v : List ℕ). get_or v i 0) knots-is ∙ get_or-append f.knots (drop (0 + length f.knots) before.knots) 0 i j in
-    let r = knot-places (askedBy st y) weekLent f g in
+    let r = knot_places (asked_by st y) week_lent f g in
     subst (λ (x : Summary). Listed st y ps x t c k) es (record {
-      text = ap (outcomeText (askedBy st y) ps) g ∙ rw (take_all (length y) ps (omega arith), trend-is, cycle-is, knots-is, take_put before.trend f.trend (length y) refl l.trend, take_put before.cycle f.cycle (length y) refl l.cycle, take_put before.knots f.knots (length f.knots) refl refl);
+      text = ap (outcome_text (asked_by st y) ps) g ∙ rw (take_all (length y) ps (omega arith), trend_is, cycle-is, knots-is, take_put before.trend f.trend (length y) refl l.trend, take_put before.cycle f.cycle (length y) refl l.cycle, take_put before.knots f.knots (length f.knots) refl refl);
       few = omega (arith, l.knots);
       below = λ i j. omega (arith, knot-at i j, r.below i j);
     })
@@ -155,18 +155,18 @@ was-fit st y ps (fitted f) before {r} {s} {t} {c} {d} {k} n g e h =
 pub record Fitted (st : Settings) (y : List Float) (r : Answer) (t c : List Float) (k : List ℕ) : Type 0 where
   before : Outputs
   dual : List Float
-  gives : Gives (fit (askedBy st y) weekLent) r before (outputs t c k dual)
+  gives : Gives (fit (asked_by st y) week_lent) r before (outputs t c k dual)
 
-pub fits-lent : (st : Settings) (y : List Float) (l : Lent) {r : Answer} {b : Outputs} {t c d : List Float} {k : List ℕ} → Gives (fit (askedBy st y) l) r b (outputs t c k d) → weekLent ≡ l → Fitted st y r t c k
-fits-lent st y l {r} {b} {t} {c} {d} {k} h g = record { before = b; dual = d; gives = subst (λ (x : Lent). Gives (fit (askedBy st y) x) r b (outputs t c k d)) (sym g) h }
+pub fits-lent : (st : Settings) (y : List Float) (l : Lent) {r : Answer} {b : Outputs} {t c d : List Float} {k : List ℕ} → Gives (fit (asked_by st y) l) r b (outputs t c k d) → week_lent ≡ l → Fitted st y r t c k
+fits-lent st y l {r} {b} {t} {c} {d} {k} h g = record { before = b; dual = d; gives = subst (λ (x : Lent). Gives (fit (asked_by st y) x) r b (outputs t c k d)) (sym g) h }
 
 module _ {st : Settings} {y : List Float} {r : Answer} {t c : List Float} {k : List ℕ} (f : Fitted st y r t c k) where
   pub fit-listed : {s : Summary} (ps : List ℕ) → length ps ≡ length y → r ≡ fits.Fit s → Listed st y ps s t c k
-  fit-listed {s} ps n e = was-fit st y ps (fit (askedBy st y) weekLent) f.before n refl e f.gives
+  fit-listed {s} ps n e = was_fit st y ps (fit (asked_by st y) week_lent) f.before n refl e f.gives
 
-  pub fit_refused : {j : ℕ} (ps : List ℕ) → r ≡ fits.Refused j → fitText st y ps ≡ refusedLine j
-  unfolding fitText
-  fit_refused ps e = was-no-fit (askedBy st y) ps (fit (askedBy st y) weekLent) (sym e ∙ f.gives.answer)
+  pub fit_refused : {j : ℕ} (ps : List ℕ) → r ≡ fits.Refused j → fit_text st y ps ≡ refused_line j
+  unfolding fit_text
+  fit_refused ps e = was_no_fit (asked_by st y) ps (fit (asked_by st y) week_lent) (sym e ∙ f.gives.answer)
 
-pub lent_is : {t c k d w m : ℕ} → 168 ≡ t → 168 ≡ c → 168 ≡ k → 168 ≡ d → 6720 ≡ w → 336 ≡ m → weekLent ≡ record { trend = t; cycle = c; knots = k; dual = d; work = w; marks = m }
+pub lent_is : {t c k d w m : ℕ} → 168 ≡ t → 168 ≡ c → 168 ≡ k → 168 ≡ d → 6720 ≡ w → 336 ≡ m → week_lent ≡ record { trend = t; cycle = c; knots = k; dual = d; work = w; marks = m }
 lent_is et ec ek ed ew em = rw (sym et, sym ec, sym ek, sym ed, sym ew, sym em)

@@ -1,9 +1,11 @@
 // One week: from the bytes of its file to the bytes of its listing.
+#![tactic(auto)]
+
 ghost use Rattle.std.specs.Prelude.{◌≡◌, ◌≤◌, length};
 ghost use Rattle.vectors.specs.Parts.{Wrote};
 ghost use Rattle.io.specs.Counts.{IsPrefixLen};
 ghost use Rattle.week.specs.Shown.{shown};
-ghost use Rattle.week.specs.Week.{fitText, weekText};
+ghost use Rattle.week.specs.Week.{fit_text, week_text};
 
 use listing::Shown;
 use records::Settings;
@@ -33,7 +35,7 @@ fn shown(st: Settings, n: usize, s: Summary) -> Shown
 // Fits the series under its settings and writes its listing, with the position of each hour, or its refusal: answers how many bytes that is.
 fn fit_week(y: &[f64], positions: &[u32], st: Settings, out: &mut [u8; 16384]) -> usize
     requires { (length y.now ≤ 168) × (length positions.now ≡ length y.now) }
-    ensures { Wrote out.old 0 (fitText st y.now positions.now) out.new result }
+    ensures { Wrote out.old 0 (fit_text st y.now positions.now) out.new result }
 {
     let mut trend = [0.0f64; 168];
     let mut cycle = [0.0f64; 168];
@@ -60,7 +62,7 @@ fn fit_week(y: &[f64], positions: &[u32], st: Settings, out: &mut [u8; 16384]) -
 
 // The weekly program, from its input to what it prints, at the start of out: answers how many bytes that is.
 pub fn weekly(input: &[u8], out: &mut [u8; 16384]) -> usize
-    ensures wrote { Wrote out.old 0 (weekText input.now) out.new result }
+    ensures wrote { Wrote out.old 0 (week_text input.now) out.new result }
     ensures prefix_len { IsPrefixLen result out.new }
 {
     let mut y = [0.0f64; 168];

@@ -1,5 +1,7 @@
 // Reads a week from standard input and writes its listing, or its refusal, to standard output. An input that can't be read to its end
 // gives no output, and a line on standard error says so, as it does of a listing that can't be written.
+#![tactic(auto)]
+
 use streams::Input;
 
 // Writes the listing of the week.

@@ -1,22 +1,22 @@
 use borrow.Author.Rules.{rules}
 use native.Mathlib.Omega.{arith}
-use Rattle.active_set.proofs.Laws.{hold-place}
+use Rattle.active_set.proofs.Laws.{hold_place}
 use Rattle.active_set.proofs.mark_at.Statement.{statement}
 use Rattle.active_set.proofs.mark_at.Tie as tie
 
 returns : tie.Need-returns
 returns c = let a = c.before.before.before.args in
-    rw (hold-place a.lam a.a a.m a.s.now a.i (omega arith), c.if1.true)
+    rw (hold_place a.lam a.a a.m a.s.now a.i (omega arith), c.if1.true)
 
 returns-2 : tie.Need-returns-2
 returns-2 c = let one = c.before.before in
     let a = one.before.before.before.args in
-    rw (hold-place a.lam a.a a.m a.s.now a.i (omega arith), one.if1.false, c.if2.true)
+    rw (hold_place a.lam a.a a.m a.s.now a.i (omega arith), one.if1.false, c.if2.true)
 
 returns-3 : tie.Need-returns-3
 returns-3 c = let one = c.before.before in
     let a = one.before.before.before.args in
-    rw (hold-place a.lam a.a a.m a.s.now a.i (omega arith), one.if1.false, c.if2.false)
+    rw (hold_place a.lam a.a a.m a.s.now a.i (omega arith), one.if1.false, c.if2.false)
 
 pub mark-at-spec : {M : Type 1} → statement M
 mark-at-spec =

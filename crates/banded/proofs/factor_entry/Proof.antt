@@ -8,18 +8,18 @@ use native.Mathlib.Omega.{arith}
 use lib.ListN.{length}
 use lib.Ieee.{Float}
 use Rattle.float64.specs.Ops.{◌⊗◌}
-use Rattle.banded.specs.Rows.{lessFrom, reduced, entry, placed}
-use Rattle.banded.specs.Run.{flat, ofRun}
-use Rattle.banded.proofs.Laws.{within, wide, across, lessFrom-none, lessFrom-more}
+use Rattle.banded.specs.Rows.{less_from, reduced, entry, placed}
+use Rattle.banded.specs.Run.{flat, of_run}
+use Rattle.banded.proofs.Laws.{within, wide, across, less_from_none, less_from-more}
 use Rattle.banded.proofs.factor_entry.Statement.{statement}
 use Rattle.banded.proofs.factor_entry.Tie as tie
 
 -- what column t takes at row i and column j
 abbrev products : ℕ → List Float → ℕ → ℕ → ℕ → Float
-products k s i j t = ofRun k s i t ⊗ ofRun k s j t ⊗ ofRun k s t t
+products k s i j t = of_run k s i t ⊗ of_run k s j t ⊗ of_run k s t t
 
 abbrev invariant-loop : tie.invariant-loop
-invariant-loop s k r c w v₀ t₀ v t = (k - r ≤ t) × (t ≤ c) × (v ≡ lessFrom (flat k s r c) (products k s r (r + c - k)) (r - k) (r + t - k))
+invariant-loop s k r c w v₀ t₀ v t = (k - r ≤ t) × (t ≤ c) × (v ≡ less_from (flat k s r c) (products k s r (r + c - k)) (r - k) (r + t - k))
 
 abbrev decreases-loop : tie.decreases-loop
 decreases-loop s k r c w v₀ t₀ v t = c - t
@@ -37,7 +37,7 @@ get-requires c κs = let st = c.before.before in
     within a.k a.r a.r a.c _ st.requires.0 (omega arith) (omega arith)
 
 loop-holds : tie.Need-loop-init invariant-loop decreases-loop
-loop-holds c = (search rules, search rules, c.before.get.ensures ∙ sym (lessFrom-none _ _ _ _ (omega (arith, c.over.ensures))))
+loop-holds c = (search rules, search rules, c.before.get.ensures ∙ sym (less_from_none _ _ _ _ (omega (arith, c.over.ensures))))
 
 get-requires-3 : tie.Need-get-requires-3 invariant-loop decreases-loop
 get-requires-3 c κs = let at-loop = c.before.before in
@@ -62,7 +62,7 @@ loop-again c = let at-loop = c.before.before.before.before in
     let x : r + t - k + k - r ≡ t = omega arith in
     let y = across k r a.c t (omega arith) (omega arith) in
     let z = add-sub_cancel_left (r + t - k) k in
-    (search rules, search rules, lessFrom-more _ (products k a.s.now r (r + a.c - k)) (r - k) (r + t - k) at-loop.loop.invariant.2 (rw (x, y, z) (cc)) low next)
+    (search rules, search rules, less_from-more _ (products k a.s.now r (r + a.c - k)) (r - k) (r + t - k) at-loop.loop.invariant.2 (rw (x, y, z) (cc)) low next)
 
 get-requires-5 : tie.Need-get-requires-5 invariant-loop decreases-loop
 get-requires-5 c κs = let at-loop = c.before.before in

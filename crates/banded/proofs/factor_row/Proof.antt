@@ -3,7 +3,7 @@ use mathlib.Core.Path.{◌≡◌, refl}
 use Prim.Native.Nat.{◌≤◌, ◌-◌, ◌+◌}
 use native.Mathlib.Omega.{arith}
 use Rattle.banded.specs.Run.{Factored}
-use Rattle.banded.proofs.Laws.{one-row, within, row-none, row_more}
+use Rattle.banded.proofs.Laws.{one_row, within, row_none, row_more}
 use Rattle.banded.proofs.factor_row.Statement.{statement}
 use Rattle.banded.proofs.factor_row.Tie as tie
 
@@ -15,10 +15,10 @@ decreases-loop s₀ k r w b c₀ s c = k + 1 - c
 
 mul-b : tie.Need-overflow-mul-b invariant-loop decreases-loop
 mul-b c = let a = c.before.args in
-    omega (arith, one-row a.k a.r)
+    omega (arith, one_row a.k a.r)
 
 loop-holds : tie.Need-loop-init invariant-loop decreases-loop
-loop-holds c = (search rules, row-none)
+loop-holds c = (search rules, row_none)
 
 loop-again : tie.Need-loop-preserved invariant-loop decreases-loop
 loop-again c = let at-loop = c.before.before.before in

@@ -3,22 +3,22 @@ use mathlib.Core.Path.{◌≡◌, sym}
 use Prim.Native.Nat.{◌≤◌, ◌-◌, ◌+◌}
 use native.Mathlib.Omega.{arith}
 use Rattle.vectors.specs.Vec.{at}
-use Rattle.banded.specs.Run.{ofRun}
+use Rattle.banded.specs.Run.{of_run}
 use Rattle.float64.specs.Ops.{◌⊗◌}
-use Rattle.banded.specs.Rows.{lessFrom}
-use Rattle.banded.specs.Solve.{forwardAt}
-use Rattle.banded.proofs.Laws.{lessFrom-none, lessFrom-more}
+use Rattle.banded.specs.Rows.{less_from}
+use Rattle.banded.specs.Solve.{forward_at}
+use Rattle.banded.proofs.Laws.{less_from_none, less_from-more}
 use Rattle.banded.proofs.forward_at.Statement.{statement}
 use Rattle.banded.proofs.forward_at.Tie as tie
 
 abbrev invariant-loop : tie.invariant-loop
-invariant-loop s k b i v₀ t₀ v t = (k - i ≤ t) × (t ≤ k) × (v ≡ lessFrom (at s (b + i)) (λ j. ofRun k s i j ⊗ at s (b + j)) (i - k) (i + t - k))
+invariant-loop s k b i v₀ t₀ v t = (k - i ≤ t) × (t ≤ k) × (v ≡ less_from (at s (b + i)) (λ j. of_run k s i j ⊗ at s (b + j)) (i - k) (i + t - k))
 
 abbrev decreases-loop : tie.decreases-loop
 decreases-loop s k b i v₀ t₀ v t = k - t
 
 loop-holds : tie.Need-loop-init invariant-loop decreases-loop
-loop-holds c = (search rules, search rules, sym (lessFrom-none _ _ _ _ (omega (arith, c.over.ensures))))
+loop-holds c = (search rules, search rules, sym (less_from_none _ _ _ _ (omega (arith, c.over.ensures))))
 
 loop-again : tie.Need-loop-preserved invariant-loop decreases-loop
 loop-again c = let at-loop = c.before.before.before in
@@ -27,10 +27,10 @@ loop-again c = let at-loop = c.before.before.before in
     let i = a.i in
     let t = at-loop.loop.t in
     let x : i + t - k + k - i ≡ t = omega arith in
-    (search rules, search rules, lessFrom-more _ _ (i - k) (i + t - k) at-loop.loop.invariant.2 (rw x (cc)) (omega arith) (omega arith))
+    (search rules, search rules, less_from-more _ _ (i - k) (i + t - k) at-loop.loop.invariant.2 (rw x (cc)) (omega arith) (omega arith))
 
 returns : tie.Need-returns invariant-loop decreases-loop
-unfolding forwardAt
+unfolding forward_at
 returns c = let at-loop = c.before in
     let a = at-loop.before.before.before.before.args in
     let e : a.i + at-loop.loop.t - a.k ≡ a.i = omega arith in

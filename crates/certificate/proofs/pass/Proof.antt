@@ -4,9 +4,9 @@ use Prim.Native.Nat.{◌≤◌, ◌-◌}
 use native.Mathlib.Omega.{arith}
 use lib.ListN.{length, length-set}
 use lib.Ieee.{Float}
-use Rattle.float64.specs.Helpers.{absOf}
-use Rattle.certificate.specs.Run.{fallOf, trendOf, Passed, Last}
-use Rattle.certificate.proofs.Laws.{length-minus, stored, passed-more, last_more}
+use Rattle.float64.specs.Helpers.{abs_of}
+use Rattle.certificate.specs.Run.{fall_of, trend_of, Passed, Last}
+use Rattle.certificate.proofs.Laws.{length-minus, stored, passed_more, last_more}
 use borrow.Author.Rules.{rules}
 use Rattle.certificate.proofs.pass.Statement.{statement}
 use Rattle.certificate.proofs.pass.Tie as tie
@@ -14,7 +14,7 @@ use Rattle.certificate.proofs.pass.Tie as tie
 abbrev invariant-loop : tie.invariant-loop
 invariant-loop s₁ y dy k from to inner n e a₀ b₀ g₀ x1₀ x2₀ j₀ s a b g x1 x2 j = (from ≤ j) × (j ≤ to) × (length s ≡ length s₁)
     × ((s₀ : List Float) → Passed k y dy s₀ s₁ from (record { squares = a₀; dx = b₀; dot = g₀ })
-    → Passed k y dy s₀ s j (record { squares = a; dx = b; dot = g }) × Last k (trendOf k y s₀) j x1 x2)
+    → Passed k y dy s₀ s j (record { squares = a; dx = b; dot = g }) × Last k (trend_of k y s₀) j x1 x2)
 
 abbrev decreases-loop : tie.decreases-loop
 decreases-loop s₁ y dy k from to inner n e a₀ b₀ g₀ x1₀ x2₀ j₀ s a b g x1 x2 j = to - j
@@ -68,8 +68,8 @@ loop-again c = let ju = c.before.before.before in
       λ s₀ p.
           let q = inv.3 s₀ p in
           let v = stored q.0.trend (omega arith) (omega arith) fa.fall.ensures in
-          let x = ju.jump.ensures (trendOf a.k a.y.now s₀) l.j (omega arith) (omega (arith, length-minus a.y.now (fallOf a.k a.y.now s₀))) v q.1 in
-          (passed-more q.0 (omega arith) (omega arith) (omega arith) fa.fall.ensures (c.before.before.abs.ensures ∙ ap absOf x), last_more (omega arith) v q.1),
+          let x = ju.jump.ensures (trend_of a.k a.y.now s₀) l.j (omega arith) (omega (arith, length-minus a.y.now (fall_of a.k a.y.now s₀))) v q.1 in
+          (passed_more q.0 (omega arith) (omega arith) (omega arith) fa.fall.ensures (c.before.before.abs.ensures ∙ ap abs_of x), last_more (omega arith) v q.1),
     )
 
 returns : tie.Need-returns invariant-loop decreases-loop

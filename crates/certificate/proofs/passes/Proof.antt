@@ -1,7 +1,7 @@
 use mathlib.Core.Path.{refl}
 use native.Mathlib.Omega.{arith}
 use Rattle.float64.proofs.Clash.{clash}
-use Rattle.certificate.proofs.Laws.{passed_none, passed-all}
+use Rattle.certificate.proofs.Laws.{passed_none, passed_all}
 use borrow.Author.Rules.{rules}
 use Rattle.certificate.proofs.passes.Statement.{statement}
 use Rattle.certificate.proofs.passes.Tie as tie
@@ -16,7 +16,7 @@ returns : tie.Need-returns
 returns c = let pa = c.before.before in
     let hd = pa.before.before.before.before.before in
     let a = (begun hd).args in
-    passed-all (pa.pass.ensures a.s.now (passed_none a.dy.now hd.head.ensures)) (omega arith) (omega arith)
+    passed_all (pa.pass.ensures a.s.now (passed_none a.dy.now hd.head.ensures)) (omega arith) (omega arith)
 
 pass-requires-3 : tie.Need-pass-requires-3
 pass-requires-3 c κs = record { beside = search rules; after = search rules; order = search rules; within = search rules; away = λ i. absurd (clash i refl) }
@@ -26,7 +26,7 @@ returns-2 c = let pa = c.before.before in
     let p2 = pa.before.before.before.before in
     let hd = p2.before.before.before.before.before in
     let a = (begun hd).args in
-    passed-all (pa.pass3.ensures a.s.now (p2.pass2.ensures a.s.now (passed_none a.dy.now hd.head.ensures))) (omega arith) (omega arith)
+    passed_all (pa.pass3.ensures a.s.now (p2.pass2.ensures a.s.now (passed_none a.dy.now hd.head.ensures))) (omega arith) (omega arith)
 
 pub passes-spec : {M : Type 1} → statement M
 passes-spec =

@@ -3,7 +3,7 @@ use native.Mathlib.Omega.{arith}
 use lib.ListN.{length}
 use Prim.Native.Nat.{◌+◌, ◌-◌}
 use Rattle.vectors.specs.Sums.{inside}
-use Rattle.vectors.proofs.Parts.{range-part}
+use Rattle.vectors.proofs.Parts.{range_part}
 use Rattle.certificate.proofs.Laws.{certified}
 use Rattle.certify.proofs.Laws.{beside, point, length-point}
 use borrow.Author.Rules.{rules}
@@ -18,7 +18,7 @@ certify-inside-requires c κs = let th = c.before.before in
     let st = begun th.before in
     let a = st.args in
     let n = length a.y.now in
-    let z = range-part n (n + (n - a.k)) (n - a.k) a.s.now refl st.pre.0.room in
+    let z = range_part n (n + (n - a.k)) (n - a.k) a.s.now refl st.pre.0.room in
     (st.pre.0, st.pre.1, ap (inside a.lam) (sym z) ∙ sym th.before.inside.ensures ∙ th.if1.true)
 
 passes-requires : tie.Need-passes-requires

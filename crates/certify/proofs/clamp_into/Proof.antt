@@ -2,7 +2,7 @@ use mathlib.Core.Path.{◌≡◌, sym}
 use Prim.Native.Nat.{◌≤◌, ◌-◌}
 use native.Mathlib.Omega.{arith}
 use lib.ListN.{length}
-use Rattle.float64.specs.Helpers.{clampOf}
+use Rattle.float64.specs.Helpers.{clamp_of}
 use Rattle.vectors.specs.Vec.{at}
 use Rattle.vectors.specs.Parts.{Written}
 use Rattle.vectors.proofs.Laws.{none, up, written-put}
@@ -13,7 +13,7 @@ use Rattle.certify.proofs.clamp_into.Statement.{statement}
 use Rattle.certify.proofs.clamp_into.Tie as tie
 
 abbrev invariant-loop : tie.invariant-loop
-invariant-loop dual₀ z lam i₀ dual i = (i ≤ length z) × Written 0 i (λ j. clampOf (at z j) lam) dual₀ dual
+invariant-loop dual₀ z lam i₀ dual i = (i ≤ length z) × Written 0 i (λ j. clamp_of (at z j) lam) dual₀ dual
 
 abbrev decreases-loop : tie.decreases-loop
 decreases-loop dual₀ z lam i₀ dual i = length z - i
@@ -37,7 +37,7 @@ returns c = let lp = c.before in
     let a = lp.before.before.before.args in
     let z = a.z.now in
     let e : lp.loop.i ≡ length z = omega arith in
-    let w : Written 0 (length z) (λ j. clampOf (at z j) a.lam) a.dual.now lp.loop.dual = rw e at lp.loop.invariant.1 in
+    let w : Written 0 (length z) (λ j. clamp_of (at z j) a.lam) a.dual.now lp.loop.dual = rw e at lp.loop.invariant.1 in
     written-put (clamped a.lam z) w (length-clamped a.lam z) (omega arith) (λ i h. sym (at-clamped a.lam z i h))
 
 pub clamp-into-spec : {M : Type 1} → statement M

@@ -4,10 +4,10 @@ use native.Mathlib.Omega.{arith}
 use lib.ListN.{length}
 use lib.Ieee.{Float, neg}
 use Rattle.float64.specs.Ops.{◌⊕◌, ◌⊗◌, half}
-use Rattle.vectors.specs.Sums.{norm2Sq, dot}
-use Rattle.differences.specs.Diff.{diffKT}
+use Rattle.vectors.specs.Sums.{norm2_sq, dot}
+use Rattle.differences.specs.Diff.{diff_kt}
 use Rattle.certificate.proofs.Laws.{length-clamped}
-use Rattle.certify.proofs.Laws.{clamped-first}
+use Rattle.certify.proofs.Laws.{clamped_first}
 use borrow.Author.Rules.{rules}
 use Rattle.certify.proofs.dual_of.Statement.{statement}
 use Rattle.certify.proofs.dual_of.Tie as tie
@@ -21,16 +21,16 @@ product-requires c κs = let cl = c.before.before.before.before.before.before.be
     let st = begun cl in
     let a = st.args in
     let z = a.z.now in
-    omega (arith, st.pre.1, ap length (clamped-first a.lam z a.dual.now _ st.pre.2 cl.clamp-into.ensures), length-clamped a.lam z)
+    omega (arith, st.pre.1, ap length (clamped_first a.lam z a.dual.now _ st.pre.2 cl.clamp-into.ensures), length-clamped a.lam z)
 
 returns : tie.Need-returns
 returns c = let fs = c.before.before.before in
     let cl = fs.before.before.before.before.before in
     let st = begun cl in
     let a = st.args in
-    let first = clamped-first a.lam a.z.now a.dual.now _ st.pre.2 cl.clamp-into.ensures in (
+    let first = clamped_first a.lam a.z.now a.dual.now _ st.pre.2 cl.clamp-into.ensures in (
       ap₂ (λ (u v : Float). neg half ⊗ u ⊕ v)
-          (fs.fall-squares.ensures ∙ ap (λ (v : List Float). norm2Sq (diffKT a.k v)) first)
+          (fs.fall-squares.ensures ∙ ap (λ (v : List Float). norm2_sq (diff_kt a.k v)) first)
           (c.product.ensures ∙ ap (λ (v : List Float). dot v a.dy.now) first),
       cl.clamp-into.ensures,
     )

@@ -4,11 +4,11 @@ use Prim.Native.Nat.{◌+◌, ◌-◌, ◌*◌, ◌≤◌}
 use native.Mathlib.Omega.{arith}
 use lib.ListN.{length}
 use Rattle.vectors.specs.Vec.{put}
-use Rattle.vectors.proofs.Texts.{put-start}
-use Rattle.vectors.proofs.Parts.{first_part, range-part}
-use Rattle.differences.specs.Diff.{diffK}
-use Rattle.differences.proofs.Laws.{length-diffK}
-use Rattle.closed_paths.proofs.Areas.{kept-wide}
+use Rattle.vectors.proofs.Texts.{put_start}
+use Rattle.vectors.proofs.Parts.{first_part, range_part}
+use Rattle.differences.specs.Diff.{diff_k}
+use Rattle.differences.proofs.Laws.{length-diff_k}
+use Rattle.closed_paths.proofs.Areas.{kept_wide}
 use Rattle.closed_paths.proofs.differences_to.Statement.{statement}
 use Rattle.closed_paths.proofs.differences_to.Tie as tie
 
@@ -25,9 +25,9 @@ returns c = let cp = c.before.before in
     let room = p.room.work in
     let cycle = p.cycle in
     let fits : 4 * n + m ≤ length w = omega arith in
-    let put-at = cp.copy.ensures ∙ ap (put c₀ 0) (range-part (4 * n) (4 * n + m) m w (omega arith) fits ∙ p.differences) in
-    let h = put-start m c₀ (diffK a.k y) _ put-at (length-diffK a.k y) (omega arith) in
-    record { known = first_part m _ (omega (arith, h.1.size)) ∙ h.0; kept = kept-wide 0 n h.1 (omega arith) (omega arith) }
+    let put-at = cp.copy.ensures ∙ ap (put c₀ 0) (range_part (4 * n) (4 * n + m) m w (omega arith) fits ∙ p.differences) in
+    let h = put_start m c₀ (diff_k a.k y) _ put-at (length-diff_k a.k y) (omega arith) in
+    record { known = first_part m _ (omega (arith, h.1.size)) ∙ h.0; kept = kept_wide 0 n h.1 (omega arith) (omega arith) }
 
 pub differences-to-spec : {M : Type 1} → statement M
 differences-to-spec =

@@ -8,7 +8,7 @@ use lib.Ieee.{nan}
 use Rattle.vectors.proofs.Laws.{kept_then}
 use Rattle.vectors.proofs.Parts.{part-size, kept_put}
 use Rattle.gram.specs.Prepared.{preparation}
-use Rattle.dual_point.specs.Lanes.{searchArea}
+use Rattle.dual_point.specs.Lanes.{search_area}
 use Rattle.questions.specs.Asking.{asking}
 use Rattle.closed_paths.specs.Trends.{reach}
 use Rattle.closed_paths.proofs.Areas.{rows_fit, flat-found}
@@ -77,9 +77,9 @@ returns c = let ce = c.before.before.before.before.before.before in
       says = λ t. flat-found (asking y a.lam t.0 t.1.0 a.k t.1.1) w x a.dual.now ce.certify-l1.new.1.0 r.primal r.dual (omega arith) fits size (copied.0 ∙ p.star) ce.certify-l1.ensures;
       stands = omega (arith, made.size);
       changed = record {
-        work = kept_then (preparation n) (searchArea n) copied.1 made (omega arith) (omega arith) (omega arith) (omega arith);
+        work = kept_then (preparation n) (search_area n) copied.1 made (omega arith) (omega arith) (omega arith) (omega arith);
         cycle = dt.differences-to.ensures.kept;
-        dual = ce.certify-l1.ensures.dual-kept;
+        dual = ce.certify-l1.ensures.dual_kept;
       };
     })
 

@@ -9,17 +9,17 @@ use native.Mathlib.Omega.{arith}
 use lib.ListN.{length, take, drop}
 use lib.Ieee.{Float, nan}
 use Rattle.vectors.proofs.Laws.{kept-none}
-use Rattle.vectors.proofs.Parts.{put_back, length_part, range-part, part-size, kept_put}
-use Rattle.vectors.proofs.Texts.{put-start}
-use Rattle.differences.specs.Diff.{diffK}
+use Rattle.vectors.proofs.Parts.{put_back, length_part, range_part, part-size, kept_put}
+use Rattle.vectors.proofs.Texts.{put_start}
+use Rattle.differences.specs.Diff.{diff_k}
 use Rattle.gram.specs.Prepared.{preparation}
-use Rattle.l2.specs.L2.{trendL2, scaled}
+use Rattle.l2.specs.L2.{trend_l2, scaled}
 use Rattle.l2.specs.Solved.{Ended}
 use Rattle.l2.proofs.Scaled.{length-scaled}
 use Rattle.questions.specs.Asking.{asking}
 use Rattle.fit.specs.Fit.{closed}
-use Rattle.closed_paths.specs.Trends.{ridgeArea, trendOf, reach, said, reached}
-use Rattle.closed_paths.proofs.Areas.{kept-wide, rows_fit, solution-stands, goodL2, l2-sound, l2-unsound, some-none}
+use Rattle.closed_paths.specs.Trends.{ridge_area, trend_of, reach, said, reached}
+use Rattle.closed_paths.proofs.Areas.{kept_wide, rows_fit, solution-stands, good_l2, l2_sound, l2_unsound, some_none}
 use Rattle.closed_paths.proofs.l2_path.Statement.{statement}
 use Rattle.closed_paths.proofs.l2_path.Tie as tie
 
@@ -59,14 +59,14 @@ returns c = let sl = c.before.before.before in
     let size : length x ≡ 9 * n - a = part-size a (9 * n - a) w x (omega arith) sl.solve-l2.auto.0 in
     let made = kept_put a (9 * n - a) w x (omega arith) size nan in
     λ tol m p c'. record {
-      says = l2-unsound (asking y g.lam tol m k p) (sym sl.solve-l2.ensures.sound ∙ not-true _ c.if1.true);
+      says = l2_unsound (asking y g.lam tol m k p) (sym sl.solve-l2.ensures.sound ∙ not-true _ c.if1.true);
       stands = omega arith;
       lost = λ e. (refl, refl);
-      changed = record { work = kept-wide (preparation n) (ridgeArea n) made (omega arith) (omega arith); cycle = kept-none 0 n c'; dual = kept-none 0 (n - k) g.dual.now };
+      changed = record { work = kept_wide (preparation n) (ridge_area n) made (omega arith) (omega arith); cycle = kept-none 0 n c'; dual = kept-none 0 (n - k) g.dual.now };
     }
 
 returns-2 : tie.Need-returns-2
-unfolding said reached reach trendOf
+unfolding said reached reach trend_of
 returns-2 c = let ob = c.before.before.before in
     let el = ob.before.before.before.before in
     let sl = el.before.before.before in
@@ -87,21 +87,21 @@ returns-2 c = let ob = c.before.before.before in
     let made = kept_put a (e - a) w₀ x (omega arith) size nan in
     let held = solution-stands k y g.lam w₀ x sl.solve-l2.result a e (omega arith) (omega arith) (omega arith) size sl.solve-l2.ensures yes in
     let w = put_back a (e - a) w₀ x in
-    let t = trendL2 k y g.lam in
+    let t = trend_l2 k y g.lam in
     let d₀ = g.dual.now in
     let d = ob.objectives.new.0 in
     let long : length t ≡ n = sym (ap length held) ∙ length_part b n w in
-    let ended = subst (λ (v : List Float). Ended k y g.lam v d₀ d ob.objectives.result) (range-part b e n w (omega arith) (omega (arith, made.size)) ∙ held) ob.objectives.ensures in
-    let dual = put-start (n - k) d₀ (scaled g.lam (diffK k t)) d ended.dual (length-scaled g.lam k t ∙ ap (λ (q : ℕ). q - k) long) st.requires.1 in
+    let ended = subst (λ (v : List Float). Ended k y g.lam v d₀ d ob.objectives.result) (range_part b e n w (omega arith) (omega (arith, made.size)) ∙ held) ob.objectives.ensures in
+    let dual = put_start (n - k) d₀ (scaled g.lam (diff_k k t)) d ended.dual (length-scaled g.lam k t ∙ ap (λ (q : ℕ). q - k) long) st.requires.1 in
     rw c.closed.ensures
     (λ tol m p c'.
     let a = asking y g.lam tol m k p in
-    let q = l2-sound a (sym sl.solve-l2.ensures.sound ∙ yes) in
+    let q = l2_sound a (sym sl.solve-l2.ensures.sound ∙ yes) in
     record {
       says = (λ i. some (record { trend = held i; dual = dual.0 i; numbers = closed (ended.gap i) (ended.objective i) })) ∙ q;
       stands = omega (arith, made.size);
-      lost = λ z. absurd (some-none (goodL2 a) (q ∙ z));
-      changed = record { work = kept-wide (preparation n) (ridgeArea n) made (omega arith) (omega arith); cycle = kept-none 0 n c'; dual = dual.1 };
+      lost = λ z. absurd (some_none (good_l2 a) (q ∙ z));
+      changed = record { work = kept_wide (preparation n) (ridge_area n) made (omega arith) (omega arith); cycle = kept-none 0 n c'; dual = dual.1 };
     })
 
 pub l2-path-spec : {M : Type 1} → statement M

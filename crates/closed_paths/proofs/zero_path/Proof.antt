@@ -10,13 +10,13 @@ use Rattle.vectors.specs.Parts.{Written}
 use Rattle.vectors.proofs.Laws.{kept-none, written-kept}
 use Rattle.vectors.proofs.Parts.{store-done}
 use Rattle.gram.specs.Prepared.{preparation}
-use Rattle.fit.specs.Fit.{closed, pathZero}
-use Rattle.closed_paths.specs.Trends.{trendOf, reach}
+use Rattle.fit.specs.Fit.{closed, path_zero}
+use Rattle.closed_paths.specs.Trends.{trend_of, reach}
 use Rattle.closed_paths.proofs.zero_path.Statement.{statement}
 use Rattle.closed_paths.proofs.zero_path.Tie as tie
 
 returns : tie.Need-returns
-unfolding reach trendOf pathZero
+unfolding reach trend_of path_zero
 returns c = let fi = c.before.before.before in
     let st = fi.before.before.before.before in
     let a = st.args in

@@ -1,7 +1,7 @@
 use mathlib.Core.Path.{◌∙◌}
 use borrow.Author.Rules.{rules}
-use Rattle.compared.specs.Inner.{sameAnswer}
-use Rattle.compared.proofs.Told.{held, parts-short}
+use Rattle.compared.specs.Inner.{same_answer}
+use Rattle.compared.proofs.Told.{held, parts_short}
 use Rattle.compared.proofs.same_answer.Statement.{statement}
 use Rattle.compared.proofs.same_answer.Tie as tie
 
@@ -21,7 +21,7 @@ part-same-fit-end-2 c = let r = c.before.before in
 
 part-same-fit-end-3 : tie.Need-slice-bounds-same-fit-end-3
 part-same-fit-end-3 c = let r = c.before.before.before in
-    (held r.r2.given.1 (begun r).requires.0).knots-in
+    (held r.r2.given.1 (begun r).requires.0).knots_in
 
 part-same-fit-end-4 : tie.Need-slice-bounds-same-fit-end-4
 part-same-fit-end-4 c = let r = c.before.before.before.before in
@@ -30,15 +30,15 @@ part-same-fit-end-4 c = let r = c.before.before.before.before in
 same-fit-requires : tie.Need-same-fit-requires
 same-fit-requires c κs = let r = c.before.before.before.before.before in
     let p = (begun r).requires in
-    (parts-short _ _ _ _ (held r.r2.given.1 p.0), p.1)
+    (parts_short _ _ _ _ (held r.r2.given.1 p.0), p.1)
 
 returns : tie.Need-returns
-unfolding sameAnswer
+unfolding same_answer
 returns c = let w = c.before in
     rw (w.before.before.r.given.1, w.wide.ensures, c.word.ensures)
 
 returns-2 : tie.Need-returns-2
-unfolding sameAnswer
+unfolding same_answer
 returns-2 c = c.same-fit.ensures ∙ rw c.before.before.before.before.before.before.r2.given.1
 
 pub same-answer-spec : {M : Type 1} → statement M

@@ -1,10 +1,10 @@
 use borrow.Author.Rules.{rules}
-use Rattle.compared.specs.Outcomes.{sameFit}
+use Rattle.compared.specs.Outcomes.{same_fit}
 use Rattle.compared.proofs.same_fit.Statement.{statement}
 use Rattle.compared.proofs.same_fit.Tie as tie
 
 returns : tie.Need-returns
-unfolding sameFit
+unfolding same_fit
 returns c = let b = c.before in
     let p = b.before in
     let n = p.before in

@@ -1,11 +1,11 @@
 use borrow.Author.Rules.{rules}
-use Rattle.stored.specs.Words.{sameTo}
-use Rattle.compared.specs.Outcomes.{sameSummary}
+use Rattle.stored.specs.Words.{same_to}
+use Rattle.compared.specs.Outcomes.{same_summary}
 use Rattle.compared.proofs.same_summary.Statement.{statement}
 use Rattle.compared.proofs.same_summary.Tie as tie
 
 returns : tie.Need-returns
-unfolding sameSummary sameTo
+unfolding same_summary same_to
 returns c = let k = c.before in
     let d = k.before.before in
     let b = d.before.before in

@@ -2,7 +2,7 @@ use mathlib.Core.Path.{◌≡◌}
 use Prim.Native.Nat.{◌-◌, ◌≤◌}
 use native.Mathlib.Omega.{arith}
 use lib.ListN.{length}
-use Rattle.vectors.specs.Vec.{placesTo}
+use Rattle.vectors.specs.Vec.{places_to}
 use Rattle.vectors.specs.Parts.{Wrote}
 use Rattle.vectors.proofs.Texts.{wrote_none, wrote-length}
 use Rattle.vectors.proofs.Places.{places-few, places-more}
@@ -12,13 +12,13 @@ use Rattle.crossings.proofs.list_crossings.Statement.{statement}
 use Rattle.crossings.proofs.list_crossings.Tie as tie
 
 abbrev invariant-loop : tie.invariant-loop
-invariant-loop list₀ level trend m n₀ i₀ list n i = (i ≤ length trend - 1) × (length list ≡ length list₀) × Wrote list₀ 0 (placesTo (crosses_at level trend) i) list n
+invariant-loop list₀ level trend m n₀ i₀ list n i = (i ≤ length trend - 1) × (length list ≡ length list₀) × Wrote list₀ 0 (places_to (crosses_at level trend) i) list n
 
 abbrev decreases-loop : tie.decreases-loop
 decreases-loop list₀ level trend m n₀ i₀ list n i = m - i
 
 loop-holds : tie.Need-loop-init invariant-loop decreases-loop
-unfolding placesTo
+unfolding places_to
 loop-holds c = (search rules, search rules, wrote_none _ 0 (search rules))
 
 add-place-requires : tie.Need-add-place-requires invariant-loop decreases-loop

@@ -3,26 +3,26 @@ use Prim.Native.Nat.{◌-◌, ◌≤◌}
 use native.Mathlib.Omega.{arith}
 use lib.ListN.{length}
 use lib.Ieee.{lt}
-use Rattle.float64.specs.Helpers.{absOf}
-use Rattle.vectors.specs.Vec.{at, placesTo}
+use Rattle.float64.specs.Helpers.{abs_of}
+use Rattle.vectors.specs.Vec.{at, places_to}
 use Rattle.vectors.specs.Parts.{Wrote}
 use Rattle.vectors.proofs.Texts.{wrote_none, wrote-length}
 use Rattle.vectors.proofs.Places.{places-few, places-more}
-use Rattle.differences.specs.Diff.{diffK}
-use Rattle.differences.proofs.Laws.{length-diffK}
+use Rattle.differences.specs.Diff.{diff_k}
+use Rattle.differences.proofs.Laws.{length-diff_k}
 use Rattle.decomposition.specs.Knots.{knots}
 use borrow.Author.Rules.{rules}
 use Rattle.decomposition.proofs.find_knots.Statement.{statement}
 use Rattle.decomposition.proofs.find_knots.Tie as tie
 
 abbrev invariant-loop : tie.invariant-loop
-invariant-loop knots₀ x y k t m n₀ i₀ knots n i = (i ≤ length x - k) × (length knots ≡ length knots₀) × Wrote knots₀ 0 (placesTo (λ j. lt t (absOf (at (diffK k x) j))) i) knots n
+invariant-loop knots₀ x y k t m n₀ i₀ knots n i = (i ≤ length x - k) × (length knots ≡ length knots₀) × Wrote knots₀ 0 (places_to (λ j. lt t (abs_of (at (diff_k k x) j))) i) knots n
 
 abbrev decreases-loop : tie.decreases-loop
 decreases-loop knots₀ x y k t m n₀ i₀ knots n i = length x - k - i
 
 loop-holds : tie.Need-loop-init invariant-loop decreases-loop
-unfolding placesTo
+unfolding places_to
 loop-holds c = (search rules, search rules, wrote_none _ 0 (search rules))
 
 add-place-requires : tie.Need-add-place-requires invariant-loop decreases-loop
@@ -30,7 +30,7 @@ add-place-requires c κs = let lp = c.before.before.before.before in
     let th = lp.before in
     let a = th.before.before.before.before.args in
     let l = lp.loop in
-    (omega (arith, l.invariant.2.next, places-few (λ j. lt th.threshold.result (absOf (at (diffK a.k a.x.now) j))) l.i), omega arith)
+    (omega (arith, l.invariant.2.next, places-few (λ j. lt th.threshold.result (abs_of (at (diff_k a.k a.x.now) j))) l.i), omega arith)
 
 loop-again : tie.Need-loop-preserved invariant-loop decreases-loop
 loop-again c = let ad = c.before.before in
@@ -38,7 +38,7 @@ loop-again c = let ad = c.before.before in
     let di = ab.before in
     let lp = di.before.before in
     let l = lp.loop in
-    let w = places-more _ l.i l.invariant.2 ad.add-place.ensures (omega arith) (ap (lt lp.before.threshold.result) (ab.abs.ensures ∙ ap absOf di.diff-at.ensures)) in
+    let w = places-more _ l.i l.invariant.2 ad.add-place.ensures (omega arith) (ap (lt lp.before.threshold.result) (ab.abs.ensures ∙ ap abs_of di.diff-at.ensures)) in
     (search rules, wrote-length w, w)
 
 returns : tie.Need-returns invariant-loop decreases-loop
@@ -46,7 +46,7 @@ unfolding knots
 returns c = let l = c.before.loop in
     let th = c.before.before in
     let a = th.before.before.before.before.args in
-    let e : l.i ≡ length (diffK a.k a.x.now) = omega (arith, length-diffK a.k a.x.now) in
+    let e : l.i ≡ length (diff_k a.k a.x.now) = omega (arith, length-diff_k a.k a.x.now) in
     rw (e, th.threshold.ensures) at l.invariant.2
 
 pub find-knots-spec : {M : Type 1} → statement M

@@ -2,24 +2,24 @@ use mathlib.Core.Path.{◌≡◌, refl, ap, ◌∙◌}
 use Prim.Native.Nat.{◌≤◌, ◌-◌}
 use native.Mathlib.Omega.{arith}
 use lib.ListN.{length}
-use Rattle.float64.specs.Helpers.{absOf}
+use Rattle.float64.specs.Helpers.{abs_of}
 use Rattle.vectors.specs.Vec.{at}
-use Rattle.vectors.specs.Sums.{maxTo, maxAbs}
+use Rattle.vectors.specs.Sums.{max_to, max_abs}
 use Rattle.vectors.proofs.Sums.{max-more}
-use Rattle.differences.specs.Diff.{diffK}
-use Rattle.differences.proofs.Laws.{length-diffK}
+use Rattle.differences.specs.Diff.{diff_k}
+use Rattle.differences.proofs.Laws.{length-diff_k}
 use borrow.Author.Rules.{rules}
 use Rattle.decomposition.proofs.greatest.Statement.{statement}
 use Rattle.decomposition.proofs.greatest.Tie as tie
 
 abbrev invariant-loop : tie.invariant-loop
-invariant-loop y k m a₀ b₀ i₀ a b i = (i ≤ m) × ((a ≡ maxTo (λ j. absOf (at (diffK k y) j)) i) × (b ≡ maxTo (λ j. absOf (at y j)) i))
+invariant-loop y k m a₀ b₀ i₀ a b i = (i ≤ m) × ((a ≡ max_to (λ j. abs_of (at (diff_k k y) j)) i) × (b ≡ max_to (λ j. abs_of (at y j)) i))
 
 abbrev decreases-loop : tie.decreases-loop
 decreases-loop y k m a₀ b₀ i₀ a b i = m - i
 
 loop-holds : tie.Need-loop-init invariant-loop decreases-loop
-unfolding maxTo
+unfolding max_to
 loop-holds c = (search rules, (refl, refl))
 
 loop-again : tie.Need-loop-preserved invariant-loop decreases-loop
@@ -28,17 +28,17 @@ loop-again c = let first = c.before.before.before in
     let lp = made.before.before in (
       search rules,
       (
-        first.max.ensures ∙ max-more _ _ _ _ lp.loop.invariant.1.0 (first.before.abs.ensures ∙ ap absOf made.diff-at.ensures),
+        first.max.ensures ∙ max-more _ _ _ _ lp.loop.invariant.1.0 (first.before.abs.ensures ∙ ap abs_of made.diff-at.ensures),
         c.max2.ensures ∙ max-more _ _ _ _ lp.loop.invariant.1.1 c.before.abs2.ensures,
       ),
     )
 
 returns : tie.Need-returns invariant-loop decreases-loop
-unfolding maxAbs
+unfolding max_abs
 returns c = let lp = c.before.before in
     let a = lp.before.before.args in
     let t : lp.loop.i ≡ length a.y.now - a.k = omega arith in
-    let e : lp.loop.i ≡ length (diffK a.k a.y.now) = omega (arith, length-diffK a.k a.y.now) in
+    let e : lp.loop.i ≡ length (diff_k a.k a.y.now) = omega (arith, length-diff_k a.k a.y.now) in
     (rw e at lp.loop.invariant.1.0, c.max-rest.ensures (rw t at lp.loop.invariant.1.1))
 
 pub greatest-spec : {M : Type 1} → statement M

@@ -2,16 +2,16 @@ use mathlib.Core.Path.{◌≡◌, ◌∙◌}
 use Prim.Native.Nat.{◌≤◌, ◌-◌}
 use native.Mathlib.Omega.{arith}
 use lib.ListN.{length}
-use Rattle.float64.specs.Helpers.{absOf}
+use Rattle.float64.specs.Helpers.{abs_of}
 use Rattle.vectors.specs.Vec.{at}
-use Rattle.vectors.specs.Sums.{maxTo, maxAbs}
+use Rattle.vectors.specs.Sums.{max_to, max_abs}
 use Rattle.vectors.proofs.Sums.{max-more}
 use borrow.Author.Rules.{rules}
 use Rattle.decomposition.proofs.max_rest.Statement.{statement}
 use Rattle.decomposition.proofs.max_rest.Tie as tie
 
 abbrev invariant-loop : tie.invariant-loop
-invariant-loop y from top top₀ i₀ top' i = (i ≤ length y) × (top ≡ maxTo (λ j. absOf (at y j)) from → top' ≡ maxTo (λ j. absOf (at y j)) i)
+invariant-loop y from top top₀ i₀ top' i = (i ≤ length y) × (top ≡ max_to (λ j. abs_of (at y j)) from → top' ≡ max_to (λ j. abs_of (at y j)) i)
 
 abbrev decreases-loop : tie.decreases-loop
 decreases-loop y from top top₀ i₀ top' i = length y - i
@@ -23,7 +23,7 @@ loop-again : tie.Need-loop-preserved invariant-loop decreases-loop
 loop-again c = (search rules, λ s. c.max.ensures ∙ max-more _ _ _ _ (c.before.before.before.before.loop.invariant.1 s) c.before.abs.ensures)
 
 returns : tie.Need-returns invariant-loop decreases-loop
-unfolding maxAbs
+unfolding max_abs
 returns c = let e : c.before.loop.i ≡ length c.before.before.before.args.y.now = omega arith in
     λ s. rw e at (c.before.loop.invariant.1 s)
 

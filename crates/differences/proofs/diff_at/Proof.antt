@@ -1,6 +1,6 @@
 use mathlib.Core.Path.{◌≡◌, sym}
 use native.Mathlib.Omega.{arith}
-use Rattle.differences.proofs.Laws.{at-diff-1, at-diff-2}
+use Rattle.differences.proofs.Laws.{at-diff_1, at-diff_2}
 use borrow.Author.Rules.{rules}
 use Rattle.differences.proofs.diff_at.Statement.{statement}
 use Rattle.differences.proofs.diff_at.Tie as tie
@@ -9,13 +9,13 @@ returns : tie.Need-returns
 returns c = let first = c.before.before in
     let a = first.before.args in
     let e : a.k ≡ 1 = first.if1.true in
-    rw e (sym (at-diff-1 a.y.now a.i (omega arith)))
+    rw e (sym (at-diff_1 a.y.now a.i (omega arith)))
 
 returns-2 : tie.Need-returns-2
 returns-2 c = let second = c.before.before.before.before in
     let a = second.before.args in
     let e : a.k ≡ 2 = omega arith in
-    rw e (sym (at-diff-2 a.y.now a.i (omega arith)))
+    rw e (sym (at-diff_2 a.y.now a.i (omega arith)))
 
 pub diff-at-spec : {M : Type 1} → statement M
 diff-at-spec =

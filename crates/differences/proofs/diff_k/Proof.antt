@@ -5,14 +5,14 @@ use lib.ListN.{length}
 use Rattle.vectors.specs.Vec.{at}
 use Rattle.vectors.specs.Parts.{Written}
 use Rattle.vectors.proofs.Laws.{none, up, written-put}
-use Rattle.differences.specs.Diff.{diffK}
-use Rattle.differences.proofs.Laws.{length-diffK}
+use Rattle.differences.specs.Diff.{diff_k}
+use Rattle.differences.proofs.Laws.{length-diff_k}
 use borrow.Author.Rules.{rules}
 use Rattle.differences.proofs.diff_k.Statement.{statement}
 use Rattle.differences.proofs.diff_k.Tie as tie
 
 abbrev invariant-loop : tie.invariant-loop
-invariant-loop d₀ y k m i₀ d i = (i ≤ m) × Written 0 i (at (diffK k y)) d₀ d
+invariant-loop d₀ y k m i₀ d i = (i ≤ m) × Written 0 i (at (diff_k k y)) d₀ d
 
 abbrev decreases-loop : tie.decreases-loop
 decreases-loop d₀ y k m i₀ d i = m - i
@@ -31,8 +31,8 @@ returns c = let a = c.before.before.before.before.args in
     let l = c.before.loop in
     let m = length a.y.now - a.k in
     let e : l.i ≡ m = omega arith in
-    let w : Written 0 m (at (diffK a.k a.y.now)) a.d.now l.d = rw e at l.invariant.1 in
-    written-put (diffK a.k a.y.now) w (length-diffK a.k a.y.now) (omega arith) (λ i h. refl)
+    let w : Written 0 m (at (diff_k a.k a.y.now)) a.d.now l.d = rw e at l.invariant.1 in
+    written-put (diff_k a.k a.y.now) w (length-diff_k a.k a.y.now) (omega arith) (λ i h. refl)
 
 pub diff-k-spec : {M : Type 1} → statement M
 diff-k-spec =

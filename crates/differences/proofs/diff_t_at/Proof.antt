@@ -1,6 +1,6 @@
 use mathlib.Core.Path.{◌≡◌, sym}
 use native.Mathlib.Omega.{arith}
-use Rattle.differences.proofs.Laws.{at-fall-1, at-fall-2}
+use Rattle.differences.proofs.Laws.{at-fall_1, at-fall_2}
 use borrow.Author.Rules.{rules}
 use Rattle.differences.proofs.diff_t_at.Statement.{statement}
 use Rattle.differences.proofs.diff_t_at.Tie as tie
@@ -9,14 +9,14 @@ returns-2 : tie.Need-returns-2
 returns-2 c = let first = c.before in
     let a = first.before.before.before.args in
     let e : a.k ≡ 1 = first.if3.true in
-    rw (e, c.fall-at.ensures) (sym (at-fall-1 a.z.now a.j (omega arith)))
+    rw (e, c.fall-at.ensures) (sym (at-fall_1 a.z.now a.j (omega arith)))
 
 returns-3 : tie.Need-returns-3
 returns-3 c = let b = c.before in
     let second = b.before in
     let a = second.before.before.before.args in
     let e : a.k ≡ 2 = omega arith in
-    rw (e, b.fall-before.ensures, c.fall-here.ensures) (sym (at-fall-2 a.z.now a.j (omega arith)))
+    rw (e, b.fall-before.ensures, c.fall-here.ensures) (sym (at-fall_2 a.z.now a.j (omega arith)))
 
 pub diff-t-at-spec : {M : Type 1} → statement M
 diff-t-at-spec =

@@ -1,6 +1,6 @@
 use mathlib.Core.Path.{◌≡◌, sym}
 use native.Mathlib.Omega.{arith}
-use Rattle.differences.proofs.Laws.{inner-1, inner-2}
+use Rattle.differences.proofs.Laws.{inner_1, inner_2}
 use borrow.Author.Rules.{rules}
 use Rattle.differences.proofs.diff_t_inner.Statement.{statement}
 use Rattle.differences.proofs.diff_t_inner.Tie as tie
@@ -9,13 +9,13 @@ returns : tie.Need-returns
 returns c = let first = c.before.before in
     let a = first.before.args in
     let e : a.k ≡ 1 = first.if1.true in
-    rw e (sym (inner-1 a.z.now a.j (omega arith) (omega arith)))
+    rw e (sym (inner_1 a.z.now a.j (omega arith) (omega arith)))
 
 returns-2 : tie.Need-returns-2
 returns-2 c = let second = c.before.before.before.before in
     let a = second.before.args in
     let e : a.k ≡ 2 = omega arith in
-    rw e (sym (inner-2 a.z.now a.j (omega arith) (omega arith)))
+    rw e (sym (inner_2 a.z.now a.j (omega arith) (omega arith)))
 
 pub diff-t-inner-spec : {M : Type 1} → statement M
 diff-t-inner-spec =

@@ -6,15 +6,15 @@ use lib.ListN.{length}
 use lib.Ieee.{Float}
 use Rattle.float64.specs.Ops.{◌⊗◌}
 use Rattle.vectors.specs.Vec.{at}
-use Rattle.vectors.specs.Sums.{sum_to, norm2Sq}
+use Rattle.vectors.specs.Sums.{sum_to, norm2_sq}
 use Rattle.vectors.proofs.Sums.{sum_more}
-use Rattle.differences.specs.Diff.{diffKT}
-use Rattle.differences.proofs.Laws.{length-diffKT}
+use Rattle.differences.specs.Diff.{diff_kt}
+use Rattle.differences.proofs.Laws.{length-diff_kt}
 use Rattle.differences.proofs.fall_squares.Statement.{statement}
 use Rattle.differences.proofs.fall_squares.Tie as tie
 
 abbrev invariant-loop : tie.invariant-loop
-invariant-loop v k n sum₀ j₀ sum j = (j ≤ n) × (sum ≡ sum_to (λ i. at (diffKT k v) i ⊗ at (diffKT k v) i) j)
+invariant-loop v k n sum₀ j₀ sum j = (j ≤ n) × (sum ≡ sum_to (λ i. at (diff_kt k v) i ⊗ at (diff_kt k v) i) j)
 
 abbrev decreases-loop : tie.decreases-loop
 decreases-loop v k n sum₀ j₀ sum j = n - j
@@ -27,9 +27,9 @@ loop-again : tie.Need-loop-preserved invariant-loop decreases-loop
 loop-again c = (search rules, sum_more _ _ _ _ c.before.before.loop.invariant.1 (ap (λ (d : Float). d ⊗ d) c.diff-t-at.ensures))
 
 returns : tie.Need-returns invariant-loop decreases-loop
-unfolding norm2Sq
+unfolding norm2_sq
 returns c = let p = c.before.before.before.args in
-    let e : c.before.loop.j ≡ length (diffKT p.k p.v.now) = omega (arith, length-diffKT p.k p.v.now) in
+    let e : c.before.loop.j ≡ length (diff_kt p.k p.v.now) = omega (arith, length-diff_kt p.k p.v.now) in
     rw e at c.before.loop.invariant.1
 
 pub fall-squares-spec : {M : Type 1} → statement M

@@ -4,21 +4,21 @@ use mathlib.Core.Bool.{false}
 use Prim.Native.Nat.{◌≤◌, ◌-◌}
 use lib.Ieee.{is_nan}
 use native.Mathlib.Omega.{arith}
-use Rattle.direction.specs.Direction.{stepCapTo}
+use Rattle.direction.specs.Direction.{step_cap_to}
 use Rattle.direction.specs.Places.{Edge}
 use Rattle.dual_point.specs.Places.{point}
-use Rattle.direction.proofs.Laws.{cap-more, one_number}
+use Rattle.direction.proofs.Laws.{cap_more, one_number}
 use Rattle.direction.proofs.cap.Statement.{statement}
 use Rattle.direction.proofs.cap.Tie as tie
 
 abbrev invariant-loop : tie.invariant-loop
-invariant-loop s b m c₀ i₀ c i = (i ≤ m) × (c.step ≡ stepCapTo (point 0 m s) (point b m s) i) × (is_nan c.step ≡ false) × Edge c.step c.edge
+invariant-loop s b m c₀ i₀ c i = (i ≤ m) × (c.step ≡ step_cap_to (point 0 m s) (point b m s) i) × (is_nan c.step ≡ false) × Edge c.step c.edge
 
 abbrev decreases-loop : tie.decreases-loop
 decreases-loop s b m c₀ i₀ c i = m - i
 
 loop-holds : tie.Need-loop-init invariant-loop decreases-loop
-unfolding stepCapTo
+unfolding step_cap_to
 loop-holds c = (search rules, refl, one_number, c.Edge-of.ensures)
 
 loop-again : tie.Need-loop-preserved invariant-loop decreases-loop
@@ -27,7 +27,7 @@ loop-again c = let one = c.before.before.before in
     let l = lc.loop in
     let a = lc.before.before.before.args in (
       search rules,
-      c.capped2.ensures.0 ∙ cap-more a.b a.m a.s.now l.i l.c.step one.capped.result.step (omega arith) l.invariant.1 one.capped.ensures.0,
+      c.capped2.ensures.0 ∙ cap_more a.b a.m a.s.now l.i l.c.step one.capped.result.step (omega arith) l.invariant.1 one.capped.ensures.0,
       c.capped2.ensures.1,
       c.capped2.ensures.2,
     )

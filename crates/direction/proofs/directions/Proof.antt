@@ -10,7 +10,7 @@ returns c = let two = c.before.before.before.before in
     let a = one.before.before.before.args in
     let x = one.fill-dmu in
     let y = two.fill-dmu2 in
-    directed a.b a.m a.lam a.inv-t a.s.now x.new.0 y.new.0 c.cap.result (omega arith) x.ensures.0 x.ensures.1 y.ensures.0 y.ensures.1 c.cap.ensures
+    directed a.b a.m a.lam a.inv_t a.s.now x.new.0 y.new.0 c.cap.result (omega arith) x.ensures.0 x.ensures.1 y.ensures.0 y.ensures.1 c.cap.ensures
 
 pub directions-spec : {M : Type 1} → statement M
 directions-spec =

@@ -1,11 +1,11 @@
 use borrow.Author.Rules.{rules}
-use Rattle.float64.proofs.Helpers.{top-no-nan}
-use Rattle.direction.proofs.Edges.{edge-top}
+use Rattle.float64.proofs.Helpers.{top_no_nan}
+use Rattle.direction.proofs.Edges.{edge_top}
 use Rattle.direction.proofs.edge_of.Statement.{statement}
 use Rattle.direction.proofs.edge_of.Tie as tie
 
 returns-2 : tie.Need-returns-2
-returns-2 c = edge-top _ c.before.requires
+returns-2 c = edge_top _ c.before.requires
 
 pub edge-of-spec : {M : Type 1} → statement M
-edge-of-spec = tie.close (tie.spec (λ c. search rules) (λ c. top-no-nan) returns-2)
+edge-of-spec = tie.close (tie.spec (λ c. search rules) (λ c. top_no_nan) returns-2)

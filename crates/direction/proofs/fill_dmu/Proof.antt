@@ -8,20 +8,20 @@ use native.Mathlib.Nat.{add-zero}
 use lib.Ieee.{nan, Float}
 use Rattle.vectors.specs.Vec.{at}
 use Rattle.vectors.specs.Parts.{Written}
-use Rattle.vectors.proofs.Laws.{none, store-more, written-kept}
+use Rattle.vectors.proofs.Laws.{none, store_more, written-kept}
 use Rattle.vectors.proofs.Parts.{store-done}
-use Rattle.direction.specs.Places.{dmuAt}
+use Rattle.direction.specs.Places.{dmu_at}
 use Rattle.direction.proofs.fill_dmu.Statement.{statement}
 use Rattle.direction.proofs.fill_dmu.Tie as tie
 
 abbrev falling : ℕ → ℕ → Float → Float → Bool → List Float → ℕ → Float
-falling b c lam inv-t lower s i = dmuAt lower lam inv-t (at s i) (at s (c + i)) (at s (b + i))
+falling b c lam inv_t lower s i = dmu_at lower lam inv_t (at s i) (at s (c + i)) (at s (b + i))
 
 abbrev invariant-loop : tie.invariant-loop
-invariant-loop s₀ b c lam inv-t m lower i₀ s i = (i ≤ m) × Written (b + c) (b + c + i) (λ j. falling b c lam inv-t lower s₀ (j - (b + c))) s₀ s
+invariant-loop s₀ b c lam inv_t m lower i₀ s i = (i ≤ m) × Written (b + c) (b + c + i) (λ j. falling b c lam inv_t lower s₀ (j - (b + c))) s₀ s
 
 abbrev decreases-loop : tie.decreases-loop
-decreases-loop s₀ b c lam inv-t m lower i₀ s i = m - i
+decreases-loop s₀ b c lam inv_t m lower i₀ s i = m - i
 
 loop-holds : tie.Need-loop-init invariant-loop decreases-loop
 loop-holds c = (search rules, rw add-zero none)
@@ -32,7 +32,7 @@ loop-again c = let lc = c.before.before.before.before.before in
     let a = lc.before.before.args in
     let w = l.invariant.1 in (
       search rules,
-      store-more (a.b + a.c) l.i (falling a.b a.c a.lam a.inv-t a.lower a.s.now) a.s.now l.s c.dmu-at.result w (omega (arith, w.size))
+      store_more (a.b + a.c) l.i (falling a.b a.c a.lam a.inv_t a.lower a.s.now) a.s.now l.s c.dmu-at.result w (omega (arith, w.size))
           (c.dmu-at.ensures ∙ rw (w.below l.i (omega arith), w.below (a.c + l.i) (omega arith), w.below (a.b + l.i) (omega arith))),
     )
 
@@ -40,7 +40,7 @@ returns : tie.Need-returns invariant-loop decreases-loop
 returns c = let l = c.before.loop in
     let a = c.before.before.before.args in
     let e : l.i ≡ a.m = omega arith in
-    let f : ℕ → Float = falling a.b a.c a.lam a.inv-t a.lower a.s.now in
+    let f : ℕ → Float = falling a.b a.c a.lam a.inv_t a.lower a.s.now in
     let w : Written (a.b + a.c) (a.b + a.c + a.m) (λ j. f (j - (a.b + a.c))) a.s.now l.s = rw e at l.invariant.1 in
     (store-done nan (a.b + a.c) a.m f a.s.now l.s w, written-kept w)
 

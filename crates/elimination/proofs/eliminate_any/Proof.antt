@@ -3,7 +3,7 @@ use mathlib.Core.Path.{refl, ap, ◌∙◌}
 use native.Mathlib.Omega.{arith}
 use Rattle.banded.specs.Rows.{good}
 use Rattle.banded.proofs.Laws.{within, row_fits}
-use Rattle.elimination.proofs.Elimination.{eliminated-any}
+use Rattle.elimination.proofs.Elimination.{eliminated_any}
 use Rattle.elimination.proofs.eliminate_any.Statement.{statement}
 use Rattle.elimination.proofs.eliminate_any.Tie as tie
 
@@ -37,7 +37,7 @@ returns c = let forward = c.before in
     let got = forward.before.before in
     let made = got.before.before.before.before in
     let st = made.before.before.before in
-    eliminated-any _ made.factor-row.ensures st.requires refl forward.forward-at.ensures (c.is-good.ensures ∙ ap good got.get.ensures)
+    eliminated_any _ made.factor-row.ensures st.requires refl forward.forward-at.ensures (c.is-good.ensures ∙ ap good got.get.ensures)
 
 pub eliminate-any-spec : {M : Type 1} → statement M
 eliminate-any-spec =

@@ -2,7 +2,7 @@ use borrow.Author.Rules.{rules}
 use borrow.Author.Tests.{not-true, not-false}
 use Prim.Native.Nat.{◌-◌}
 use native.Mathlib.Omega.{arith}
-use Rattle.elimination.proofs.Elimination.{Factoring, factoring-none, factoring-more, factoring-bad, factoring-done}
+use Rattle.elimination.proofs.Elimination.{Factoring, factoring_none, factoring-more, factoring-bad, factoring-done}
 use Rattle.elimination.proofs.factor.Statement.{statement}
 use Rattle.elimination.proofs.factor.Tie as tie
 
@@ -13,7 +13,7 @@ abbrev decreases-loop : tie.decreases-loop
 decreases-loop s₀ k m r₀ s r = m - r
 
 loop-holds : tie.Need-loop-init invariant-loop decreases-loop
-loop-holds c = factoring-none _ _ _
+loop-holds c = factoring_none _ _ _
 
 returns : tie.Need-returns invariant-loop decreases-loop
 returns c = let row = c.before.before.before in

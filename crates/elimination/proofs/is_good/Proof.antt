@@ -1,6 +1,6 @@
 use lib.Dec.{T}
 use lib.Ieee.{binary64, fits}
-use Rattle.elimination.proofs.Pivots.{above-0, not-above-0}
+use Rattle.elimination.proofs.Pivots.{above_0, not_above_0}
 use mathlib.Core.Path.{sym, subst, ◌∙◌}
 use Rattle.elimination.proofs.is_good.Statement.{statement}
 use Rattle.elimination.proofs.is_good.Tie as tie
@@ -10,10 +10,10 @@ held : (c : tie.Start) → T (fits binary64 c.args.x)
 held c = subst T (sym c.well-formed.0.1) tt
 
 returns : tie.Need-returns
-returns c = above-0 c.before.args.x (held c.before) c.if1.true
+returns c = above_0 c.before.args.x (held c.before) c.if1.true
 
 returns-2 : tie.Need-returns-2
-returns-2 c = c.if1.false ∙ sym (not-above-0 c.before.args.x c.if1.false)
+returns-2 c = c.if1.false ∙ sym (not_above_0 c.before.args.x c.if1.false)
 
 pub is-good-spec : {M : Type 1} → statement M
 is-good-spec = tie.close (tie.spec returns returns-2)

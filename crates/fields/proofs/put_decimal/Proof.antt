@@ -2,7 +2,7 @@ use mathlib.Core.Path.{◌∙◌}
 use Prim.Native.Nat.{◌≤◌}
 use lib.Dec.{lit<, lit≤}
 use Rattle.fields.specs.Fields.{decimal}
-use Rattle.fields.proofs.Decimals.{fewest-le, fewest-decimal}
+use Rattle.fields.proofs.Decimals.{fewest_le, fewest_decimal}
 use native.Mathlib.Omega.{arith}
 use borrow.Author.Rules.{rules}
 use Rattle.fields.proofs.put_decimal.Statement.{statement}
@@ -10,7 +10,7 @@ use Rattle.fields.proofs.put_decimal.Tie as tie
 
 -- twenty digits hold it
 few : (c : tie.After-decimal) → c.decimal.result ≤ 20
-few c = fewest-le 10 1 c.before.before.before.args.n _ 20 (lit< tt) (lit≤ tt) (omega (arith, c.before.before.before.ranges.n)) c.decimal.ensures.1.0
+few c = fewest_le 10 1 c.before.before.before.args.n _ 20 (lit< tt) (lit≤ tt) (omega (arith, c.before.before.before.ranges.n)) c.decimal.ensures.1.0
 
 put-all-requires : tie.Need-put-all-requires
 put-all-requires c κs = let d = c.before.before in
@@ -23,7 +23,7 @@ returns c = let p = c.before.before in
     let e = d.decimal.ensures in
     let w = p.put_all_lem.ensures.wrote in
     let n = d.before.before.before in
-    record { wrote = rw (e.1.1 ∙ fewest-decimal 19 _ n.args.n (omega (arith, n.ranges.n)) e.1.0) at w; short = omega (arith, w.next, e.0.1, few d) }
+    record { wrote = rw (e.1.1 ∙ fewest_decimal 19 _ n.args.n (omega (arith, n.ranges.n)) e.1.0) at w; short = omega (arith, w.next, e.0.1, few d) }
 
 pub put-decimal-spec : {M : Type 1} → statement M
 put-decimal-spec =

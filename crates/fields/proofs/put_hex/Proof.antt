@@ -3,8 +3,8 @@ use mathlib.Core.Path.{◌≡◌, ap₂, ◌∙◌}
 use Prim.Native.Nat.{ℕ, ◌≤◌}
 use lib.Dec.{lit<, lit≤}
 use Rattle.io.specs.Digits.{last_digits}
-use Rattle.fields.specs.Fields.{hexOf}
-use Rattle.fields.proofs.Decimals.{fewest-le}
+use Rattle.fields.specs.Fields.{hex_of}
+use Rattle.fields.proofs.Decimals.{fewest_le}
 use borrow.Author.Rules.{rules}
 use Rattle.fields.proofs.put_hex.Statement.{statement}
 use Rattle.fields.proofs.put_hex.Tie as tie
@@ -12,7 +12,7 @@ use Rattle.fields.proofs.put_hex.Tie as tie
 -- sixteen digits
 few : (c : tie.After-hex) → c.hex.result ≡ 16
 few c =
-    let l : c.hex.result ≤ 16 = fewest-le 16 16 c.before.before.pattern.result _ 16 (lit< tt) (lit≤ tt) (omega (arith, c.before.before.pattern.type-inv)) c.hex.ensures.1.0 in
+    let l : c.hex.result ≤ 16 = fewest_le 16 16 c.before.before.pattern.result _ 16 (lit< tt) (lit≤ tt) (omega (arith, c.before.before.pattern.type-inv)) c.hex.ensures.1.0 in
     omega (arith, c.hex.ensures.1.0.0)
 
 put-all-requires : tie.Need-put-all-requires
@@ -20,7 +20,7 @@ put-all-requires c κs = let d = c.before.before in
     omega (arith, d.hex.ensures.0.1, few d)
 
 returns : tie.Need-returns
-unfolding hexOf
+unfolding hex_of
 returns c = let p = c.before.before in
     let d = p.before.before.before in
     let e = d.hex.ensures in

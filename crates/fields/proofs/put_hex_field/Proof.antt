@@ -1,11 +1,11 @@
-use Rattle.fields.specs.Fields.{hexField}
+use Rattle.fields.specs.Fields.{hex_field}
 use Rattle.fields.proofs.Writers.{puts_then}
 use borrow.Author.Rules.{rules}
 use Rattle.fields.proofs.put_hex_field.Statement.{statement}
 use Rattle.fields.proofs.put_hex_field.Tie as tie
 
 returns : tie.Need-returns
-unfolding hexField
+unfolding hex_field
 returns c = let b = c.before.before in
     let a = b.before.before.before.before in
     puts_then a.put_byte.ensures b.put-hex.ensures

@@ -2,7 +2,7 @@
 use mathlib.Core.Path.{sym, subst}
 use lib.Dec.{T}
 use lib.Ieee.{binary64, fits}
-use Rattle.float64.proofs.Helpers.{abs-kept, abs-turned}
+use Rattle.float64.proofs.Helpers.{abs_kept, abs_turned}
 use Rattle.float64.proofs.abs.Statement.{statement}
 use Rattle.float64.proofs.abs.Tie as tie
 
@@ -11,10 +11,10 @@ held : (c : tie.Start) → T (fits binary64 c.args.x)
 held c = subst T (sym c.well-formed.0.1) tt
 
 returns : tie.Need-returns
-returns c = abs-kept c.before.args.x (held c.before) c.if1.true
+returns c = abs_kept c.before.args.x (held c.before) c.if1.true
 
 returns-2 : tie.Need-returns-2
-returns-2 c = abs-turned c.before.args.x (held c.before) c.if1.false
+returns-2 c = abs_turned c.before.args.x (held c.before) c.if1.false
 
 pub abs-spec : {M : Type 1} → statement M
 abs-spec = tie.close (tie.spec returns returns-2)

@@ -1,18 +1,18 @@
 -- `float64::clamp` meets its contract: each arm returns what the tests pick. Assumes nothing.
-use Rattle.float64.specs.Helpers.{clampOf}
+use Rattle.float64.specs.Helpers.{clamp_of}
 use Rattle.float64.proofs.clamp.Statement.{statement}
 use Rattle.float64.proofs.clamp.Tie as tie
 
 returns : tie.Need-returns
-unfolding clampOf
+unfolding clamp_of
 returns c = rw c.if1.true
 
 returns-2 : tie.Need-returns-2
-unfolding clampOf
+unfolding clamp_of
 returns-2 c = rw (c.before.if1.false, c.if2.true)
 
 returns-3 : tie.Need-returns-3
-unfolding clampOf
+unfolding clamp_of
 returns-3 c = rw (c.before.if1.false, c.if2.false)
 
 pub clamp_spec : {M : Type 1} → statement M

@@ -1,20 +1,20 @@
 -- `float64::max` meets its contract: each arm returns what the tests pick. Assumes nothing.
-use Rattle.float64.proofs.Helpers.{nan-true, nan-false}
+use Rattle.float64.proofs.Helpers.{nan_true, nan_false}
 use Rattle.float64.specs.Helpers.{max_of}
 use Rattle.float64.proofs.max.Statement.{statement}
 use Rattle.float64.proofs.max.Tie as tie
 
 returns : tie.Need-returns
 unfolding max_of
-returns c = rw (nan-true c.before.args.a c.if1.true)
+returns c = rw (nan_true c.before.args.a c.if1.true)
 
 returns-2 : tie.Need-returns-2
 unfolding max_of
-returns-2 c = rw (nan-false c.before.before.args.a c.before.if1.false, c.if2.true)
+returns-2 c = rw (nan_false c.before.before.args.a c.before.if1.false, c.if2.true)
 
 returns-3 : tie.Need-returns-3
 unfolding max_of
-returns-3 c = rw (nan-false c.before.before.args.a c.before.if1.false, c.if2.false)
+returns-3 c = rw (nan_false c.before.before.args.a c.before.if1.false, c.if2.false)
 
 pub max-spec : {M : Type 1} → statement M
 max-spec = tie.close (tie.spec returns returns-2 returns-3)

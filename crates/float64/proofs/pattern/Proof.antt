@@ -1,6 +1,6 @@
 use mathlib.Core.Path.{◌≡◌, refl, sym, ap, ◌∙◌}
 use lib.Ieee.{binary64, nan, to_bits}
-use Rattle.float64.proofs.Helpers.{is-nan, no_nan}
+use Rattle.float64.proofs.Helpers.{is_nan_lem, no_nan}
 use borrow.Author.Rules.{rules}
 use Rattle.float64.proofs.pattern.Statement.{statement}
 use Rattle.float64.proofs.pattern.Tie as tie
@@ -14,7 +14,7 @@ float-to-bits-result : tie.Need-float-to-bits-result
 float-to-bits-result c = no_nan c.before.args.x c.if1.false
 
 returns : tie.Need-returns
-returns c = sym (ap (to_bits binary64) (is-nan c.before.args.x c.if1.true) ∙ nan-shown)
+returns c = sym (ap (to_bits binary64) (is_nan_lem c.before.args.x c.if1.true) ∙ nan-shown)
 
 pub pattern-spec : {M : Type 1} → statement M
 pattern-spec = tie.close (tie.spec float-to-bits-result returns (λ c. search rules))

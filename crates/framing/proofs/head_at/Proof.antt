@@ -1,32 +1,32 @@
 use borrow.Author.Tests.{lt-ltb, le-ltb, le-leb, lt-leb}
-use Rattle.framing.specs.Places.{headAt}
+use Rattle.framing.specs.Places.{head_at}
 use borrow.Author.Rules.{rules}
 use Rattle.framing.proofs.head_at.Statement.{statement}
 use Rattle.framing.proofs.head_at.Tie as tie
 
 returns : tie.Need-returns
-unfolding headAt
+unfolding head_at
 returns c = simp (le-leb _ _ c.if1.true)
 
 returns-2 : tie.Need-returns-2
-unfolding headAt
+unfolding head_at
 returns-2 c = simp (lt-leb _ _ c.before.if1.false, lt-ltb _ _ c.if2.true)
 
 returns-3 : tie.Need-returns-3
-unfolding headAt
+unfolding head_at
 returns-3 c = let w = c.before in
     let e = w.before in
     simp (lt-leb _ _ e.before.if1.false, le-ltb _ _ e.if2.false, lt-ltb _ _ (rw w.two.ensures.0 at c.if3.true))
 
 returns-4 : tie.Need-returns-4
-unfolding headAt
+unfolding head_at
 returns-4 c = let w = c.before.before in
     let e = w.before in
     let l = w.two.ensures.0 in
     simp (lt-leb _ _ e.before.if1.false, le-ltb _ _ e.if2.false, le-ltb _ _ (rw l at c.before.if3.false), lt-ltb _ _ (rw l at c.if4.true))
 
 returns-5 : tie.Need-returns-5
-unfolding headAt
+unfolding head_at
 returns-5 c = let f = c.before in
     let w = f.before.before in
     let e = w.before in

@@ -2,7 +2,7 @@ use mathlib.Core.Path.{◌≡◌}
 use Prim.Native.Nat.{◌≤◌, ◌-◌, ◌+◌, ◌*◌}
 use native.Mathlib.Omega.{arith}
 use Rattle.banded.specs.Layout.{Laid}
-use Rattle.banded.proofs.Laws.{one-row, rows_fit}
+use Rattle.banded.proofs.Laws.{one_row, rows_fit}
 use Rattle.banded.proofs.Filling.{laid_none, laid_more}
 use Rattle.gram.specs.Gram.{gram}
 use borrow.Author.Rules.{rules}
@@ -22,13 +22,13 @@ loop-holds c = let a = c.before.args in
 mul-gram-row : tie.Need-overflow-mul-gram-row invariant-loop decreases-loop
 mul-gram-row c = let lp = c.before.before in
     let a = lp.before.before.args in
-    omega (arith, one-row a.k lp.loop.r, rows_fit a.k lp.loop.r a.m (a.m * (a.k + 1)) (omega arith) (omega arith))
+    omega (arith, one_row a.k lp.loop.r, rows_fit a.k lp.loop.r a.m (a.m * (a.k + 1)) (omega arith) (omega arith))
 
 gram-row-requires : tie.Need-gram-row-requires invariant-loop decreases-loop
 gram-row-requires c κs = let lp = c.before.before in
     let a = lp.before.before.args in
     let size = lp.loop.invariant.1.kept.size in
-    (omega arith, omega (arith, one-row a.k lp.loop.r, rows_fit a.k lp.loop.r a.m (a.m * (a.k + 1)) (omega arith) (omega arith)))
+    (omega arith, omega (arith, one_row a.k lp.loop.r, rows_fit a.k lp.loop.r a.m (a.m * (a.k + 1)) (omega arith) (omega arith)))
 
 loop-again : tie.Need-loop-preserved invariant-loop decreases-loop
 loop-again c = let gr = c.before.before in

@@ -5,7 +5,7 @@ use Prim.Native.Nat.{◌+◌, ◌-◌, ◌≤◌}
 use native.Mathlib.Omega.{arith}
 use lib.ListN.{length}
 use Rattle.vectors.proofs.Parts.{part-size}
-use Rattle.gram.specs.Prepared.{diffLane, preparation}
+use Rattle.gram.specs.Prepared.{diff_lane, preparation}
 use Rattle.gram.proofs.System.{system-fits, system-laid}
 use Rattle.gram.proofs.lay_system.Statement.{statement}
 use Rattle.gram.proofs.lay_system.Tie as tie
@@ -36,10 +36,10 @@ returns c = let co = c.before.before in
     let m = n - k in
     let s = fi.fill-gram.new.0 in
     let x = di.diff-k.new.0 in
-    let e : diffLane n + m - diffLane n ≡ m = omega arith in
+    let e : diff_lane n + m - diff_lane n ≡ m = omega arith in
     let size = fi.fill-gram.ensures.kept.size in
     let room : preparation n ≤ length s = omega (arith, st.requires.1) in
-    let l = part-size (diffLane n) m s x (omega arith) (rw e at di.diff-k.auto.0) in
+    let l = part-size (diff_lane n) m s x (omega arith) (rw e at di.diff-k.auto.0) in
     let w = rw e at co.copy_within.ensures in
     system-laid k y s x st.requires.0 room l (rw e at di.diff-k.ensures) (rw of.gram-offsets.ensures at fi.fill-gram.ensures) w.0 w.1
 

@@ -3,9 +3,9 @@ use mathlib.Core.Path.{refl, ap, ◌∙◌}
 use Prim.Native.Nat.{◌+◌, ◌-◌}
 use native.Mathlib.Omega.{arith}
 use lib.ListN.{length}
-use Rattle.vectors.specs.Sums.{maxAbs}
-use Rattle.vectors.proofs.Parts.{range-part}
-use Rattle.gram.specs.Prepared.{starLane}
+use Rattle.vectors.specs.Sums.{max_abs}
+use Rattle.vectors.proofs.Parts.{range_part}
+use Rattle.gram.specs.Prepared.{star_lane}
 use Rattle.gram.proofs.System.{system-solved}
 use Rattle.gram.proofs.prepare.Statement.{statement}
 use Rattle.gram.proofs.prepare.Tie as tie
@@ -19,8 +19,8 @@ returns c = let so = c.before.before.before.before.before in
     let s = so.factor-solve-at.new.0 in
     let h = la.lay-system.ensures in
     let q = so.factor-solve-at.ensures in
-    let t = range-part (starLane k n) (starLane k n + (n - k)) (n - k) s refl (omega (arith, h.ends, h.kept.size, q.kept.size)) in
-    system-solved k a.y.now a.s.now la.lay-system.new.0 s _ h q (c.max-abs.ensures ∙ ap maxAbs t)
+    let t = range_part (star_lane k n) (star_lane k n + (n - k)) (n - k) s refl (omega (arith, h.ends, h.kept.size, q.kept.size)) in
+    system-solved k a.y.now a.s.now la.lay-system.new.0 s _ h q (c.max-abs.ensures ∙ ap max_abs t)
 
 pub prepare-spec : {M : Type 1} → statement M
 prepare-spec =

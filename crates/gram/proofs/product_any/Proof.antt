@@ -5,19 +5,19 @@ use native.Mathlib.Omega.{arith}
 use Rattle.float64.specs.Ops.{◌⊗◌, c0}
 use Rattle.vectors.specs.Vec.{at, apart}
 use Rattle.gram.specs.Gram.{product}
-use Rattle.vectors.specs.Sums.{moreFrom}
-use Rattle.vectors.proofs.Sums.{moreFrom-none, moreFrom-more}
+use Rattle.vectors.specs.Sums.{more_from}
+use Rattle.vectors.proofs.Sums.{more_from_none, more_from-more}
 use Rattle.gram.proofs.product_any.Statement.{statement}
 use Rattle.gram.proofs.product_any.Tie as tie
 
 abbrev invariant-loop : tie.invariant-loop
-invariant-loop z k i g lo hi v₀ j₀ v j = (lo ≤ j) × (j ≤ hi) × (v ≡ moreFrom c0 (λ j. at g (apart i j) ⊗ at z j) lo j)
+invariant-loop z k i g lo hi v₀ j₀ v j = (lo ≤ j) × (j ≤ hi) × (v ≡ more_from c0 (λ j. at g (apart i j) ⊗ at z j) lo j)
 
 abbrev decreases-loop : tie.decreases-loop
 decreases-loop z k i g lo hi v₀ j₀ v j = hi - j
 
 loop-holds : tie.Need-loop-init invariant-loop decreases-loop
-loop-holds c = (search rules, omega arith, sym (moreFrom-none _ _ _ _ (omega arith)))
+loop-holds c = (search rules, omega arith, sym (more_from_none _ _ _ _ (omega arith)))
 
 mul-v : tie.Need-overflow-mul-v invariant-loop decreases-loop
 mul-v c = omega (arith, c.apart.ensures)
@@ -27,7 +27,7 @@ array-read-v c = omega (arith, c.apart.ensures)
 
 loop-again : tie.Need-loop-preserved invariant-loop decreases-loop
 loop-again c = let lp = c.before.before.before in
-    (search rules, search rules, moreFrom-more _ _ _ lp.loop.j lp.loop.invariant.2 (rw c.before.apart.ensures) (omega arith) refl)
+    (search rules, search rules, more_from-more _ _ _ lp.loop.j lp.loop.invariant.2 (rw c.before.apart.ensures) (omega arith) refl)
 
 returns : tie.Need-returns invariant-loop decreases-loop
 unfolding product

@@ -9,10 +9,10 @@ use Rattle.interior_point.proofs.ipm_l1.Statement.{statement}
 use Rattle.interior_point.proofs.ipm_l1.Tie as tie
 
 abbrev invariant-loop : tie.invariant-loop
-invariant-loop work₀ dual₀ y dy lam tol max-iter k g r₀ work dual r = Looping k y lam g tol max-iter work₀ work dual₀ dual r
+invariant-loop work₀ dual₀ y dy lam tol max_iter k g r₀ work dual r = Looping k y lam g tol max_iter work₀ work dual₀ dual r
 
 abbrev decreases-loop : tie.decreases-loop
-decreases-loop work₀ dual₀ y dy lam tol max-iter k g r₀ work dual r = max-iter - r.n_iter
+decreases-loop work₀ dual₀ y dy lam tol max_iter k g r₀ work dual r = max_iter - r.n_iter
 
 -- the steps back: from the loop to the start, the Gram row and the call
 abbrev started : tie.At-loop invariant-loop decreases-loop → tie.After-start invariant-loop decreases-loop
@@ -38,7 +38,7 @@ same_length c = let lc = c.before.before.before.before in
 
 same-length-2 : tie.Need-same-length-2 invariant-loop decreases-loop
 same-length-2 c = let lc = c.before.before.before.before in
-    lc.loop.invariant.dual-kept.size ∙ (started lc).start.auto.1.0
+    lc.loop.invariant.dual_kept.size ∙ (started lc).start.auto.1.0
 
 returns : tie.Need-returns invariant-loop decreases-loop
 returns c = let w = c.before in
@@ -50,10 +50,10 @@ returns c = let w = c.before in
     all_found a.k a.y.now a.lam go.gram-offsets.ensures st.start.ensures lc.loop.invariant (sym te.tested.ensures ∙ w.why.given.1)
 
 -- the tests let another iteration be made
-goes : (c : tie.After-enum-told invariant-loop decreases-loop) → let lc = c.before.before.before in let a = (called (rowed (started lc))).args in test_of lc.loop.r a.tol a.max-iter ≡ Goes
+goes : (c : tie.After-enum-told invariant-loop decreases-loop) → let lc = c.before.before.before in let a = (called (rowed (started lc))).args in test_of lc.loop.r a.tol a.max_iter ≡ Goes
 goes c = sym c.before.before.tested.ensures ∙ c.enum_told.given.1
 
-allowed : (c : tie.After-enum-told invariant-loop decreases-loop) → let lc = c.before.before.before in lc.loop.r.n_iter < (called (rowed (started lc))).args.max-iter
+allowed : (c : tie.After-enum-told invariant-loop decreases-loop) → let lc = c.before.before.before in lc.loop.r.n_iter < (called (rowed (started lc))).args.max_iter
 allowed c = let lc = c.before.before.before in
     let a = (called (rowed (started lc))).args in
     still a.k a.y.now a.lam lc.loop.invariant (goes c)
@@ -67,14 +67,14 @@ iterate-requires c κs = let et = c.before.before in
     let l = lc.loop.invariant in
     record {
       ready = record { series = p.0.series; room = omega (arith, p.0.room, l.kept.size, st.start.ensures.kept.size); known = p.0.known };
-      room = omega (arith, p.1, l.dual-kept.size, st.start.ensures.dual-kept.size);
-      counts = record { n-iter = omega (arith, allowed et); improvements = l.fewer; stall = l.idle };
+      room = omega (arith, p.1, l.dual_kept.size, st.start.ensures.dual_kept.size);
+      counts = record { n_iter = omega (arith, allowed et); improvements = l.fewer; stall = l.idle };
       standing = l.standing;
     }
 
 loop-less : tie.Need-loop-smaller invariant-loop decreases-loop
 loop-less c = let it = c.before.before.before.before in
-    omega (arith, allowed it.before.before.before, it.iterate.ensures.n-iter)
+    omega (arith, allowed it.before.before.before, it.iterate.ensures.n_iter)
 
 loop-again : tie.Need-loop-preserved invariant-loop decreases-loop
 loop-again c = let it = c.before.before.before.before in

@@ -19,7 +19,7 @@ step-at-requires : tie.Need-step-at-requires
 step-at-requires c κs = (called c.before).requires.ready
 
 pivot-lost-requires : tie.Need-pivot-lost-requires
-pivot-lost-requires c κs = (called (next c.before.before.before.before)).requires.counts.n-iter
+pivot-lost-requires c κs = (called (next c.before.before.before.before)).requires.counts.n_iter
 
 settled-requires : tie.Need-settled-requires
 settled-requires c κs = (called (next c.before.before.before.before.before)).requires.counts

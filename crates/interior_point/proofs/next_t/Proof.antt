@@ -3,7 +3,7 @@ use Prim.Native.Nat.{◌^◌}
 use native.Mathlib.Omega.{arith}
 use lib.Dec.{le→leb}
 use lib.Ieee.{in_float}
-use Rattle.interior_point.specs.InteriorPoint.{nextT}
+use Rattle.interior_point.specs.InteriorPoint.{next_t}
 use Rattle.interior_point.proofs.next_t.Statement.{statement}
 use Rattle.interior_point.proofs.next_t.Tie as tie
 
@@ -12,11 +12,11 @@ unfolding in_float
 int-to-float-max c = le→leb c.before.before.args.m (2 ^ 53) (omega arith)
 
 returns : tie.Need-returns
-unfolding nextT
+unfolding next_t
 returns c = λ p. rw c.before.before.if1.true c.max.ensures
 
 returns-2 : tie.Need-returns-2
-unfolding nextT
+unfolding next_t
 returns-2 c = λ p. rw c.if1.false
 
 pub next-t-spec : {M : Type 1} → statement M

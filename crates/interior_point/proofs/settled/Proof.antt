@@ -5,11 +5,11 @@ use Rattle.interior_point.proofs.settled.Tie as tie
 
 returns : tie.Need-returns
 returns c = let h = c.before.before.if1.true in
-    record { t = refl; step = refl; gap = refl; primal = refl; first = refl; best = rw h; n-iter = refl; improvements = rw h; stall = rw h; lost = refl }
+    record { t = refl; step = refl; gap = refl; primal = refl; first = refl; best = rw h; n_iter = refl; improvements = rw h; stall = rw h; lost = refl }
 
 returns-2 : tie.Need-returns-2
 returns-2 c = let h = c.before.before.if1.false in
-    record { t = refl; step = refl; gap = refl; primal = refl; first = refl; best = rw h; n-iter = refl; improvements = rw h; stall = rw h; lost = refl }
+    record { t = refl; step = refl; gap = refl; primal = refl; first = refl; best = rw h; n_iter = refl; improvements = rw h; stall = rw h; lost = refl }
 
 pub settled-spec : {M : Type 1} → statement M
 settled-spec =

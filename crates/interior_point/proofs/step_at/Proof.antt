@@ -4,14 +4,14 @@ use Prim.Native.Nat.{◌-◌}
 use native.Mathlib.Omega.{arith}
 use lib.ListN.{length, take, drop}
 use Rattle.vectors.proofs.Parts.{part-size}
-use Rattle.dual_point.proofs.Known.{dy-long}
-use Rattle.interior_point.proofs.Places.{step_small, first-places, stepped-at}
+use Rattle.dual_point.proofs.Known.{dy_long}
+use Rattle.interior_point.proofs.Places.{step_small, first_places, stepped-at}
 use Rattle.interior_point.proofs.step_at.Statement.{statement}
 use Rattle.interior_point.proofs.step_at.Tie as tie
 
 part-newton-step-end-2 : tie.Need-slice-bounds-newton-step-end-2
 part-newton-step-end-2 c = let st = c.before.before.before.before in
-    omega (arith, dy-long st.args.k st.args.y.now st.args.dy.now st.requires.known)
+    omega (arith, dy_long st.args.k st.args.y.now st.args.dy.now st.requires.known)
 
 newton-step-requires : tie.Need-newton-step-requires
 newton-step-requires c κs = let st = c.before.before.before.before.before in
@@ -22,7 +22,7 @@ newton-step-requires c κs = let st = c.before.before.before.before.before in
     let k = a.k in
     let p = st.requires in
     let small = step_small k (n - k) n p.series.order.high (omega arith) in
-    let long = dy-long k a.y.now a.dy.now p.known in
+    let long = dy_long k a.y.now a.dy.now p.known in
     record {
       order = p.series.order;
       some = omega arith;
@@ -39,8 +39,8 @@ returns c = let ns = c.before.before in
     let s = a.work.now in
     let w = ns.newton-step in
     let small = step_small a.k m n st.requires.series.order.high (omega arith) in
-    stepped-at a.k a.g _ a.lam a.inv-t n (length s) m s w.new.0 w.result (omega arith) (omega arith) (part-size n (length s - n) s w.new.0 (omega arith) w.auto.0)
-    (rw (first-places m a.dy.now ∙ st.requires.known) at w.ensures)
+    stepped-at a.k a.g _ a.lam a.inv_t n (length s) m s w.new.0 w.result (omega arith) (omega arith) (part-size n (length s - n) s w.new.0 (omega arith) w.auto.0)
+    (rw (first_places m a.dy.now ∙ st.requires.known) at w.ensures)
 
 pub step-at-spec : {M : Type 1} → statement M
 step-at-spec =

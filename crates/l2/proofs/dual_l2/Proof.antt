@@ -1,10 +1,10 @@
 use borrow.Author.Rules.{rules}
-use Rattle.l2.specs.L2.{dualL2}
+use Rattle.l2.specs.L2.{dual_l2}
 use Rattle.l2.proofs.dual_l2.Statement.{statement}
 use Rattle.l2.proofs.dual_l2.Tie as tie
 
 returns : tie.Need-returns
-unfolding dualL2
+unfolding dual_l2
 returns c = rw (c.before.before.before.fall-squares.ensures, c.before.before.products.ensures.0, c.before.before.products.ensures.1)
 
 pub dual-l2-spec : {M : Type 1} → statement M

@@ -1,10 +1,10 @@
 use borrow.Author.Rules.{rules}
-use Rattle.l2.specs.L2.{objectiveL2}
+use Rattle.l2.specs.L2.{objective_l2}
 use Rattle.l2.proofs.objective.Statement.{statement}
 use Rattle.l2.proofs.objective.Tie as tie
 
 returns : tie.Need-returns
-unfolding objectiveL2
+unfolding objective_l2
 returns c = rw (c.before.before.squares.ensures.0, c.before.before.squares.ensures.1)
 
 pub objective-spec : {M : Type 1} → statement M

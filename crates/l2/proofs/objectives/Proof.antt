@@ -6,16 +6,16 @@ use lib.ListN.{length}
 use lib.Ieee.{lt}
 use borrow.Author.Tests.{not-true, not-false}
 use Rattle.float64.specs.Ops.{c0}
-use Rattle.vectors.proofs.Parts.{range-part}
-use Rattle.vectors.proofs.Texts.{put-start}
-use Rattle.differences.specs.Diff.{diffK}
-use Rattle.l2.specs.L2.{scaled, gapL2, dualL2}
+use Rattle.vectors.proofs.Parts.{range_part}
+use Rattle.vectors.proofs.Texts.{put_start}
+use Rattle.differences.specs.Diff.{diff_k}
+use Rattle.l2.specs.L2.{scaled, gap_l2, dual_l2}
 use Rattle.l2.proofs.Scaled.{length-scaled}
 use Rattle.l2.proofs.objectives.Statement.{statement}
 use Rattle.l2.proofs.objectives.Tie as tie
 
 returns : tie.Need-returns
-unfolding gapL2
+unfolding gap_l2
 returns c = let sc = c.before.before.before in
     let ob = sc.before.before in
     let a = ob.before.before.before.before.args in
@@ -26,19 +26,19 @@ returns c = let sc = c.before.before.before in
     }
 
 returns-2 : tie.Need-returns-2
-unfolding gapL2
+unfolding gap_l2
 returns-2 c = let el = c.before.before.before in
     let sc = el.before.before.before in
     let ob = sc.before.before in
     let st = ob.before.before.before.before in
     let a = st.args in
     let m = length a.y.now - a.k in
-    let t = scaled a.lam (diffK a.k a.x.now) in
+    let t = scaled a.lam (diff_k a.k a.x.now) in
     let w = sc.scale-diff.ensures in
     let l = length-scaled a.lam a.k a.x.now in
-    let p = put-start m a.dual.now t sc.scale-diff.new.0 w (omega (arith, l, st.requires.1)) st.requires.2 in
-    let h = range-part 0 m m sc.scale-diff.new.0 (omega arith) (omega (arith, st.requires.2, p.1.size)) in
-    let d = c.dual-l2.ensures ∙ ap (dualL2 a.k a.y.now a.lam) (h ∙ p.0) in
+    let p = put_start m a.dual.now t sc.scale-diff.new.0 w (omega (arith, l, st.requires.1)) st.requires.2 in
+    let h = range_part 0 m m sc.scale-diff.new.0 (omega arith) (omega (arith, st.requires.2, p.1.size)) in
+    let d = c.dual-l2.ensures ∙ ap (dual_l2 a.k a.y.now a.lam) (h ∙ p.0) in
     record {
       objective = ob.objective.ensures;
       gap = rw (not-false (lt c0 a.lam) el.if1.false, d, ob.objective.ensures);

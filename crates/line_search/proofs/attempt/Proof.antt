@@ -14,7 +14,7 @@ returns c = let low = c.before.before in
     let z = looked.before.before.before.before.before in
     let a = z.before.before.before.before.args in
     let w = z.move-part.ensures in
-    trial-inside (data_of a.k a.g a.dy.now a.lam a.inv-t) a.m a.b a.step a.old a.s.now z.move-part.new.0 w (omega (arith, w.size))
+    trial-inside (data_of a.k a.g a.dy.now a.lam a.inv_t) a.m a.b a.step a.old a.s.now z.move-part.new.0 w (omega (arith, w.size))
     (sym yes.if1.true ∙ looked.inside.ensures)
     (omega arith) mu.move-part2.ensures low.low-enough.ensures.0 low.low-enough.ensures.1
 
@@ -23,7 +23,7 @@ returns-2 c = let looked = c.before in
     let z = looked.before.before.before.before.before in
     let a = z.before.before.before.before.args in
     let w = z.move-part.ensures in
-    trial-outside (data_of a.k a.g a.dy.now a.lam a.inv-t) a.m a.b a.step a.old a.s.now z.move-part.new.0 w (omega (arith, w.size))
+    trial-outside (data_of a.k a.g a.dy.now a.lam a.inv_t) a.m a.b a.step a.old a.s.now z.move-part.new.0 w (omega (arith, w.size))
     (sym c.if1.false ∙ looked.inside.ensures)
 
 pub attempt-spec : {M : Type 1} → statement M

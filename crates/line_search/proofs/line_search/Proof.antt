@@ -8,14 +8,14 @@ use Rattle.line_search.proofs.line_search.Statement.{statement}
 use Rattle.line_search.proofs.line_search.Tie as tie
 
 abbrev invariant-loop : tie.invariant-loop
-invariant-loop s₀ b dy lam inv-t g k m cap old step₀ last₀ i₀ s step last i = Searching (data_of k g dy lam inv-t) m b cap old s₀ s step last i
+invariant-loop s₀ b dy lam inv_t g k m cap old step₀ last₀ i₀ s step last i = Searching (data_of k g dy lam inv_t) m b cap old s₀ s step last i
 
 abbrev decreases-loop : tie.decreases-loop
-decreases-loop s₀ b dy lam inv-t g k m cap old step₀ last₀ i₀ s step last i = 20 - i
+decreases-loop s₀ b dy lam inv_t g k m cap old step₀ last₀ i₀ s step last i = 20 - i
 
 loop-holds : tie.Need-loop-init invariant-loop decreases-loop
 loop-holds c = let a = c.before.before.args in
-    begins (data_of a.k a.g a.dy.now a.lam a.inv-t) a.m a.b a.cap a.old a.s.now
+    begins (data_of a.k a.g a.dy.now a.lam a.inv_t) a.m a.b a.cap a.old a.s.now
 
 attempt-requires : tie.Need-attempt-requires invariant-loop decreases-loop
 attempt-requires c κs = let lc = c.before.before in
@@ -30,14 +30,14 @@ returns : tie.Need-returns invariant-loop decreases-loop
 returns c = let t = c.before.before.before in
     let l = t.before.before.before.loop in
     let a = t.before.before.before.before.before.before.args in
-    stops (data_of a.k a.g a.dy.now a.lam a.inv-t) a.m a.b a.cap a.old a.s.now l.s t.attempt.new.0 l.step l.last l.i l.invariant
+    stops (data_of a.k a.g a.dy.now a.lam a.inv_t) a.m a.b a.cap a.old a.s.now l.s t.attempt.new.0 l.step l.last l.i l.invariant
     t.attempt.result.inside t.attempt.result.good (omega arith) (omega (arith, l.invariant.some)) t.attempt.ensures c.if1.true
 
 loop-again : tie.Need-loop-preserved invariant-loop decreases-loop
 loop-again c = let t = c.before.before.before in
     let l = t.before.before.before.loop in
     let a = t.before.before.before.before.before.before.args in
-    goes (data_of a.k a.g a.dy.now a.lam a.inv-t) a.m a.b a.cap a.old a.s.now l.s t.attempt.new.0 l.step l.last l.i l.invariant
+    goes (data_of a.k a.g a.dy.now a.lam a.inv_t) a.m a.b a.cap a.old a.s.now l.s t.attempt.new.0 l.step l.last l.i l.invariant
     t.attempt.result.inside t.attempt.result.good (omega arith) (omega (arith, l.invariant.some)) t.attempt.ensures c.if1.false
 
 same-length-2 : tie.Need-same-length-2 invariant-loop decreases-loop
@@ -47,7 +47,7 @@ returns-2 : tie.Need-returns-2 invariant-loop decreases-loop
 returns-2 c = let l = c.before.loop in
     let a = c.before.before.before.before.args in
     let e : l.i ≡ 20 = omega (arith, l.invariant.some) in
-    exhausted (data_of a.k a.g a.dy.now a.lam a.inv-t) a.m a.b a.cap a.old a.s.now l.s l.step l.last (rw e at l.invariant)
+    exhausted (data_of a.k a.g a.dy.now a.lam a.inv_t) a.m a.b a.cap a.old a.s.now l.s l.step l.last (rw e at l.invariant)
 
 pub line-search-spec : {M : Type 1} → statement M
 line-search-spec =

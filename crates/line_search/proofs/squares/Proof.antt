@@ -6,15 +6,15 @@ use lib.ListN.{length, take, drop, length-take, length-drop}
 use Rattle.vectors.proofs.Laws.{none}
 use Rattle.newton_system.specs.Rows.{data_of}
 use Rattle.line_search.specs.Places.{Squares}
-use Rattle.line_search.proofs.Residuals.{squares-more}
+use Rattle.line_search.proofs.Residuals.{squares_more}
 use Rattle.line_search.proofs.squares.Statement.{statement}
 use Rattle.line_search.proofs.squares.Tie as tie
 
 abbrev invariant-loop : tie.invariant-loop
-invariant-loop s₀ dy lam inv-t g k m from to inner c d i₀ s i = (from ≤ i) × (i ≤ to) × Squares (data_of k g dy lam inv-t) m from i s₀ s
+invariant-loop s₀ dy lam inv_t g k m from to inner c d i₀ s i = (from ≤ i) × (i ≤ to) × Squares (data_of k g dy lam inv_t) m from i s₀ s
 
 abbrev decreases-loop : tie.decreases-loop
-decreases-loop s₀ dy lam inv-t g k m from to inner c d i₀ s i = to - i
+decreases-loop s₀ dy lam inv_t g k m from to inner c d i₀ s i = to - i
 
 loop-holds : tie.Need-loop-init invariant-loop decreases-loop
 loop-holds c = (search rules, search rules, record { each = none })
@@ -36,7 +36,7 @@ loop-again c = let pr = c.before.before.before.before.before in
     let w = l.invariant.2 in (
       search rules,
       search rules,
-      squares-more a.k a.g a.dy.now a.lam a.inv-t a.m a.from l.i a.s.now l.s pr.product_at.result c.residual-of.result w
+      squares_more a.k a.g a.dy.now a.lam a.inv_t a.m a.from l.i a.s.now l.s pr.product_at.result c.residual-of.result w
           (omega arith) (omega arith) (omega (arith, w.each.size)) pr.product_at.ensures c.residual-of.ensures,
     )
 

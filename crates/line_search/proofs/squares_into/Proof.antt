@@ -1,7 +1,7 @@
 use borrow.Author.Rules.{rules}
 use native.Mathlib.Omega.{arith}
 use Rattle.newton_system.specs.Rows.{data_of}
-use Rattle.line_search.proofs.Residuals.{near, squares-then}
+use Rattle.line_search.proofs.Residuals.{near, squares_then}
 use Rattle.line_search.proofs.squares_into.Statement.{statement}
 use Rattle.line_search.proofs.squares_into.Tie as tie
 
@@ -19,8 +19,8 @@ returns-2 c = let after = c.before.before in
     let mid = after.before.before.before.before in
     let first = mid.before.before.before.before in
     let a = first.before.before.before.before.before.args in
-    let d = data_of a.k a.g a.dy.now a.lam a.inv-t in
-    squares-then d (squares-then d first.squares2.ensures mid.squares3.ensures (omega arith) (omega arith)) after.squares4.ensures (omega arith) (omega arith)
+    let d = data_of a.k a.g a.dy.now a.lam a.inv_t in
+    squares_then d (squares_then d first.squares2.ensures mid.squares3.ensures (omega arith) (omega arith)) after.squares4.ensures (omega arith) (omega arith)
 
 pub squares-into-spec : {M : Type 1} → statement M
 squares-into-spec =

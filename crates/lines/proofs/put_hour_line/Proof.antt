@@ -1,11 +1,11 @@
-use Rattle.lines.specs.Lines.{hourLine}
+use Rattle.lines.specs.Lines.{hour_line}
 use Rattle.fields.proofs.Writers.{puts_then}
 use borrow.Author.Rules.{rules}
 use Rattle.lines.proofs.put_hour_line.Statement.{statement}
 use Rattle.lines.proofs.put_hour_line.Tie as tie
 
 returns : tie.Need-returns
-unfolding hourLine
+unfolding hour_line
 returns c = let w5 = c.before.before in
     let w4 = w5.before.before.before.before in
     let w3 = w4.before.before.before.before in

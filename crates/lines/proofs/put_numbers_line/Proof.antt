@@ -1,11 +1,11 @@
-use Rattle.lines.specs.Lines.{numbersLine}
+use Rattle.lines.specs.Lines.{numbers_line}
 use Rattle.fields.proofs.Writers.{puts_then}
 use borrow.Author.Rules.{rules}
 use Rattle.lines.proofs.put_numbers_line.Statement.{statement}
 use Rattle.lines.proofs.put_numbers_line.Tie as tie
 
 returns : tie.Need-returns
-unfolding numbersLine
+unfolding numbers_line
 returns c = let w4 = c.before.before in
     let w3 = w4.before.before.before.before in
     let w2 = w3.before.before.before.before in

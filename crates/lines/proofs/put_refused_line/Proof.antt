@@ -1,11 +1,11 @@
-use Rattle.lines.specs.Lines.{refusedLine}
+use Rattle.lines.specs.Lines.{refused_line}
 use Rattle.fields.proofs.Writers.{puts_then}
 use borrow.Author.Rules.{rules}
 use Rattle.lines.proofs.put_refused_line.Statement.{statement}
 use Rattle.lines.proofs.put_refused_line.Tie as tie
 
 returns : tie.Need-returns
-unfolding refusedLine
+unfolding refused_line
 returns c = let w3 = c.before.before in
     let w2 = w3.before.before.before.before in
     let w1 = w2.before.before.before.before in

@@ -1,12 +1,12 @@
-use Rattle.lines.specs.Lines.{fitLine}
-use Rattle.listing.specs.Shown.{shownLine}
+use Rattle.lines.specs.Lines.{fit_line}
+use Rattle.listing.specs.Shown.{shown_line}
 use Rattle.fields.proofs.Writers.{puts_then}
 use borrow.Author.Rules.{rules}
 use Rattle.listing.proofs.put_fit_line.Statement.{statement}
 use Rattle.listing.proofs.put_fit_line.Tie as tie
 
 returns : tie.Need-returns
-unfolding shownLine fitLine
+unfolding shown_line fit_line
 returns c = let w5 = c.before.before in
     let w4 = w5.before.before.before.before in
     let w3 = w4.before.before.before.before in

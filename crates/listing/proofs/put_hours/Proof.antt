@@ -4,20 +4,20 @@ use mathlib.Core.Path.{◌≡◌}
 use Prim.Native.Nat.{◌≤◌, ◌-◌, ◌*◌}
 use lib.ListN.{length}
 use Rattle.fields.specs.Puts.{Puts}
-use Rattle.listing.specs.Shown.{firstHours}
+use Rattle.listing.specs.Shown.{first_hours}
 use Rattle.vectors.proofs.Texts.{wrote-length}
-use Rattle.lines.proofs.More.{hours-none, hours-more}
+use Rattle.lines.proofs.More.{hours_none, hours-more}
 use Rattle.listing.proofs.put_hours.Statement.{statement}
 use Rattle.listing.proofs.put_hours.Tie as tie
 
 abbrev invariant-loop : tie.invariant-loop
-invariant-loop out₀ at positions trend cycle n i₀ pos₀ out i pos = (i ≤ n) × (length out ≡ length out₀) × Puts out₀ at (firstHours positions trend cycle i) out pos (57 * i)
+invariant-loop out₀ at positions trend cycle n i₀ pos₀ out i pos = (i ≤ n) × (length out ≡ length out₀) × Puts out₀ at (first_hours positions trend cycle i) out pos (57 * i)
 
 abbrev decreases-loop : tie.decreases-loop
 decreases-loop out₀ at positions trend cycle n i₀ pos₀ out i pos = n - i
 
 loop-holds : tie.Need-loop-init invariant-loop decreases-loop
-loop-holds c = (search rules, search rules, let a = c.before.before.before.before.args in hours-none a.positions.now a.trend.now a.cycle.now _ _ (omega arith))
+loop-holds c = (search rules, search rules, let a = c.before.before.before.before.args in hours_none a.positions.now a.trend.now a.cycle.now _ _ (omega arith))
 
 loop-again : tie.Need-loop-preserved invariant-loop decreases-loop
 loop-again c = let p = c.before.before in

@@ -4,20 +4,20 @@ use mathlib.Core.Path.{◌≡◌}
 use Prim.Native.Nat.{◌≤◌, ◌-◌, ◌*◌}
 use lib.ListN.{length}
 use Rattle.fields.specs.Puts.{Puts}
-use Rattle.listing.specs.Shown.{firstKnots}
+use Rattle.listing.specs.Shown.{first_knots}
 use Rattle.vectors.proofs.Texts.{wrote-length}
-use Rattle.lines.proofs.More.{knots-none, knots-more}
+use Rattle.lines.proofs.More.{knots_none, knots-more}
 use Rattle.listing.proofs.put_knots.Statement.{statement}
 use Rattle.listing.proofs.put_knots.Tie as tie
 
 abbrev invariant-loop : tie.invariant-loop
-invariant-loop out₀ at positions knots n i₀ pos₀ out i pos = (i ≤ n) × (length out ≡ length out₀) × Puts out₀ at (firstKnots positions knots i) out pos (26 * i)
+invariant-loop out₀ at positions knots n i₀ pos₀ out i pos = (i ≤ n) × (length out ≡ length out₀) × Puts out₀ at (first_knots positions knots i) out pos (26 * i)
 
 abbrev decreases-loop : tie.decreases-loop
 decreases-loop out₀ at positions knots n i₀ pos₀ out i pos = n - i
 
 loop-holds : tie.Need-loop-init invariant-loop decreases-loop
-loop-holds c = (search rules, search rules, let a = c.before.before.before.args in knots-none a.positions.now a.knots.now _ _ (omega arith))
+loop-holds c = (search rules, search rules, let a = c.before.before.before.args in knots_none a.positions.now a.knots.now _ _ (omega arith))
 
 knot-position-requires : tie.Need-knot-position-requires invariant-loop decreases-loop
 knot-position-requires c κs = c.before.before.before.before.before.before.requires.0.1 _ (omega arith)

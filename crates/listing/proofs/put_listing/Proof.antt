@@ -1,4 +1,4 @@
-use Rattle.listing.specs.Shown.{shownListing}
+use Rattle.listing.specs.Shown.{shown_listing}
 use Rattle.fields.proofs.Writers.{puts_then}
 use borrow.Author.Rules.{rules}
 use Rattle.listing.proofs.put_listing.Statement.{statement}
@@ -10,7 +10,7 @@ put-knots-requires c κs = let w3 = c.before.before in
     ((search rules, w2.before.before.before.before.before.requires.1.1), search rules)
 
 returns : tie.Need-returns
-unfolding shownListing
+unfolding shown_listing
 returns c = let w3 = c.before.before.before in
     let w2 = w3.before.before.before.before in
     let w1 = w2.before.before in

@@ -8,17 +8,17 @@ use Rattle.vectors.specs.Vec.{at}
 use Rattle.banded.specs.Rows.{good}
 use Rattle.banded.specs.Run.{Stored}
 use Rattle.newton_system.specs.Rows.{besides}
-use Rattle.newton_system.proofs.Places.{product-place}
+use Rattle.newton_system.proofs.Places.{product_place}
 use Rattle.newton_sweep.proofs.Sweeps.{Room, RowDone, Going, going-none, room, going_more, going-bad, going_done}
 use Rattle.newton_sweep.proofs.Inner.{mid, lent, at_mid, Last2, done-2, last-2}
 use Rattle.newton_sweep.proofs.rows2.Statement.{statement}
 use Rattle.newton_sweep.proofs.rows2.Tie as tie
 
 abbrev invariant-loop : tie.invariant-loop
-invariant-loop s₀ a dy lam inv-t m start g e acc₀ d2₀ l₀ d1₀ u2₀ u1₀ r₀ s acc d2 l d1 u2 u1 r = Going 2 g dy lam inv-t a m 2 (m - 2) start s₀ s acc r × (2 ≤ r) × Last2 m r (mid 2 a m s) d2 l d1 u2 u1
+invariant-loop s₀ a dy lam inv_t m start g e acc₀ d2₀ l₀ d1₀ u2₀ u1₀ r₀ s acc d2 l d1 u2 u1 r = Going 2 g dy lam inv_t a m 2 (m - 2) start s₀ s acc r × (2 ≤ r) × Last2 m r (mid 2 a m s) d2 l d1 u2 u1
 
 abbrev decreases-loop : tie.decreases-loop
-decreases-loop s₀ a dy lam inv-t m start g e acc₀ d2₀ l₀ d1₀ u2₀ u1₀ r₀ s acc d2 l d1 u2 u1 r = m - 2 - r
+decreases-loop s₀ a dy lam inv_t m start g e acc₀ d2₀ l₀ d1₀ u2₀ u1₀ r₀ s acc d2 l d1 u2 u1 r = m - 2 - r
 
 loop-holds : tie.Need-loop-init invariant-loop decreases-loop
 loop-holds c = let st = c.before.before.before.before.before.before.before in
@@ -37,7 +37,7 @@ row-with-requires : tie.Need-row-with-requires invariant-loop decreases-loop
 row-with-requires c κs = let product = c.before in
     let at-loop = product.before.before.before.before in
     let st = at-loop.before.before.before.before.before.before.before.before in
-    (search rules, product-place 2 st.args.t6 st.args.m at-loop.loop.s at-loop.loop.r product.product-inner.ensures (omega (arith, st.requires, at-loop.loop.invariant.0.size)))
+    (search rules, product_place 2 st.args.t6 st.args.m at-loop.loop.s at-loop.loop.r product.product-inner.ensures (omega (arith, st.requires, at-loop.loop.invariant.0.size)))
 
 -- the steps back from the test of the pivot, to the row as made, the loop and the call
 abbrev row : tie.After-is-good invariant-loop decreases-loop → tie.After-row-with invariant-loop decreases-loop

@@ -8,10 +8,10 @@ use Rattle.newton_sweep.proofs.rows_any.Statement.{statement}
 use Rattle.newton_sweep.proofs.rows_any.Tie as tie
 
 abbrev invariant-loop : tie.invariant-loop
-invariant-loop s₀ a dy lam inv-t g k m from to start e acc₀ r₀ s acc r = Going k g dy lam inv-t a m from to start s₀ s acc r
+invariant-loop s₀ a dy lam inv_t g k m from to start e acc₀ r₀ s acc r = Going k g dy lam inv_t a m from to start s₀ s acc r
 
 abbrev decreases-loop : tie.decreases-loop
-decreases-loop s₀ a dy lam inv-t g k m from to start e acc₀ r₀ s acc r = to - r
+decreases-loop s₀ a dy lam inv_t g k m from to start e acc₀ r₀ s acc r = to - r
 
 loop-holds : tie.Need-loop-init invariant-loop decreases-loop
 loop-holds c = going-none c.before.before.requires

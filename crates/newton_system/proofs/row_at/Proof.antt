@@ -1,5 +1,5 @@
 use native.Mathlib.Omega.{arith}
-use Rattle.newton_system.proofs.Places.{product-place}
+use Rattle.newton_system.proofs.Places.{product_place}
 use borrow.Author.Rules.{rules}
 use Rattle.newton_system.proofs.row_at.Statement.{statement}
 use Rattle.newton_system.proofs.row_at.Tie as tie
@@ -7,7 +7,7 @@ use Rattle.newton_system.proofs.row_at.Tie as tie
 row-with-requires : tie.Need-row-with-requires
 row-with-requires c κs = let st = c.before.before.before.before in
     let a = st.args in
-    (st.requires, product-place a.k a.g a.m a.s.now a.r c.product.ensures (omega (arith, st.requires)))
+    (st.requires, product_place a.k a.g a.m a.s.now a.r c.product.ensures (omega (arith, st.requires)))
 
 pub row-at-spec : {M : Type 1} → statement M
 row-at-spec =

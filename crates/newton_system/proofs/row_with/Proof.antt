@@ -1,6 +1,6 @@
 use mathlib.Core.Path.{refl, ◌∙◌}
 use native.Mathlib.Omega.{arith}
-use Rattle.newton_system.proofs.Places.{square-place, system-diagonal, rhs-place}
+use Rattle.newton_system.proofs.Places.{square_place, system_diagonal, rhs_place}
 use borrow.Author.Rules.{rules}
 use Rattle.newton_system.proofs.row_with.Statement.{statement}
 use Rattle.newton_system.proofs.row_with.Tie as tie
@@ -14,9 +14,9 @@ returns c = let side = c.before in
     let h = st.requires.0.row in
     let q-is = st.requires.1 in
     record {
-      diagonal = diagonal.diagonal-of.ensures ∙ system-diagonal a.k a.t5 a.lam a.m s a.r _ h refl;
-      side = side.rhs_of.ensures _ _ ∙ rhs-place a.k a.t5 a.dy.now a.lam a.inv-t a.m s a.r a.q h q-is;
-      square = c.residual-of.ensures ∙ square-place a.k a.t5 a.dy.now a.lam a.inv-t 0 a.m s a.r a.r _ _ a.q h (omega arith) (omega arith) (omega arith) q-is;
+      diagonal = diagonal.diagonal-of.ensures ∙ system_diagonal a.k a.t5 a.lam a.m s a.r _ h refl;
+      side = side.rhs_of.ensures _ _ ∙ rhs_place a.k a.t5 a.dy.now a.lam a.inv_t a.m s a.r a.q h q-is;
+      square = c.residual-of.ensures ∙ square_place a.k a.t5 a.dy.now a.lam a.inv_t 0 a.m s a.r a.r _ _ a.q h (omega arith) (omega arith) (omega arith) q-is;
     }
 
 pub row-with-spec : {M : Type 1} → statement M

@@ -7,9 +7,9 @@ use native.Mathlib.Omega.{arith}
 use lib.ListN.{take, drop}
 use borrow.Author.Rules.{rules}
 use borrow.Author.Tests.{eqb-true, eqb-false}
-use Rattle.overrun.specs.Overrun.{framesIn, overrun}
+use Rattle.overrun.specs.Overrun.{frames_in, overrun}
 use Rattle.float64.proofs.Bits.{zero_by_zero}
-use Rattle.overrun.proofs.Overruns.{frames, frames-in, forward, backward, unrated}
+use Rattle.overrun.proofs.Overruns.{frames, frames_in_lem, forward, backward, unrated}
 use Rattle.overrun.proofs.milliseconds.Statement.{statement}
 use Rattle.overrun.proofs.milliseconds.Tie as tie
 
@@ -23,8 +23,8 @@ numerator c = c.before.four2.result
 abbrev denominator : tie.After-four3 → ℕ
 denominator c = c.four3.result
 
-asked : (c : tie.After-four3) → frames (count c) (numerator c) (denominator c) ≡ framesIn (take 12 (drop c.before.before.before.before.args.at c.before.before.before.before.args.s.now))
-asked c = cc (frames-in c.before.before.before.before.args.s.now c.before.before.before.before.args.at)
+asked : (c : tie.After-four3) → frames (count c) (numerator c) (denominator c) ≡ frames_in (take 12 (drop c.before.before.before.before.args.at c.before.before.before.before.args.s.now))
+asked c = cc (frames_in_lem c.before.before.before.before.args.s.now c.before.before.before.before.args.at)
 
 rated : (c : tie.Else2) → (0 < numerator c.before.before) × (0 < denominator c.before.before)
 rated c = (pos_of_ne-zero c.before.if1.false, pos_of_ne-zero (eqb-false _ _ c.if2.false))

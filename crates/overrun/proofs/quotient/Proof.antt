@@ -13,7 +13,7 @@ use Rattle.framing.proofs.Floats.{leb-T}
 use Rattle.overrun.specs.Fractions.{Fraction}
 use Rattle.overrun.specs.Inner.{quotient_of}
 use Rattle.overrun.proofs.Fractions.{Reduced, reduced, gcd-pos}
-use Rattle.overrun.proofs.Division.{one-division}
+use Rattle.overrun.proofs.Division.{one_division}
 use Rattle.overrun.proofs.quotient.Statement.{statement}
 use Rattle.overrun.proofs.quotient.Tie as tie
 
@@ -63,7 +63,7 @@ returns c = zero_by_zero ∙ sym (quotient_is c.before ∙ rw (le-ltb (upper c.b
 returns-2 : tie.Need-returns-2
 returns-2 c =
     let b = c.before.before.before in
-    one-division (upper b) (lower b) (within c.before.before) (known b).lower (lower-within b)
+    one_division (upper b) (lower b) (within c.before.before) (known b).lower (lower-within b)
     ∙ sym (quotient_is b ∙ rw (lt-ltb (upper b) (2 ^ 53) (within c.before.before)))
 
 pub quotient-spec : {M : Type 1} → statement M

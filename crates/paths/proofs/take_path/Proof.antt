@@ -6,11 +6,11 @@ use mathlib.Core.Option.{some}
 use lib.Dec.{eqb}
 use lib.ListN.{length}
 use Rattle.vectors.proofs.Laws.{kept-none}
-use Rattle.dual_point.specs.Lanes.{searchArea}
+use Rattle.dual_point.specs.Lanes.{search_area}
 use Rattle.questions.specs.Questions.{Asked}
 use Rattle.questions.specs.Asking.{asking}
-use Rattle.closed_paths.specs.Trends.{searchMarks}
-use Rattle.paths.proofs.Ways.{by-1, by_2, l1-zero, l1-high, asks-1, asks-2, took-done}
+use Rattle.closed_paths.specs.Trends.{search_marks}
+use Rattle.paths.proofs.Ways.{by_1, by_2, l1_zero, l1_high, asks-1, asks-2, took_done}
 use Rattle.paths.proofs.take_path.Statement.{statement}
 use Rattle.paths.proofs.take_path.Tie as tie
 
@@ -24,8 +24,8 @@ returns c = let lp = c.before.before.before.before in
     let th = lp.before.before.before in
     let a = th.before.before.before.before.before.before.args in
     let y = a.y.now in
-    let e = by_2 (asking y a.lam a.tol a.max-iter a.k a.penalty) th.if1.true in
-    let t = lp.l2-path.ensures a.tol a.max-iter a.penalty a.cycle.now in
+    let e = by_2 (asking y a.lam a.tol a.max_iter a.k a.penalty) th.if1.true in
+    let t = lp.l2-path.ensures a.tol a.max_iter a.penalty a.cycle.now in
     rw (eq-eqb a.penalty 2 th.if1.true)
     (record { says = t.says ∙ sym e; stands = t.stands; lost = λ z. t.lost (sym e ∙ z); changed = t.changed }, kept-none 0 0 a.marks.now)
 
@@ -34,7 +34,7 @@ abbrev begun : tie.Else1 → tie.Start
 begun c = c.before.before.before.before.before.before
 
 abbrev ask : tie.Else1 → Asked
-ask c = let a = (begun c).args in asking a.y.now a.lam a.tol a.max-iter a.k a.penalty
+ask c = let a = (begun c).args in asking a.y.now a.lam a.tol a.max_iter a.k a.penalty
 
 not-2 : (c : tie.Else1) → eqb (begun c).args.penalty 2 ≡ false
 not-2 c = ne_eqb (begun c).args.penalty 2 c.if1.false
@@ -49,10 +49,10 @@ returns-2 c = let ze = c.before.before in
     let th = ze.before.before in
     let e1 = th.before in
     let a = (begun e1).args in
-    let f = ze.zero-path.ensures (searchArea (length a.y.now)) a.work.now a.cycle.now in
+    let f = ze.zero-path.ensures (search_area (length a.y.now)) a.work.now a.cycle.now in
     rw (not-2 e1) (
-      took-done (ask e1) ((a.lam, a.tol), (a.max-iter, a.penalty)) f (by-1 (ask e1) e1.if1.false ∙ ap some (l1-zero (ask e1) th.if2.true)),
-      kept-none 0 (searchMarks (length a.y.now)) a.marks.now,
+      took_done (ask e1) ((a.lam, a.tol), (a.max_iter, a.penalty)) f (by_1 (ask e1) e1.if1.false ∙ ap some (l1_zero (ask e1) th.if2.true)),
+      kept-none 0 (search_marks (length a.y.now)) a.marks.now,
     )
 
 flat-path-requires : tie.Need-flat-path-requires
@@ -66,10 +66,10 @@ returns-3 c = let fl = c.before.before.before.before.before.before in
     let e2 = th.before in
     let e1 = e2.before in
     let a = (begun e1).args in
-    let high = rw (begun e1).requires.top-is at th.if3.true in
+    let high = rw (begun e1).requires.top_is at th.if3.true in
     rw (not-2 e1) (
-      took-done (ask e1) (a.tol, (a.max-iter, a.penalty)) fl.flat-path.ensures (by-1 (ask e1) e1.if1.false ∙ ap some (l1-high (ask e1) true e2.if2.false high)),
-      kept-none 0 (searchMarks (length a.y.now)) a.marks.now,
+      took_done (ask e1) (a.tol, (a.max_iter, a.penalty)) fl.flat-path.ensures (by_1 (ask e1) e1.if1.false ∙ ap some (l1_high (ask e1) true e2.if2.false high)),
+      kept-none 0 (search_marks (length a.y.now)) a.marks.now,
     )
 
 search-path-requires : tie.Need-search-path-requires
@@ -80,10 +80,10 @@ returns-4 c = let se = c.before.before.before.before.before.before.before.before
     let e3 = se.before.before.before.before.before in
     let e2 = e3.before in
     let e1 = e2.before in
-    let low = rw (begun e1).requires.top-is at e3.if3.false in
+    let low = rw (begun e1).requires.top_is at e3.if3.false in
     let f = se.search-path.ensures in
     rw (not-2 e1)
-    (took-done (ask e1) (begun e1).args.penalty f.0 (by-1 (ask e1) e1.if1.false ∙ ap some (l1-high (ask e1) false e2.if2.false low)), f.1)
+    (took_done (ask e1) (begun e1).args.penalty f.0 (by_1 (ask e1) e1.if1.false ∙ ap some (l1_high (ask e1) false e2.if2.false low)), f.1)
 
 pub take-path-spec : {M : Type 1} → statement M
 take-path-spec =

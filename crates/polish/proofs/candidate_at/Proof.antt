@@ -1,11 +1,11 @@
 use borrow.Author.Rules.{rules}
 use mathlib.Core.Path.{sym, ◌∙◌}
-use Rattle.active_set.proofs.Laws.{free-place, held_place}
+use Rattle.active_set.proofs.Laws.{free_place, held_place}
 use Rattle.polish.proofs.candidate_at.Statement.{statement}
 use Rattle.polish.proofs.candidate_at.Tie as tie
 
 returns : tie.Need-returns
-returns c = sym (free-place _ _ _ c.before.if1.true)
+returns c = sym (free_place _ _ _ c.before.if1.true)
 
 returns-2 : tie.Need-returns-2
 returns-2 c = c.held-value.ensures ∙ sym (held_place _ _ _ c.before.if1.false)

@@ -1,48 +1,48 @@
 use borrow.Author.Rules.{rules}
 use mathlib.Core.Path.{◌≡◌, refl}
 use native.Mathlib.Omega.{arith}
-use Rattle.active_set.proofs.Laws.{count-more}
-use Rattle.vectors.proofs.Places.{one-le}
+use Rattle.active_set.proofs.Laws.{count_more}
+use Rattle.vectors.proofs.Places.{one_le}
 use Rattle.polish.proofs.Candidates.{place_is}
-use Rattle.vectors.proofs.Laws.{none, store-more}
+use Rattle.vectors.proofs.Laws.{none, store_more}
 use native.Mathlib.Nat.{add-zero}
 use lib.ListN.{length}
-use Rattle.vectors.specs.Vec.{placesTo}
+use Rattle.vectors.specs.Vec.{places_to}
 use Rattle.vectors.specs.Parts.{part, Written}
-use Rattle.active_set.specs.Marks.{heldBy}
-use Rattle.active_set.specs.ActiveSet.{isFree, freeTo}
-use Rattle.polish.specs.Polish.{candidateAt}
+use Rattle.active_set.specs.Marks.{held_by}
+use Rattle.active_set.specs.ActiveSet.{is_free, free_to}
+use Rattle.polish.specs.Polish.{candidate_at}
 use Prim.Native.Nat.{◌≤◌, ◌-◌, ◌+◌}
 use Rattle.polish.proofs.fill_candidate.Statement.{statement}
 use Rattle.polish.proofs.fill_candidate.Tie as tie
 
 abbrev invariant-loop : tie.invariant-loop
-invariant-loop s₀ marks lam b a n m q₀ i₀ s q i = (i ≤ m) × (q ≤ i) × (q ≡ length (freeTo (heldBy n marks) i)) × Written a (a + i) (λ j. candidateAt lam (heldBy n marks) (part b m s₀) (j - a)) s₀ s
+invariant-loop s₀ marks lam b a n m q₀ i₀ s q i = (i ≤ m) × (q ≤ i) × (q ≡ length (free_to (held_by n marks) i)) × Written a (a + i) (λ j. candidate_at lam (held_by n marks) (part b m s₀) (j - a)) s₀ s
 
 abbrev decreases-loop : tie.decreases-loop
 decreases-loop s₀ marks lam b a n m q₀ i₀ s q i = m - i
 
 loop-holds : tie.Need-loop-init invariant-loop decreases-loop
-unfolding freeTo placesTo
+unfolding free_to places_to
 loop-holds c = (search rules, search rules, refl, rw add-zero none)
 
 add-q : tie.Need-overflow-add-q invariant-loop decreases-loop
 add-q c = let l = c.before.before.before.before.before in
     let a = l.before.before.before.args in
-    omega (arith, c.one-if-free.ensures, one-le (isFree (heldBy a.n a.marks.now l.loop.i)))
+    omega (arith, c.one-if-free.ensures, one_le (is_free (held_by a.n a.marks.now l.loop.i)))
 
 loop-again : tie.Need-loop-preserved invariant-loop decreases-loop
 loop-again c = let l = c.before.before.before.before.before in
     let a = l.before.before.before.args in
-    let h = heldBy a.n a.marks.now in
+    let h = held_by a.n a.marks.now in
     let i = l.loop.i in
     let q = l.loop.q in
     let w = l.loop.invariant.3 in
     let x = c.before.candidate-at.result in (
       search rules,
-      omega (arith, c.one-if-free.ensures, one-le (isFree (h i))),
-      count-more h i l.loop.invariant.2 c.one-if-free.ensures,
-      store-more a.a i (candidateAt a.lam h (part a.b a.m a.s.now)) a.s.now l.loop.s x w (omega arith)
+      omega (arith, c.one-if-free.ensures, one_le (is_free (h i))),
+      count_more h i l.loop.invariant.2 c.one-if-free.ensures,
+      store_more a.a i (candidate_at a.lam h (part a.b a.m a.s.now)) a.s.now l.loop.s x w (omega arith)
           (place_is a.lam h a.b a.m i q a.s.now l.loop.s x l.loop.invariant.2 (omega arith) (w.below (a.b + q) (omega arith)) c.before.candidate-at.ensures),
     )
 

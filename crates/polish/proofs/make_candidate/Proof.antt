@@ -2,14 +2,14 @@ use borrow.Author.Rules.{rules}
 use mathlib.Core.Path.{◌≡◌, refl, sym, ◌∙◌}
 use native.Mathlib.Omega.{arith}
 use Rattle.active_set.proofs.Settling.{room}
-use Rattle.active_set.specs.Marks.{heldBy}
-use Rattle.dual_point.specs.Lanes.{settleLane, candidateTrend, candidateLane, polishArea}
+use Rattle.active_set.specs.Marks.{held_by}
+use Rattle.dual_point.specs.Lanes.{settle_lane, candidate_trend, candidate_lane, polish_area}
 use Rattle.polish.proofs.Candidates.{solution-at, candidate-none, candidate-some}
-use Rattle.polish.specs.Polish.{candidateAt}
-use Rattle.vectors.proofs.Parts.{kept-part, part-size, put_back, store-done}
+use Rattle.polish.specs.Polish.{candidate_at}
+use Rattle.vectors.proofs.Parts.{kept_part, part-size, put_back, store-done}
 use Rattle.vectors.proofs.Laws.{kept_then, written-kept}
 use Rattle.vectors.specs.Parts.{part}
-use Rattle.differences.specs.Diff.{gramRow}
+use Rattle.differences.specs.Diff.{gram_row}
 use lib.Ieee.{nan}
 use lib.ListN.{take, drop}
 use Prim.Native.Nat.{◌-◌, ◌+◌, ◌*◌}
@@ -22,20 +22,20 @@ use Rattle.polish.proofs.make_candidate.Tie as tie
 settle-requires : tie.Need-settle-requires
 settle-requires c κs = let st = c.before.before.before.before in
     let a = st.args in
-    let l = candidateTrend a.n - settleLane a.n in
-    let z = part-size (settleLane a.n) l a.s.now (take l (drop (settleLane a.n) a.s.now)) (omega arith) refl in
+    let l = candidate_trend a.n - settle_lane a.n in
+    let z = part-size (settle_lane a.n) l a.s.now (take l (drop (settle_lane a.n) a.s.now)) (omega arith) refl in
     (st.requires.0, omega (arith, room a.k a.q a.n (omega arith) (omega arith)))
 
 returns : tie.Need-returns
 returns c = let cs = c.before.before.before in
     let a = cs.before.before.before.before.before.args in
-    let l = candidateTrend a.n - settleLane a.n in
+    let l = candidate_trend a.n - settle_lane a.n in
     let x = cs.settle.new.0 in
-    let e = part-size (settleLane a.n) l a.s.now x (omega arith) cs.settle.auto.0 in
+    let e = part-size (settle_lane a.n) l a.s.now x (omega arith) cs.settle.auto.0 in
     let no : cs.settle.result ≡ false = not-true _ c.if1.true in
     record {
-      found-is = λ h w. candidate-none w a.k (gramRow a.k) a.dy.now a.lam [] (sym no ∙ cs.settle.ensures.answer h w);
-      kept = kept-part (settleLane a.n) l (polishArea a.n) a.s.now x (omega arith) e (omega arith);
+      found_is = λ h w. candidate-none w a.k (gram_row a.k) a.dy.now a.lam [] (sym no ∙ cs.settle.ensures.answer h w);
+      kept = kept_part (settle_lane a.n) l (polish_area a.n) a.s.now x (omega arith) e (omega arith);
     }
 
 mul-b : tie.Need-overflow-mul-b
@@ -63,22 +63,22 @@ returns-2 c = let cf = c.before.before in
     let n = a.n in
     let p = st.requires.0 in
     let m = n - a.k in
-    let l = candidateTrend n - settleLane n in
+    let l = candidate_trend n - settle_lane n in
     let s = a.s.now in
     let x = cs.settle.new.0 in
-    let e = part-size (settleLane n) l s x (omega arith) cs.settle.auto.0 in
+    let e = part-size (settle_lane n) l s x (omega arith) cs.settle.auto.0 in
     let r = room a.k a.q n p.order (omega arith) in
-    let s₁ = put_back (settleLane n) l s x in
+    let s₁ = put_back (settle_lane n) l s x in
     let s₂ = cf.fill-candidate.new.0 in
     let b = a.q * (a.k + 1) in
     let w₂ = cf.fill-candidate.ensures in
     let yes : cs.settle.result ≡ true = not-false _ el.if1.false in
     record {
-      found-is = λ h w.
-          candidate-some w a.k (gramRow a.k) a.dy.now a.lam (part (candidateLane n) m s₂) (part (settleLane n + b) m s₁) (sym yes ∙ cs.settle.ensures.answer h w)
-          (store-done nan (candidateLane n) m (candidateAt a.lam (heldBy n a.marks.now) (part (settleLane n + b) m s₁)) s₁ s₂ w₂)
-          (solution-at w (settleLane n) l b s x _ (omega arith) e (omega arith) (omega arith) (cs.settle.ensures.solution h w yes));
-      kept = kept_then (settleLane n) (polishArea n) (kept-part (settleLane n) l l s x (omega arith) e (omega arith)) (written-kept w₂) (omega arith) (omega arith) (omega arith) (omega arith);
+      found_is = λ h w.
+          candidate-some w a.k (gram_row a.k) a.dy.now a.lam (part (candidate_lane n) m s₂) (part (settle_lane n + b) m s₁) (sym yes ∙ cs.settle.ensures.answer h w)
+          (store-done nan (candidate_lane n) m (candidate_at a.lam (held_by n a.marks.now) (part (settle_lane n + b) m s₁)) s₁ s₂ w₂)
+          (solution-at w (settle_lane n) l b s x _ (omega arith) e (omega arith) (omega arith) (cs.settle.ensures.solution h w yes));
+      kept = kept_then (settle_lane n) (polish_area n) (kept_part (settle_lane n) l l s x (omega arith) e (omega arith)) (written-kept w₂) (omega arith) (omega arith) (omega arith) (omega arith);
     }
 
 pub make-candidate-spec : {M : Type 1} → statement M

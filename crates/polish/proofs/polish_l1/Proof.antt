@@ -3,10 +3,10 @@ use mathlib.Core.Path.{◌≡◌, refl, ap, ◌∙◌}
 use native.Mathlib.Omega.{arith}
 use Rattle.vectors.specs.Parts.{part}
 use Rattle.vectors.proofs.Parts.{part-size}
-use Rattle.dual_point.specs.Lanes.{candidateTrend, candidateLane}
+use Rattle.dual_point.specs.Lanes.{candidate_trend, candidate_lane}
 use Rattle.dual_point.specs.Places.{point}
-use Rattle.dual_point.proofs.Known.{dy-long}
-use Rattle.active_set.specs.ActiveSet.{holdAt}
+use Rattle.dual_point.proofs.Known.{dy_long}
+use Rattle.active_set.specs.ActiveSet.{hold_at}
 use Rattle.polish.specs.Places.{found}
 use Rattle.polish.proofs.Ends.{polish-is, freed, ended-none, ended_some}
 use lib.ListN.{length, take, drop}
@@ -29,7 +29,7 @@ make-candidate-requires c κs = let ck = c.before.before.before.before in
     let a = st.args in
     let p = st.pre.ready in
     let size = ck.mark.ensures.1.size in (
-      freed a.k (length a.dy.now) ck.mark.ensures.0 p.series.order.high (omega arith) (omega arith) (dy-long a.k a.y.now a.dy.now p.known),
+      freed a.k (length a.dy.now) ck.mark.ensures.0 p.series.order.high (omega arith) (omega arith) (dy_long a.k a.y.now a.dy.now p.known),
       p.room,
     )
 
@@ -40,9 +40,9 @@ returns c = let cm = c.before.before.before.before in
     let a = st.args in
     let n = length a.y.now in
     let no : cm.make-candidate.result ≡ false = not-true _ c.before.if1.true in
-    let h = holdAt a.lam (point n (n - a.k) a.work.now) in
+    let h = hold_at a.lam (point n (n - a.k) a.work.now) in
     ended-none a.k a.y.now a.lam a.dual.now ck.mark.ensures.1 cm.make-candidate.ensures.kept c.none.result c.none.ensures
-    (polish-is a.k a.y.now a.dy.now st.pre.ready.known a.lam a.work.now (cm.make-candidate.ensures.found-is h ck.mark.ensures.0 ∙ rw no))
+    (polish-is a.k a.y.now a.dy.now st.pre.ready.known a.lam a.work.now (cm.make-candidate.ensures.found_is h ck.mark.ensures.0 ∙ rw no))
 
 certify-l1-requires : tie.Need-certify-l1-requires
 certify-l1-requires c κs = let cm = c.before.before.before.before.before in
@@ -52,9 +52,9 @@ certify-l1-requires c κs = let cm = c.before.before.before.before.before in
     let p = st.pre.ready in
     let big = p.room in
     let w₁ = cm.make-candidate.new.0 in
-    let l = candidateLane n + (n - st.args.k) - candidateTrend n in
+    let l = candidate_lane n + (n - st.args.k) - candidate_trend n in
     let s = cm.make-candidate.ensures.kept.size in
-    let z = part-size (candidateTrend n) l w₁ (take l (drop (candidateTrend n) w₁)) (omega arith) refl in
+    let z = part-size (candidate_trend n) l w₁ (take l (drop (candidate_trend n) w₁)) (omega arith) refl in
     (record { series = p.series; room = omega arith; known = p.known }, st.pre.room)
 
 returns-2 : tie.Need-returns-2
@@ -68,14 +68,14 @@ returns-2 c = let cc = c.before.before.before.before.before in
     let p = st.pre.ready in
     let big = p.room in
     let yes : cm.make-candidate.result ≡ true = not-false _ el.if1.false in
-    let h = holdAt a.lam (point n (n - a.k) a.work.now) in
+    let h = hold_at a.lam (point n (n - a.k) a.work.now) in
     let w₁ = cm.make-candidate.new.0 in
-    let l = candidateLane n + (n - a.k) - candidateTrend n in
+    let l = candidate_lane n + (n - a.k) - candidate_trend n in
     let s = cm.make-candidate.ensures.kept.size in
     let x = cc.certify-l1.new.0 in
-    let e = part-size (candidateTrend n) l w₁ x (omega arith) cc.certify-l1.auto.0 in
+    let e = part-size (candidate_trend n) l w₁ x (omega arith) cc.certify-l1.auto.0 in
     ended_some a.k a.y.now a.lam a.dual.now ck.mark.ensures.1 cm.make-candidate.ensures.kept big l (omega arith) x e cc.certify-l1.result.primal cc.certify-l1.result.dual
-    (polish-is a.k a.y.now a.dy.now p.known a.lam a.work.now (cm.make-candidate.ensures.found-is h ck.mark.ensures.0 ∙ ap (λ (b : Bool). found b (part (candidateLane n) (n - a.k) w₁)) yes)) cc.certify-l1.new.1.0 cc.certify-l1.ensures _ refl refl refl
+    (polish-is a.k a.y.now a.dy.now p.known a.lam a.work.now (cm.make-candidate.ensures.found_is h ck.mark.ensures.0 ∙ ap (λ (b : Bool). found b (part (candidate_lane n) (n - a.k) w₁)) yes)) cc.certify-l1.new.1.0 cc.certify-l1.ensures _ refl refl refl
 
 pub polish-l1-spec : {M : Type 1} → statement M
 polish-l1-spec =

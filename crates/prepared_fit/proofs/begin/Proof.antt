@@ -10,9 +10,9 @@ use Rattle.questions.specs.Questions.{Asked, Lent, question}
 use Rattle.questions.specs.Asking.{asking, lending}
 use Rattle.questions.proofs.Laws.{passed}
 use Rattle.fit.proofs.Passed.{fit_refused}
-use Rattle.closed_paths.proofs.Areas.{work-fits}
+use Rattle.closed_paths.proofs.Areas.{work_fits}
 use Rattle.prepared_fit.specs.Begun.{Begins}
-use Rattle.prepared_fit.proofs.Laws.{unsound-fit}
+use Rattle.prepared_fit.proofs.Laws.{unsound_fit}
 use Rattle.prepared_fit.proofs.begin.Statement.{statement}
 use Rattle.prepared_fit.proofs.begin.Tie as tie
 
@@ -22,7 +22,7 @@ asked p = p.before
 
 -- what is asked and lent
 abbrev ask : tie.Start → Asked
-ask s = let p = s.args in asking p.y.now p.lam p.tol p.max-iter p.order p.penalty
+ask s = let p = s.args in asking p.y.now p.lam p.tol p.max_iter p.order p.penalty
 
 abbrev lend : tie.Start → Lent
 lend s = let p = s.args in lending p.trend p.cycle p.knots p.dual (length p.work.now) p.marks
@@ -46,7 +46,7 @@ prepare-requires : tie.Need-prepare-requires
 prepare-requires c κs = let el = asked c in
     let st = el.before.before.before.before in
     let q = passed (ask st) (lend st) (zero el) in
-    (q.series, omega (arith, q.work, work-fits (ask st)))
+    (q.series, omega (arith, q.work, work_fits (ask st)))
 
 returns-2 : tie.Need-returns-2
 unfolding Begins
@@ -55,7 +55,7 @@ returns-2 c = let pr = c.before.before.before.before in
     let st = el.before.before.before.before in
     let d = pr.prepare.ensures in
     record {
-      refuses = unsound-fit (ask st) (lend st) (zero el) (sym d.good ∙ not-true _ c.if2.true);
+      refuses = unsound_fit (ask st) (lend st) (zero el) (sym d.good ∙ not-true _ c.if2.true);
       unused = λ t. absurd (clash t refl);
       kept = d.kept;
     }
@@ -71,7 +71,7 @@ returns-3 c = let pr = c.before.before.before.before in
       sound = sym d.good ∙ good;
       star = d.star good;
       differences = d.differences;
-      top-is = d.top good;
+      top_is = d.top good;
       kept = d.kept;
     }
 

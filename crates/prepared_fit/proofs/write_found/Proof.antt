@@ -1,7 +1,7 @@
 use borrow.Author.Rules.{rules}
 use mathlib.Core.Path.{ap, ◌∙◌}
 use lib.ListN.{length}
-use Rattle.closed_paths.proofs.Areas.{length-trend}
+use Rattle.closed_paths.proofs.Areas.{length_trend}
 use Rattle.prepared_fit.proofs.write_found.Statement.{statement}
 use Rattle.prepared_fit.proofs.write_found.Tie as tie
 
@@ -12,7 +12,7 @@ begun t = t.before.before.before.before.before.before
 write-out-requires : tie.Need-write-out-requires
 write-out-requires c κs = let to = c.before.before.before in
     let h = (begun to).requires in
-    record { series = h.series; same = ap length to.trend-of.ensures ∙ length-trend _ _ _; trend = h.trend; cycle = h.cycle; knots = h.knots }
+    record { series = h.series; same = ap length to.trend-of.ensures ∙ length_trend _ _ _; trend = h.trend; cycle = h.cycle; knots = h.knots }
 
 returns : tie.Need-returns
 returns c = let wo = c.before.before.before.before.before.before in

@@ -4,22 +4,22 @@ use Prim.Native.Nat.{◌≤◌, ◌-◌}
 use native.Mathlib.Numerals.{add-one}
 use native.Mathlib.Omega.{arith}
 use lib.ListN.{length}
-use Rattle.questions.specs.Questions.{finiteTo}
+use Rattle.questions.specs.Questions.{finite_to}
 use Rattle.questions.proofs.all_finite.Statement.{statement}
 use Rattle.questions.proofs.all_finite.Tie as tie
 
 abbrev invariant-loop : tie.invariant-loop
-invariant-loop y all₀ i₀ all i = (i ≤ length y) × (all ≡ finiteTo y i)
+invariant-loop y all₀ i₀ all i = (i ≤ length y) × (all ≡ finite_to y i)
 
 abbrev decreases-loop : tie.decreases-loop
 decreases-loop y all₀ i₀ all i = length y - i
 
 loop-holds : tie.Need-loop-init invariant-loop decreases-loop
-unfolding finiteTo
+unfolding finite_to
 loop-holds c = (search rules, refl)
 
 loop-again : tie.Need-loop-preserved invariant-loop decreases-loop
-unfolding finiteTo
+unfolding finite_to
 loop-again c = (search rules, rw add-one (cc))
 
 returns : tie.Need-returns invariant-loop decreases-loop

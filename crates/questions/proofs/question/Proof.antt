@@ -1,7 +1,7 @@
 use mathlib.Core.Path.{sym, ◌∙◌}
 use borrow.Author.Rules.{rules}
 use borrow.Author.Tests.{eq-eqb, ne_eqb}
-use Rattle.questions.proofs.Laws.{grouped, sizes-short}
+use Rattle.questions.proofs.Laws.{grouped, sizes_short}
 use Rattle.questions.proofs.question.Statement.{statement}
 use Rattle.questions.proofs.question.Tie as tie
 
@@ -19,7 +19,7 @@ returns-2 c =
 figures-of-requires : tie.Need-figures-of-requires
 figures-of-requires c κs =
     let cs = c.before.before in
-    sizes-short _ _ _ (sym cs.before.sizes.ensures ∙ cs.if1.false)
+    sizes_short _ _ _ (sym cs.before.sizes.ensures ∙ cs.if1.false)
 
 returns-3 : tie.Need-returns-3
 returns-3 c =

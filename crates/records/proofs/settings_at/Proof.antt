@@ -1,4 +1,4 @@
-use Rattle.records.proofs.Entries.{settings-in}
+use Rattle.records.proofs.Entries.{settings_in_lem}
 use borrow.Author.Rules.{rules}
 use Rattle.records.proofs.settings_at.Statement.{statement}
 use Rattle.records.proofs.settings_at.Tie as tie
@@ -11,7 +11,7 @@ returns c = let o = c.before in
     let d1 = e2.before in
     let e1 = d1.before in
     let a = e1.before.before.args in
-    simp (d1.double.ensures, d2.double2.ensures, e1.eight.ensures, e2.eight2.ensures, e3.eight3.ensures, o.one.ensures, c.one2.ensures) (settings-in a.s.now a.body)
+    simp (d1.double.ensures, d2.double2.ensures, e1.eight.ensures, e2.eight2.ensures, e3.eight3.ensures, o.one.ensures, c.one2.ensures) (settings_in_lem a.s.now a.body)
 
 pub settings-at-spec : {M : Type 1} → statement M
 settings-at-spec =

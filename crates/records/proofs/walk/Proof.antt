@@ -2,7 +2,7 @@ use borrow.Author.Rules.{rules}
 use native.Mathlib.Omega.{arith}
 use Prim.Native.Nat.{◌-◌}
 use lib.ListN.{length}
-use Rattle.records.proofs.Passing.{passed-end, passed-bad, Counted, counted_none, counted-more}
+use Rattle.records.proofs.Passing.{passed-end, passed-bad, Counted, counted_none, counted_more}
 use Rattle.records.proofs.walk.Statement.{statement}
 use Rattle.records.proofs.walk.Tie as tie
 
@@ -32,7 +32,7 @@ loop-less c = let k = c.before in
 loop-again : tie.Need-loop-preserved invariant-loop decreases-loop
 loop-again c = let k = c.before in
     let r = k.before.before in
-    counted-more r.before.loop.invariant (rw k.kind.given.1 at r.record-at.ensures)
+    counted_more r.before.loop.invariant (rw k.kind.given.1 at r.record-at.ensures)
 
 add-settings : tie.Need-overflow-add-settings invariant-loop decreases-loop
 add-settings c = let w = loop-again c in

@@ -1,19 +1,19 @@
 use native.Mathlib.Omega.{arith}
 use Prim.Native.Nat.{◌+◌}
 use borrow.Author.Rules.{rules}
-use Rattle.rerun.proofs.Cases.{loaded, loaded-long, case-is}
+use Rattle.rerun.proofs.Cases.{loaded, loaded_long, case_is}
 use Rattle.rerun.proofs.equal_at.Statement.{statement}
 use Rattle.rerun.proofs.equal_at.Tie as tie
 
 slice-aggregate-fit-at : tie.Need-slice-aggregate-fit-at
 slice-aggregate-fit-at c = let d = c.before.before.before.before.before.before.before in
     let a = d.before.before.before.args in
-    loaded-long a.s.now (a.a + 13) _ _ _ d.load.ensures
+    loaded_long a.s.now (a.a + 13) _ _ _ d.load.ensures
 
 fit-at-requires : tie.Need-fit-at-requires
 fit-at-requires c κs = let l = c.before.before.before.before.before.before.before.before.before in
     let w = l.lent_at_lem.ensures.1 in
-    (w, (omega (arith, w.n-in, slice-aggregate-fit-at c), omega (arith, w.n-in)))
+    (w, (omega (arith, w.n_in, slice-aggregate-fit-at c), omega (arith, w.n_in)))
 
 returns : tie.Need-returns
 returns c = let d2 = c.before.before in
@@ -24,7 +24,7 @@ returns c = let d2 = c.before.before in
     let y = o1.before.before in
     let l = y.before.before in
     let a = l.before.args in
-    case-is a.s.now a.a l.lent_at_lem.ensures.0 (loaded a.s.now (a.a + 13) _ _ _ y.load.ensures) d2.double-at2.ensures d1.double-at.ensures w.word.ensures o1.option-at.ensures o2.option-at2.ensures c.fit_at.ensures
+    case_is a.s.now a.a l.lent_at_lem.ensures.0 (loaded a.s.now (a.a + 13) _ _ _ y.load.ensures) d2.double-at2.ensures d1.double-at.ensures w.word.ensures o1.option-at.ensures o2.option-at2.ensures c.fit_at.ensures
 
 pub equal-at-spec : {M : Type 1} → statement M
 equal-at-spec =

@@ -5,8 +5,8 @@ use borrow.Author.Rules.{rules}
 use Rattle.questions.specs.Questions.{Lent}
 use Rattle.questions.specs.Asking.{asking}
 use Rattle.fit.specs.Fit.{fit}
-use Rattle.compared.specs.Outcomes.{sameOutcome}
-use Rattle.rerun.proofs.Cases.{lending-is, first-long}
+use Rattle.compared.specs.Outcomes.{same_outcome}
+use Rattle.rerun.proofs.Cases.{lending_is, first_long}
 use Rattle.rerun.proofs.fit_at.Statement.{statement}
 use Rattle.rerun.proofs.fit_at.Tie as tie
 
@@ -17,7 +17,7 @@ returns c = let f = c.before.before.before.before.before.before in
     let o = a.opts in
     let w = g.requires.0 in
     f.same_outcome.ensures.same
-    ∙ ap (λ (x : Lent). sameOutcome (fit (asking a.y.now a.lam o.tol o.max_iter o.order o.penalty) x) a.s.now a.a) (lending-is a.l (first-long (of_bits binary64 0) 168 a.l.trend w.trend-in) (first-long (of_bits binary64 0) 168 a.l.cycle w.cycle-in) (first-long {A = ℕ} 0 168 a.l.knots w.knots-in) (first-long (of_bits binary64 0) 168 a.l.dual w.dual-in) (first-long (of_bits binary64 0) 6720 a.l.work w.work_in) (first-long {A = ℕ} 0 336 a.l.marks w.marks-in))
+    ∙ ap (λ (x : Lent). same_outcome (fit (asking a.y.now a.lam o.tol o.max_iter o.order o.penalty) x) a.s.now a.a) (lending_is a.l (first_long (of_bits binary64 0) 168 a.l.trend w.trend_in) (first_long (of_bits binary64 0) 168 a.l.cycle w.cycle_in) (first_long {A = ℕ} 0 168 a.l.knots w.knots_in) (first_long (of_bits binary64 0) 168 a.l.dual w.dual_in) (first_long (of_bits binary64 0) 6720 a.l.work w.work_in) (first_long {A = ℕ} 0 336 a.l.marks w.marks_in))
 
 pub fit-at-spec : {M : Type 1} → statement M
 fit-at-spec =

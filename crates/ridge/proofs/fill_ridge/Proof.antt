@@ -3,7 +3,7 @@ use native.Mathlib.Omega.{arith}
 use lib.ListN.{length}
 use Rattle.banded.proofs.Filling.{laid_none}
 use Rattle.ridge.specs.Ridge.{ridge}
-use Rattle.ridge.proofs.Alike.{laid-repeat, ridge-alike, rows-span, rows-room}
+use Rattle.ridge.proofs.Alike.{laid-repeat, ridge_alike, rows_span, rows-room}
 use borrow.Author.Rules.{rules}
 use Rattle.ridge.proofs.fill_ridge.Statement.{statement}
 use Rattle.ridge.proofs.fill_ridge.Tie as tie
@@ -43,7 +43,7 @@ returns-2 c = let r3 = c.before.before in
     let g = sc.stencil.result in
     let low : k + 1 ≤ m = omega arith in
     let first = r1.ridge-rows2.ensures a.s.now (laid_none k (ridge k g a.lam n) a.s.now) in
-    let inner = laid-repeat {a = ridge k g a.lam n} first re.repeat.ensures (omega arith) low (rows-span (k + 1) m low) (λ i j h l u. ridge-alike k g a.lam n i j (omega arith) l u) in
+    let inner = laid-repeat {a = ridge k g a.lam n} first re.repeat.ensures (omega arith) low (rows_span (k + 1) m low) (λ i j h l u. ridge_alike k g a.lam n i j (omega arith) l u) in
     rw sc.stencil.ensures at (r3.ridge-rows3.ensures a.s.now inner)
 
 pub fill-ridge-spec : {M : Type 1} → statement M

@@ -3,7 +3,7 @@ use Prim.Native.Nat.{◌≤◌, ◌-◌, ◌+◌}
 use native.Mathlib.Omega.{arith}
 use lib.ListN.{length, length-set}
 use Rattle.ridge.specs.Layout.{Repeated}
-use Rattle.ridge.proofs.Alike.{repeat-none, repeat-more}
+use Rattle.ridge.proofs.Alike.{repeat_none, repeat-more}
 use borrow.Author.Rules.{rules}
 use Rattle.ridge.proofs.repeat.Statement.{statement}
 use Rattle.ridge.proofs.repeat.Tie as tie
@@ -15,7 +15,7 @@ abbrev decreases-loop : tie.decreases-loop
 decreases-loop s₀ k b n i₀ s i = n - i
 
 loop-holds : tie.Need-loop-init invariant-loop decreases-loop
-loop-holds c = (search rules, refl, repeat-none _ _ _)
+loop-holds c = (search rules, refl, repeat_none _ _ _)
 
 loop-again : tie.Need-loop-preserved invariant-loop decreases-loop
 loop-again c = (search rules, simp length-set (search rules), repeat-more c.before.before.loop.invariant.2 (omega arith) (omega arith) (omega arith))

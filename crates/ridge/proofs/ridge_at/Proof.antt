@@ -1,17 +1,17 @@
-use Rattle.vectors.proofs.Sums.{moreFrom-none, moreFrom-more}
+use Rattle.vectors.proofs.Sums.{more_from_none, more_from-more}
 use borrow.Author.Rules.{rules}
 use borrow.Author.Tests.{lt-ltb, le-ltb}
 use mathlib.Core.Path.{◌≡◌, refl, sym, ◌∙◌}
 use Prim.Native.Nat.{◌≤◌, ◌-◌, ◌+◌}
 use native.Mathlib.Omega.{arith}
-use Rattle.vectors.specs.Sums.{moreFrom}
+use Rattle.vectors.specs.Sums.{more_from}
 use Rattle.banded.specs.Rows.{placed}
 use Rattle.ridge.specs.Ridge.{share, ridge}
 use Rattle.ridge.proofs.ridge_at.Statement.{statement}
 use Rattle.ridge.proofs.ridge_at.Tie as tie
 
 abbrev invariant-loop : tie.invariant-loop
-invariant-loop lam k n i p c j lo hi v₀ r₀ v r = (lo ≤ r) × (r ≤ hi) × (v ≡ moreFrom v₀ (share c lam i (i + p - k)) lo r)
+invariant-loop lam k n i p c j lo hi v₀ r₀ v r = (lo ≤ r) × (r ≤ hi) × (v ≡ more_from v₀ (share c lam i (i + p - k)) lo r)
 
 abbrev decreases-loop : tie.decreases-loop
 decreases-loop lam k n i p c j lo hi v₀ r₀ v r = hi - r
@@ -21,11 +21,11 @@ unfolding placed
 returns c = simp (lt-ltb _ _ c.if1.true)
 
 loop-holds : tie.Need-loop-init invariant-loop decreases-loop
-loop-holds c = (search rules, omega arith, sym (moreFrom-none _ _ _ _ (omega arith)))
+loop-holds c = (search rules, omega arith, sym (more_from_none _ _ _ _ (omega arith)))
 
 loop-again : tie.Need-loop-preserved invariant-loop decreases-loop
 loop-again c = let lp = c.before in
-    (search rules, search rules, moreFrom-more _ _ _ lp.loop.r lp.loop.invariant.2 refl (omega arith) refl)
+    (search rules, search rules, more_from-more _ _ _ lp.loop.r lp.loop.invariant.2 refl (omega arith) refl)
 
 returns-2 : tie.Need-returns-2 invariant-loop decreases-loop
 unfolding placed ridge

@@ -3,7 +3,7 @@ use Prim.Native.Nat.{◌≤◌, ◌-◌, ◌+◌}
 use native.Mathlib.Nat.{add-zero}
 use native.Mathlib.Omega.{arith}
 use Rattle.vectors.specs.Parts.{Written}
-use Rattle.vectors.proofs.Laws.{none, store-more}
+use Rattle.vectors.proofs.Laws.{none, store_more}
 use Rattle.banded.specs.Rows.{placed}
 use Rattle.ridge.specs.Ridge.{ridge}
 use borrow.Author.Rules.{rules}
@@ -23,7 +23,7 @@ loop-again : tie.Need-loop-preserved invariant-loop decreases-loop
 loop-again c = let lp = c.before.before in
     let a = lp.before.before.args in
     let l = lp.loop in
-    (search rules, store-more a.b l.p (placed a.k (ridge a.k a.c a.lam a.n) a.i) a.s.now l.s _ l.invariant.1 (omega (arith, l.invariant.1.size)) c.ridge-at.ensures)
+    (search rules, store_more a.b l.p (placed a.k (ridge a.k a.c a.lam a.n) a.i) a.s.now l.s _ l.invariant.1 (omega (arith, l.invariant.1.size)) c.ridge-at.ensures)
 
 returns : tie.Need-returns invariant-loop decreases-loop
 returns c = let e : c.before.loop.p ≡ c.before.before.before.args.k + 1 = omega arith in

@@ -5,7 +5,7 @@ use native.Mathlib.Omega.{arith}
 use lib.ListN.{length}
 use lib.Ieee.{Float}
 use Rattle.banded.specs.Layout.{Laid}
-use Rattle.banded.proofs.Laws.{one-row, rows_fit}
+use Rattle.banded.proofs.Laws.{one_row, rows_fit}
 use Rattle.banded.proofs.Filling.{laid_more}
 use Rattle.ridge.specs.Ridge.{ridge}
 use borrow.Author.Rules.{rules}
@@ -24,12 +24,12 @@ loop-holds c = (search rules, refl, λ v h. h)
 mul-ridge-row : tie.Need-overflow-mul-ridge-row invariant-loop decreases-loop
 mul-ridge-row c = let lp = c.before.before in
     let a = lp.before.before.args in
-    omega (arith, one-row a.k lp.loop.i, rows_fit a.k lp.loop.i a.n (a.n * (a.k + 1)) (omega arith) (omega arith))
+    omega (arith, one_row a.k lp.loop.i, rows_fit a.k lp.loop.i a.n (a.n * (a.k + 1)) (omega arith) (omega arith))
 
 ridge-row-requires : tie.Need-ridge-row-requires invariant-loop decreases-loop
 ridge-row-requires c κs = let lp = c.before.before in
     let a = lp.before.before.args in
-    (search rules, omega (arith, one-row a.k lp.loop.i, rows_fit a.k lp.loop.i a.n (a.n * (a.k + 1)) (omega arith) (omega arith)))
+    (search rules, omega (arith, one_row a.k lp.loop.i, rows_fit a.k lp.loop.i a.n (a.n * (a.k + 1)) (omega arith) (omega arith)))
 
 loop-again : tie.Need-loop-preserved invariant-loop decreases-loop
 loop-again c = let rr = c.before.before in

@@ -5,7 +5,7 @@ use native.Mathlib.Omega.{arith}
 use lib.ListN.{length, take, drop}
 use lib.Ieee.{nan}
 use Rattle.vectors.proofs.Parts.{part-size, kept_put}
-use Rattle.dual_point.specs.Lanes.{searchArea}
+use Rattle.dual_point.specs.Lanes.{search_area}
 use Rattle.gram.specs.Prepared.{preparation}
 use Rattle.questions.specs.Asking.{asking}
 use Rattle.closed_paths.specs.Trends.{reach}
@@ -14,7 +14,7 @@ use Rattle.search_path.proofs.search_path.Statement.{statement}
 use Rattle.search_path.proofs.search_path.Tie as tie
 
 -- the area behind the preparation
-area : (n : ℕ) → 18 * n - 5 * n ≡ searchArea n
+area : (n : ℕ) → 18 * n - 5 * n ≡ search_area n
 area n = omega arith
 
 -- D y is in cycle
@@ -44,13 +44,13 @@ returns c = let sp = c.before.before.before.before.before.before in
     let w = a.work.now in
     let x = sp.search-polish.new.0 in
     let e = sp.search-polish.ensures in
-    let size : length x ≡ searchArea n = part-size (5 * n) (18 * n - 5 * n) w x (omega (arith, r.work)) sp.search-polish.auto.0 ∙ area n in
-    let made = kept_put (preparation n) (searchArea n) w x r.work size nan in
+    let size : length x ≡ search_area n = part-size (5 * n) (18 * n - 5 * n) w x (omega (arith, r.work)) sp.search-polish.auto.0 ∙ area n in
+    let made = kept_put (preparation n) (search_area n) w x r.work size nan in
     rw (area n) (
       record {
-        says = λ i. search-says (asking y a.lam a.tol a.max-iter a.k i) w x _ sp.search-polish.result r.work size (e.reached i);
+        says = λ i. search-says (asking y a.lam a.tol a.max_iter a.k i) w x _ sp.search-polish.result r.work size (e.reached i);
         stands = rw (e.reached 1).place (omega (arith, r.work, made.size));
-        changed = record { work = made; cycle = dt.differences-to.ensures.kept; dual = e.dual-kept };
+        changed = record { work = made; cycle = dt.differences-to.ensures.kept; dual = e.dual_kept };
       },
       e.marked,
     )

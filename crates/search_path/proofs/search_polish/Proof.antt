@@ -10,17 +10,17 @@ use lib.Ieee.{Float, nan, le}
 use Rattle.float64.specs.Ops.{◌⊗◌}
 use Rattle.vectors.specs.Parts.{part}
 use Rattle.vectors.proofs.Laws.{kept_then}
-use Rattle.vectors.proofs.Parts.{length_part, range-part, part-below}
-use Rattle.differences.specs.Diff.{diffK, gramRow}
+use Rattle.vectors.proofs.Parts.{length_part, range_part, part-below}
+use Rattle.differences.specs.Diff.{diff_k, gram_row}
 use Rattle.certificate.specs.Certificate.{clamped, certify}
 use Rattle.certificate.proofs.Laws.{length-clamped}
 use Rattle.dual_point.specs.Dual.{Dual}
-use Rattle.dual_point.specs.Lanes.{candidateTrend, searchArea}
+use Rattle.dual_point.specs.Lanes.{candidate_trend, search_area}
 use Rattle.polish.specs.Polish.{polish}
 use Rattle.polish.specs.Places.{is_some}
 use Rattle.questions.specs.Asking.{asking}
-use Rattle.fit.specs.Fit.{certificateAt, searchOf, keptOf, pathEnd}
-use Rattle.search_path.proofs.Kept.{kept_of, kept-dual}
+use Rattle.fit.specs.Fit.{certificate_at, search_of, kept_of, path_end}
+use Rattle.search_path.proofs.Kept.{kept_of, kept_dual}
 use Rattle.search_path.proofs.search_polish.Statement.{statement}
 use Rattle.search_path.proofs.search_polish.Tie as tie
 
@@ -41,7 +41,7 @@ polish-l1-requires c κs = let ip = c.before.before.before.before.before.before.
     let f = ip.ipm-l1.ensures in
     record {
       ready = record { series = r.series; room = omega (arith, r.room, f.kept.size); known = r.known };
-      room = omega (arith, h.room, f.dual-kept.size);
+      room = omega (arith, h.room, f.dual_kept.size);
       marked = h.marked;
     }
 
@@ -53,7 +53,7 @@ module _ (w : tie.After-won) where
   abbrev m : ℕ
   m = n - (begun (searched (polished w))).args.k
 
-  long : searchArea n ≤ length (polished w).polish-l1.last.0
+  long : search_area n ≤ length (polished w).polish-l1.last.0
   long = let pl = polished w in
       let ip = searched pl in
       omega (arith, (begun ip).pre.ready.room, ip.ipm-l1.ensures.kept.size, pl.polish-l1.ensures.kept.size)
@@ -61,11 +61,11 @@ module _ (w : tie.After-won) where
   fits : m ≤ length (polished w).polish-l1.last.1.0
   fits = let pl = polished w in
       let ip = searched pl in
-      omega (arith, (begun ip).pre.room, ip.ipm-l1.ensures.dual-kept.size, pl.polish-l1.ensures.dual.size)
+      omega (arith, (begun ip).pre.room, ip.ipm-l1.ensures.dual_kept.size, pl.polish-l1.ensures.dual.size)
 
   -- the iterate's z, where the polish left it
   range : take (n + m - n) (drop n (polished w).polish-l1.last.0) ≡ part n m (polished w).polish-l1.last.0
-  range = range-part n (n + m) m (polished w).polish-l1.last.0 refl (omega (arith, long))
+  range = range_part n (n + m) m (polished w).polish-l1.last.0 refl (omega (arith, long))
 
   length-range : length (take (n + m - n) (drop n (polished w).polish-l1.last.0)) ≡ m
   length-range = ap length range ∙ length_part n m (polished w).polish-l1.last.0
@@ -86,7 +86,7 @@ keep-requires : tie.Need-keep-requires
 keep-requires c κs = let w = c.before.before.before in omega (arith, length-range w, fits w)
 
 returns : tie.Need-returns
-unfolding searchOf keptOf pathEnd certify
+unfolding search_of kept_of path_end certify
 returns c = let ke = c.before.before.before.before in
     let won = ke.before.before.before.before in
     let pl = polished won in
@@ -105,36 +105,36 @@ returns c = let ke = c.before.before.before.before in
     let s = pl.polish-l1.last.0 in
     let d₂ = pl.polish-l1.last.1.0 in
     let zc = clamped lam (take (n + (n - k) - n) (drop n s)) in
-    let dual = kept-dual won.won.result (n - k) zc d₂ _ ke.keep.ensures (length-clamped lam _ ∙ length-range won) (fits won) in
-    let of : Dual → Option (List Float) = λ d. polish k (gramRow k) (diffK k y) lam d in
+    let dual = kept_dual won.won.result (n - k) zc d₂ _ ke.keep.ensures (length-clamped lam _ ∙ length-range won) (fits won) in
+    let of : Dual → Option (List Float) = λ d. polish k (gram_row k) (diff_k k y) lam d in
     record {
       reached = λ penalty.
-          let a = asking y lam p.tol p.max-iter k penalty in
-          let d = (searchOf a).state.point in
+          let a = asking y lam p.tol p.max_iter k penalty in
+          let d = (search_of a).state.point in
           let t = part-below nan 0 n g.kept (omega arith) ∙ f.trend in
-          let e = kept_of a (certificateAt a d.z) v s d₂ r.gap r.primal (part 0 n s) zc f.gap f.primal t
+          let e = kept_of a (certificate_at a d.z) v s d₂ r.gap r.primal (part 0 n s) zc f.gap f.primal t
           (ap (clamped lam) (range won ∙ part-below nan n (n - k) g.kept (omega arith) ∙ ap (λ (u : Dual). u.z) f.ends)) (of d)
           (g.there ∙ ap (λ (u : Dual). is_some (of u)) f.ends) (λ z e. g.rated z (ap of f.ends ∙ e)) in
           let gap = c.before.pick.ensures ∙ ap (λ (b : Bool). cond b v.gap r.gap) wo ∙ e.gap_is in
-          let primal = c.pick2.ensures ∙ ap (λ (b : Bool). cond b v.primal r.primal) wo ∙ e.primal-is in
+          let primal = c.pick2.ensures ∙ ap (λ (b : Bool). cond b v.primal r.primal) wo ∙ e.primal_is in
           record {
             second = won.won.result;
             place = refl;
-            trend = ap (λ (b : Bool). cond b (part (candidateTrend n) n s) (part 0 n s)) wo ∙ e.trend-is;
-            dual = dual.0 ∙ ap (λ (b : Bool). cond b (part 0 (n - k) d₂) zc) wo ∙ e.dual-is;
+            trend = ap (λ (b : Bool). cond b (part (candidate_trend n) n s) (part 0 n s)) wo ∙ e.trend_is;
+            dual = dual.0 ∙ ap (λ (b : Bool). cond b (part 0 (n - k) d₂) zc) wo ∙ e.dual_is;
             numbers = λ i. record {
               gap = gap i;
               first_gap = f.first i;
               best_gap = f.best i;
               objective = primal i;
-              n_iter = f.n-iter i;
+              n_iter = f.n_iter i;
               improvements = f.improvements i;
               converged = le (gap i) (p.tol ⊗ primal i);
               reason = f.reason i;
             };
           };
-      kept = kept_then 0 (searchArea n) f.kept g.kept (omega arith) (omega arith) (omega arith) (omega arith);
-      dual-kept = kept_then 0 (n - k) f.dual-kept (kept_then 0 (n - k) g.dual dual.1 (omega arith) (omega arith) (omega arith) (omega arith)) (omega arith) (omega arith) (omega arith) (omega arith);
+      kept = kept_then 0 (search_area n) f.kept g.kept (omega arith) (omega arith) (omega arith) (omega arith);
+      dual_kept = kept_then 0 (n - k) f.dual_kept (kept_then 0 (n - k) g.dual dual.1 (omega arith) (omega arith) (omega arith) (omega arith)) (omega arith) (omega arith) (omega arith) (omega arith);
       marked = g.marks;
     }
 

@@ -1,27 +1,27 @@
 use native.Mathlib.Omega.{arith}
 use Rattle.vectors.proofs.Texts.{wrote_one, wrote_none}
-use Rattle.records.specs.Entries.{hoursOf}
-use Rattle.records.specs.Positions.{positionsFrom}
+use Rattle.records.specs.Entries.{hours_of}
+use Rattle.records.specs.Positions.{positions_from}
 use borrow.Author.Rules.{rules}
 use Rattle.series.proofs.put_hour.Statement.{statement}
 use Rattle.series.proofs.put_hour.Tie as tie
 
 slice-write-y : tie.Need-slice-write-y
-unfolding hoursOf
+unfolding hours_of
 slice-write-y c = let a = c.before in
     omega (arith, rw c.if1.true at a.requires.0)
 
 slice-write-positions : tie.Need-slice-write-positions
-unfolding hoursOf
+unfolding hours_of
 slice-write-positions c = let a = c.before in
     omega (arith, rw c.if1.true at a.requires.1)
 
 returns : tie.Need-returns
-unfolding hoursOf positionsFrom
+unfolding hours_of positions_from
 returns c = rw c.if1.true (record { hours = wrote_one _ _ _ (slice-write-y c); positions = wrote_one _ _ _ (slice-write-positions c) })
 
 returns-2 : tie.Need-returns-2
-unfolding hoursOf positionsFrom
+unfolding hours_of positions_from
 returns-2 c = let a = c.before in
     rw c.if1.false (record { hours = wrote_none _ _ (omega (arith, rw c.if1.false at a.requires.0)); positions = wrote_none _ _ (omega (arith, rw c.if1.false at a.requires.1)) })
 

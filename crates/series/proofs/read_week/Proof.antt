@@ -3,10 +3,10 @@ use mathlib.Core.List.{List}
 use lib.ListN.{length}
 use lib.Seq.{length-take-le}
 use mathlib.Core.Path.{◌≡◌, sym, ◌∙◌}
-use Rattle.records.specs.Week.{entriesIn}
-use Rattle.records.specs.Inner.{openingOf}
+use Rattle.records.specs.Week.{entries_in}
+use Rattle.records.specs.Inner.{opening_of}
 use Rattle.records.specs.declared.Opening.TheVariants.{Set}
-use Rattle.records.proofs.Asking.{Walked, walked, broken, week-long, week-broken, week-other, week-settings, week-unnamed, week-named}
+use Rattle.records.proofs.Asking.{Walked, walked, broken, week_long, week-broken, week-other, week-settings, week-unnamed, week-named}
 use Rattle.series.proofs.Taking.{Held, held, refuses}
 use borrow.Author.Tests.{not-true, not-false}
 use borrow.Author.Rules.{rules}
@@ -23,17 +23,17 @@ input e = (walking e).before.before.args.s.now
 short : (e : tie.After-settings) → length (input e) ≤ 4096
 short e = (walking e).if1.false
 
-split : (e : tie.After-settings) → Walked (entriesIn (input e)) e.settings.given.0.0
+split : (e : tie.After-settings) → Walked (entries_in (input e)) e.settings.given.0.0
 split e = walked _ (sym e.settings.given.1 ∙ e.before.before.walk.ensures)
 
 abbrev at_split : tie.After-found → tie.After-settings
 at_split o = o.before.before.before.before
 
-set : (o : tie.After-found) → Set o.found.given.0.0 ≡ openingOf (split (at_split o)).entries
+set : (o : tie.After-found) → Set o.found.given.0.0 ≡ opening_of (split (at_split o)).entries
 set o = sym o.found.given.1 ∙ o.before.before.first-record.ensures _ (split (at_split o)).splits
 
 returns : tie.Need-returns
-returns c = refuses _ (week-long _ c.if1.true)
+returns c = refuses _ (week_long _ c.if1.true)
 
 returns-2 : tie.Need-returns-2
 returns-2 c = let w = c.before.before in

@@ -1,10 +1,10 @@
 use borrow.Author.Rules.{rules}
-use Rattle.series.proofs.Arrays.{set-slots}
+use Rattle.series.proofs.Arrays.{set_slots}
 use Rattle.series.proofs.sound.Statement.{statement}
 use Rattle.series.proofs.sound.Tie as tie
 
 returns : tie.Need-returns
-returns c = set-slots _ _ _ _ _
+returns c = set_slots _ _ _ _ _
 
 pub sound-spec : {M : Type 1} → statement M
 sound-spec =

@@ -6,21 +6,21 @@ use mathlib.Core.Bool.{false}
 use lib.ListN.{length, get_or, take}
 use lib.Ieee.{Float}
 use borrow.Author.Rules.{rules}
-use Rattle.records.specs.Entries.{Slot, hoursOf}
+use Rattle.records.specs.Entries.{Slot, hours_of}
 use Rattle.records.proofs.Passing.{at_most_one}
-use Rattle.series.specs.Inner.{slotsIn}
+use Rattle.series.specs.Inner.{slots_in}
 use Rattle.series.proofs.Closing.{counted-slot, all_slots}
 use Rattle.series.proofs.sounding.Statement.{statement}
 use Rattle.series.proofs.sounding.Tie as tie
 
 abbrev invariant-loop : tie.invariant-loop
-invariant-loop sounds hours₀ i₀ hours i = (i ≤ length sounds) × (hours ≤ i) × ((xs : List Float) → length xs ≡ length sounds → hours ≡ length (hoursOf (take i (slotsIn xs sounds))))
+invariant-loop sounds hours₀ i₀ hours i = (i ≤ length sounds) × (hours ≤ i) × ((xs : List Float) → length xs ≡ length sounds → hours ≡ length (hours_of (take i (slots_in xs sounds))))
 
 abbrev decreases-loop : tie.decreases-loop
 decreases-loop sounds hours₀ i₀ hours i = length sounds - i
 
 loop-holds : tie.Need-loop-init invariant-loop decreases-loop
-unfolding hoursOf
+unfolding hours_of
 loop-holds c = (omega arith, omega arith, λ xs l. refl)
 
 loop-again : tie.Need-loop-preserved invariant-loop decreases-loop
@@ -33,7 +33,7 @@ add-hours c = let n = loop-again c in
 
 returns : tie.Need-returns invariant-loop decreases-loop
 returns c = λ xs e. let l = c.before.loop in
-    l.invariant.2 xs e ∙ ap (λ (v : List Slot). length (hoursOf v)) (all_slots xs _ e l.i (omega (arith, e)))
+    l.invariant.2 xs e ∙ ap (λ (v : List Slot). length (hours_of v)) (all_slots xs _ e l.i (omega (arith, e)))
 
 pub sounding-spec : {M : Type 1} → statement M
 sounding-spec =

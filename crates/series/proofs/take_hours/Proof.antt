@@ -3,26 +3,26 @@ use Prim.Native.Nat.{◌≤◌}
 use lib.ListN.{length}
 use borrow.Author.Tests.{not-true, not-false}
 use borrow.Author.Rules.{rules}
-use Rattle.records.specs.Entries.{hoursOf}
-use Rattle.series.specs.Inner.{slotsIn}
-use Rattle.series.proofs.Taking.{hours-many, hours-unrated, hours-rated, refuses, takes}
+use Rattle.records.specs.Entries.{hours_of}
+use Rattle.series.specs.Inner.{slots_in}
+use Rattle.series.proofs.Taking.{hours_many, hours_unrated, hours-rated, refuses, takes}
 use Rattle.series.proofs.take_hours.Statement.{statement}
 use Rattle.series.proofs.take_hours.Tie as tie
 
 -- at most 168 hours sound
-few : (e : tie.Else1) → let a = e.before.before.before.before.args in length (hoursOf (slotsIn a.ms.now a.sounds.now)) ≤ 168
+few : (e : tie.Else1) → let a = e.before.before.before.before.args in length (hours_of (slots_in a.ms.now a.sounds.now)) ≤ 168
 few e = let st = e.before.before.before.before in
     omega (arith, e.before.sounding.ensures st.args.ms.now st.requires.0, e.if1.false)
 
 returns : tie.Need-returns
 returns c = let n = c.before in
     let st = n.before.before.before in
-    refuses _ (hours-many st.args.st _ st.args.rated (omega (arith, n.sounding.ensures st.args.ms.now st.requires.0, c.if1.true)))
+    refuses _ (hours_many st.args.st _ st.args.rated (omega (arith, n.sounding.ensures st.args.ms.now st.requires.0, c.if1.true)))
 
 returns-2 : tie.Need-returns-2
 returns-2 c = let e = c.before in
     let a = e.before.before.before.before.args in
-    refuses _ (hours-unrated a.st _ a.rated (few e) (not-true _ c.if2.true))
+    refuses _ (hours_unrated a.st _ a.rated (few e) (not-true _ c.if2.true))
 
 close-up-requires : tie.Need-close-up-requires
 close-up-requires c κs = let e = c.before.before.before in

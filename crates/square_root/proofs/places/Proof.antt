@@ -35,7 +35,7 @@ module _ (c : tie.At-loop invariant-loop decreases-loop) where
   few = zeros-lt t (t * 2 ^ s) s 53 c.before.requires.0 refl c.loop.invariant.1
 
 loop-holds : tie.Need-loop-init invariant-loop decreases-loop
-loop-holds c = (record { never-past-64 = omega arith }, omega arith)
+loop-holds c = (record { never_past_64 = omega arith }, omega arith)
 
 shl-loop : tie.Need-overflow-shl-loop invariant-loop decreases-loop
 shl-loop c = omega (arith, few c)
@@ -43,7 +43,7 @@ shl-loop c = omega (arith, few c)
 loop-again : tie.Need-loop-preserved invariant-loop decreases-loop
 loop-again c =
     let b = c.before in
-    (record { never-past-64 = omega (arith, few b) }, omega (arith, again (t b) (s b), whole b))
+    (record { never_past_64 = omega (arith, few b) }, omega (arith, again (t b) (s b), whole b))
 
 returns : tie.Need-returns invariant-loop decreases-loop
 returns c = let b = c.before in record { least = omega (arith, whole b); under = omega arith; few = omega (arith, few b) }

@@ -5,9 +5,9 @@ use native.Mathlib.Nat.{mod-eq_of_lt}
 use native.Mathlib.Omega.{arith}
 use borrow.Author.Rules.{rules}
 use lib.Ieee.{Float}
-use Rattle.square_root.specs.Sqrt.{nearestRoot}
+use Rattle.square_root.specs.Sqrt.{nearest_root}
 use Rattle.square_root.specs.Parts.{Bits}
-use Rattle.square_root.proofs.Joined.{small-root, large-root}
+use Rattle.square_root.proofs.Joined.{small_root, large_root}
 use Rattle.square_root.proofs.positive_bits.Statement.{statement}
 use Rattle.square_root.proofs.positive_bits.Tie as tie
 
@@ -18,13 +18,13 @@ returns c =
     let whole : b % 2 ^ 52 ≡ b = omega arith in
     let room : b % 2 ^ 52 * 2 ^ s < 2 ^ 64 = omega arith in
     let shl : b % 2 ^ 52 * 2 ^ s % 2 ^ 64 ≡ b * 2 ^ s = mod-eq_of_lt room ∙ ap (λ (t : ℕ). t * 2 ^ s) whole in
-    subst (λ (x : Float). Bits x c.root-bits.result) (sym (small-root b s (omega arith) (omega arith) (omega arith)))
-    (subst (λ (m : ℕ). Bits (nearestRoot (m * 2 ^ (1074 - s))) c.root-bits.result) shl c.root-bits.ensures)
+    subst (λ (x : Float). Bits x c.root-bits.result) (sym (small_root b s (omega arith) (omega arith) (omega arith)))
+    (subst (λ (m : ℕ). Bits (nearest_root (m * 2 ^ (1074 - s))) c.root-bits.result) shl c.root-bits.ensures)
 
 returns-2 : tie.Need-returns-2
 returns-2 c =
     let b = c.before.before.args.b in
-    subst (λ (x : Float). Bits x c.root-bits2.result) (sym (large-root b (omega arith) (omega arith))) c.root-bits2.ensures
+    subst (λ (x : Float). Bits x c.root-bits2.result) (sym (large_root b (omega arith) (omega arith))) c.root-bits2.ensures
 
 pub positive-bits-spec : {M : Type 1} → statement M
 positive-bits-spec =

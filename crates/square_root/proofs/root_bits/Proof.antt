@@ -3,9 +3,9 @@ use mathlib.Core.Path.{◌≡◌, sym, subst}
 use Prim.Native.Nat.{ℕ, ◌+◌, ◌-◌, ◌*◌, ◌/◌, ◌^◌}
 use native.Mathlib.Omega.{arith}
 use borrow.Author.Rules.{rules}
-use Rattle.square_root.specs.Sqrt.{nearestRoot}
+use Rattle.square_root.specs.Sqrt.{nearest_root}
 use Rattle.square_root.specs.Parts.{Bits}
-use Rattle.square_root.proofs.Joined.{joined, even, odd-one}
+use Rattle.square_root.proofs.Joined.{joined, even, odd_one}
 use Rattle.square_root.proofs.Rounded.{rounded-lt}
 use Rattle.square_root.proofs.root_bits.Statement.{statement}
 use Rattle.square_root.proofs.root_bits.Tie as tie
@@ -25,7 +25,7 @@ returns c =
     let a = c.before.before.args in
     let k = a.e / 2 - 26 in
     let e : a.e ≡ 52 + (k + k) = omega arith in
-    subst (λ (r : ℕ). Bits (nearestRoot (a.m * 2 ^ a.e)) (k * 2 ^ 52 + r)) (sym c.rooted.ensures)
+    subst (λ (r : ℕ). Bits (nearest_root (a.m * 2 ^ a.e)) (k * 2 ^ 52 + r)) (sym c.rooted.ensures)
     (joined (a.m * 2 ^ a.e) a.m k (omega arith) (omega arith) (omega arith) (even a.m a.e k e))
 
 returns-2 : tie.Need-returns-2
@@ -33,8 +33,8 @@ returns-2 c =
     let a = c.before.before.args in
     let k = a.e / 2 - 26 in
     let e : a.e ≡ 53 + (k + k) = omega arith in
-    subst (λ (r : ℕ). Bits (nearestRoot (a.m * 2 ^ a.e)) (k * 2 ^ 52 + r)) (sym c.rooted2.ensures)
-    (joined (a.m * 2 ^ a.e) (a.m * 2) k (omega arith) (omega arith) (omega arith) (odd-one a.m a.e k e))
+    subst (λ (r : ℕ). Bits (nearest_root (a.m * 2 ^ a.e)) (k * 2 ^ 52 + r)) (sym c.rooted2.ensures)
+    (joined (a.m * 2 ^ a.e) (a.m * 2) k (omega arith) (omega arith) (omega arith) (odd_one a.m a.e k e))
 
 pub root-bits-spec : {M : Type 1} → statement M
 root-bits-spec =

@@ -3,7 +3,7 @@ use mathlib.Core.Path.{sym, subst}
 use Prim.Native.Nat.{ℕ}
 use native.Mathlib.Omega.{arith}
 use borrow.Author.Rules.{rules}
-use Rattle.square_root.proofs.Root.{Root, isqrt-root}
+use Rattle.square_root.proofs.Root.{Root, isqrt_root}
 use Rattle.square_root.proofs.Newton.{Ranges, ranges, last_up, last-stays}
 use Rattle.square_root.proofs.rooted.Statement.{statement}
 use Rattle.square_root.proofs.rooted.Tie as tie
@@ -16,7 +16,7 @@ module _ (c : tie.After-whole-root) where
   s = c.whole-root.result
 
   is-root : Root w s
-  is-root = subst (Root w) (sym c.whole-root.ensures) (isqrt-root w)
+  is-root = subst (Root w) (sym c.whole-root.ensures) (isqrt_root w)
 
   fits : Ranges w s
   fits = ranges w s is-root (omega arith) (omega arith)

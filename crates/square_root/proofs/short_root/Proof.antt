@@ -31,7 +31,7 @@ tried : (c : tie.In-loop invariant-loop decreases-loop) → c.before.loop.root +
 tried c = let l = c.before.loop in rw (weight c) (tried-le c.before.before.args.h l.root (l.j - 1) (turn c))
 
 loop-holds : tie.Need-loop-init invariant-loop decreases-loop
-loop-holds c = (record { never-past-64 = omega arith }, start c.args.h _ (omega arith) (omega arith))
+loop-holds c = (record { never_past_64 = omega arith }, start c.args.h _ (omega arith) (omega arith))
 
 add-t : tie.Need-overflow-add-t invariant-loop decreases-loop
 add-t c = omega (arith, tried c)
@@ -44,7 +44,7 @@ loop-again c =
     let l = c.before.before.loop in
     let h = c.before.before.before.args.h in
     let w = weight c.before in (
-      record { never-past-64 = omega arith },
+      record { never_past_64 = omega arith },
       rw w (one h l.root (l.j - 1) (turn c.before) (rw w at c.if1.true)),
     )
 
@@ -52,7 +52,7 @@ loop-again-2 : tie.Need-loop-preserved-2 invariant-loop decreases-loop
 loop-again-2 c =
     let l = c.before.before.loop in
     let h = c.before.before.before.args.h in (
-      record { never-past-64 = omega arith },
+      record { never_past_64 = omega arith },
       none h l.root (l.j - 1) (turn c.before) (rw (weight c.before) at c.if1.false),
     )
 

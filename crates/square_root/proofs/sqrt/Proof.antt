@@ -7,10 +7,10 @@ use mathlib.Core.Bool.{Bool, not}
 use lib.Dec.{T, ltb, ltb→lt, not_T}
 use lib.Ieee.{Float, binary64, of_bits, to_bits}
 use lib.Ieee.Bits.{of_bits-to_bits, to_bits-lt, nan_bits_above}
-use Rattle.square_root.specs.Sqrt.{sqrtOf}
-use Rattle.float64.proofs.Helpers.{is-nan, no_nan}
+use Rattle.square_root.specs.Sqrt.{sqrt_of}
+use Rattle.float64.proofs.Helpers.{is_nan_lem, no_nan}
 use Rattle.float64.proofs.Bits.{zero_by_zero}
-use Rattle.square_root.proofs.Joined.{negative-root, top-root}
+use Rattle.square_root.proofs.Joined.{negative_root, top_root}
 use Rattle.square_root.proofs.sqrt.Statement.{statement}
 use Rattle.square_root.proofs.sqrt.Tie as tie
 
@@ -19,22 +19,22 @@ back : (c : tie.Start) → c.args.x ≡ of_bits binary64 (to_bits binary64 c.arg
 back c = sym (of_bits-to_bits binary64 c.args.x (subst T (sym c.well-formed.0.1) tt))
 
 -- where the double with the bits b is its own root
-fixed : (x : Float) (b : ℕ) → x ≡ of_bits binary64 (to_bits binary64 x) → to_bits binary64 x ≡ b → of_bits binary64 b ≡ sqrtOf (of_bits binary64 b) → x ≡ sqrtOf x
-fixed x b p q r = subst (λ (y : Float). y ≡ sqrtOf y) (sym (p ∙ ap (of_bits binary64) q)) r
+fixed : (x : Float) (b : ℕ) → x ≡ of_bits binary64 (to_bits binary64 x) → to_bits binary64 x ≡ b → of_bits binary64 b ≡ sqrt_of (of_bits binary64 b) → x ≡ sqrt_of x
+fixed x b p q r = subst (λ (y : Float). y ≡ sqrt_of y) (sym (p ∙ ap (of_bits binary64) q)) r
 
 returns : tie.Need-returns
-unfolding sqrtOf
-returns c = rw (is-nan c.before.args.x c.if1.true)
+unfolding sqrt_of
+returns c = rw (is_nan_lem c.before.args.x c.if1.true)
 
 float-to-bits-b : tie.Need-float-to-bits-b
 float-to-bits-b c = no_nan c.before.args.x c.if1.false
 
 returns-2 : tie.Need-returns-2
-unfolding of_bits sqrtOf
+unfolding of_bits sqrt_of
 returns-2 c = fixed c.before.before.args.x 0 (back c.before.before) c.if2.true refl
 
 returns-3 : tie.Need-returns-3
-unfolding of_bits sqrtOf
+unfolding of_bits sqrt_of
 returns-3 c = let s = c.before.before.before in fixed s.args.x (2 ^ 63) (back s) c.if3.true refl
 
 returns-4 : tie.Need-returns-4
@@ -42,13 +42,13 @@ returns-4 c =
     let plus = c.before.before in
     let s = plus.before.before in
     let x = s.args.x in
-    zero_by_zero ∙ sym (ap sqrtOf (back s) ∙ negative-root (to_bits binary64 x) (omega arith) (to_bits-lt binary64 x (subst T (sym s.well-formed.0.1) tt)))
+    zero_by_zero ∙ sym (ap sqrt_of (back s) ∙ negative_root (to_bits binary64 x) (omega arith) (to_bits-lt binary64 x (subst T (sym s.well-formed.0.1) tt)))
 
 returns-5 : tie.Need-returns-5
 returns-5 c =
     let plus = c.before.before.before in
     let s = plus.before.before in
-    fixed s.args.x (to_bits binary64 s.args.x) (back s) refl (top-root (to_bits binary64 s.args.x) (omega arith) (omega arith))
+    fixed s.args.x (to_bits binary64 s.args.x) (back s) refl (top_root (to_bits binary64 s.args.x) (omega arith) (omega arith))
 
 float-from-bits-result : tie.Need-float-from-bits-result
 float-from-bits-result c =
@@ -61,7 +61,7 @@ returns-6 : tie.Need-returns-6
 returns-6 c =
     let plus = c.before.before.before.before in
     let s = plus.before.before in
-    c.positive-bits.ensures.value ∙ ap sqrtOf (sym (back s))
+    c.positive-bits.ensures.value ∙ ap sqrt_of (sym (back s))
 
 pub sqrt-spec : {M : Type 1} → statement M
 sqrt-spec =

@@ -12,7 +12,7 @@ returns c = let e6 = c.before in
     let e2 = e3.before in
     let e1 = e2.before in (
       rw (← e1.count_at.ensures.0, ← e2.count-at2.ensures.0, ← e3.count-at3.ensures.0, ← e4.count-at4.ensures.0, ← e5.count-at5.ensures.0, ← e6.count-at6.ensures.0, ← c.count-at7.ensures.0),
-      record { n-in = e1.count_at.ensures.1; trend-in = e2.count-at2.ensures.1; cycle-in = e3.count-at3.ensures.1; knots-in = e4.count-at4.ensures.1; dual-in = e5.count-at5.ensures.1; work_in = e6.count-at6.ensures.1; marks-in = c.count-at7.ensures.1 },
+      record { n_in = e1.count_at.ensures.1; trend_in = e2.count-at2.ensures.1; cycle_in = e3.count-at3.ensures.1; knots_in = e4.count-at4.ensures.1; dual_in = e5.count-at5.ensures.1; work_in = e6.count-at6.ensures.1; marks_in = c.count-at7.ensures.1 },
     )
 
 pub lent-at-spec : {M : Type 1} → statement M

@@ -6,12 +6,12 @@ use lib.ListN.{length}
 use lib.Ieee.{binary64, of_bits}
 use Rattle.vectors.specs.Parts.{Written}
 use Rattle.vectors.proofs.Laws.{none, up}
-use Rattle.stored.proofs.Same.{doubleFrom, loaded}
+use Rattle.stored.proofs.Same.{double_from, loaded}
 use Rattle.stored.proofs.load.Statement.{statement}
 use Rattle.stored.proofs.load.Tie as tie
 
 abbrev invariant-loop : tie.invariant-loop
-invariant-loop y₀ s a n i₀ y i = (i ≤ n) × (length y ≡ length y₀) × Written 0 i (doubleFrom s a) y₀ y
+invariant-loop y₀ s a n i₀ y i = (i ≤ n) × (length y ≡ length y₀) × Written 0 i (double_from s a) y₀ y
 
 abbrev decreases-loop : tie.decreases-loop
 decreases-loop y₀ s a n i₀ y i = n - i

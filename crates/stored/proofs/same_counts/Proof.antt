@@ -4,7 +4,7 @@ use native.Mathlib.Omega.{arith}
 use Prim.Native.Nat.{ℕ, ◌≤◌, ◌-◌}
 use mathlib.Core.List.{List}
 use lib.ListN.{length, get_or}
-use Rattle.stored.specs.Words.{sameTo}
+use Rattle.stored.specs.Words.{same_to}
 use Rattle.stored.proofs.Same.{same_more}
 use Rattle.stored.proofs.same_counts.Statement.{statement}
 use Rattle.stored.proofs.same_counts.Tie as tie
@@ -13,13 +13,13 @@ abbrev place : List ℕ → ℕ → ℕ
 place x i = get_or x i 0
 
 abbrev invariant-loop : tie.invariant-loop
-invariant-loop x s a all₀ i₀ all i = (i ≤ length x) × (all ≡ sameTo (place x) s a i)
+invariant-loop x s a all₀ i₀ all i = (i ≤ length x) × (all ≡ same_to (place x) s a i)
 
 abbrev decreases-loop : tie.decreases-loop
 decreases-loop x s a all₀ i₀ all i = length x - i
 
 loop-holds : tie.Need-loop-init invariant-loop decreases-loop
-unfolding sameTo
+unfolding same_to
 loop-holds c = (search rules, refl)
 
 loop-again : tie.Need-loop-preserved invariant-loop decreases-loop

@@ -6,7 +6,7 @@ use mathlib.Core.List.{List}
 use lib.ListN.{length}
 use lib.Ieee.{Float, binary64, to_bits}
 use Rattle.vectors.specs.Vec.{at}
-use Rattle.stored.specs.Words.{sameTo}
+use Rattle.stored.specs.Words.{same_to}
 use Rattle.stored.proofs.Same.{same_more}
 use Rattle.stored.proofs.same_doubles.Statement.{statement}
 use Rattle.stored.proofs.same_doubles.Tie as tie
@@ -15,13 +15,13 @@ abbrev place : List Float → ℕ → ℕ
 place x i = to_bits binary64 (at x i)
 
 abbrev invariant-loop : tie.invariant-loop
-invariant-loop x s a all₀ i₀ all i = (i ≤ length x) × (all ≡ sameTo (place x) s a i)
+invariant-loop x s a all₀ i₀ all i = (i ≤ length x) × (all ≡ same_to (place x) s a i)
 
 abbrev decreases-loop : tie.decreases-loop
 decreases-loop x s a all₀ i₀ all i = length x - i
 
 loop-holds : tie.Need-loop-init invariant-loop decreases-loop
-unfolding sameTo
+unfolding same_to
 loop-holds c = (search rules, refl)
 
 loop-again : tie.Need-loop-preserved invariant-loop decreases-loop

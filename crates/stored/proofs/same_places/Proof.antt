@@ -1,10 +1,10 @@
 use borrow.Author.Rules.{rules}
-use Rattle.stored.specs.Words.{samePlaces}
+use Rattle.stored.specs.Words.{same_places}
 use Rattle.stored.proofs.same_places.Statement.{statement}
 use Rattle.stored.proofs.same_places.Tie as tie
 
 returns : tie.Need-returns
-unfolding samePlaces
+unfolding same_places
 returns c = let b₂ = c.before in
     let b₁ = b₂.before in
     let d = b₁.before in

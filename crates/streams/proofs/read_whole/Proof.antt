@@ -7,8 +7,8 @@ use mathlib.Core.Bool.{Bool, cond}
 use mathlib.Core.Path.{◌≡◌, sym, ap, ◌∙◌, subst}
 use lib.ListN.{length}
 use Rattle.streams.specs.declared.Input.{Input}
-use Rattle.streams.specs.Streams.{bytesOf, goesOn, Held}
-use Rattle.streams.proofs.Answers.{bytes-few, moves-or-ends, held}
+use Rattle.streams.specs.Streams.{bytes_of, goes_on, Held}
+use Rattle.streams.proofs.Answers.{bytes_few, moves_or_ends, held}
 use Rattle.streams.proofs.read_whole.Statement.{statement}
 use Rattle.streams.proofs.read_whole.Tie as tie
 
@@ -20,7 +20,7 @@ flag b = cond b 1 0
 
 -- what is left of buf, and one more while there may be more
 abbrev decreases-loop : tie.decreases-loop
-decreases-loop fd buf₀ done₀ g₀ buf done g = length buf - done + flag (goesOn g)
+decreases-loop fd buf₀ done₀ g₀ buf done g = length buf - done + flag (goes_on g)
 
 -- after a read buf is as long as before
 same : (c : tie.After-read-some invariant-loop decreases-loop) → let l = c.before.before.before.before.before.loop in
@@ -30,10 +30,10 @@ same c = let l = c.before.before.before.before.before.loop in
 
 -- and what came fits
 fits : (c : tie.After-read-some invariant-loop decreases-loop) → let l = c.before.before.before.before.before.loop in
-    l.done + bytesOf c.read_Some.result ≤ length l.buf
+    l.done + bytes_of c.read_Some.result ≤ length l.buf
 fits c = let l = c.before.before.before.before.before.loop in
     let e : length c.read_Some.new.1.0 ≡ length l.buf - l.done = c.read_Some.auto.1.0 ∙ mid_len l.done (length l.buf) l.buf (le_refl _) in
-    let h = bytes-few (length c.read_Some.new.1.0) c.read_Some.result c.read_Some.ensures in
+    let h = bytes_few (length c.read_Some.new.1.0) c.read_Some.result c.read_Some.ensures in
     omega (arith, h, e, l.invariant.1)
 
 -- as the code adds it
@@ -47,7 +47,7 @@ add_done c = let h = added c in search rules
 loop-less : tie.Need-loop-smaller invariant-loop decreases-loop
 loop-less c = let r = c.before.before.before in let on = r.before.before.before in let l = on.before.before.loop in
     let old = ap (λ (b : Bool). flag b) (sym on.goes_on.ensures ∙ r.before.before.if1.true) in
-    let new = moves-or-ends (length r.read_Some.new.1.0) r.read_Some.result r.read_Some.ensures in
+    let new = moves_or_ends (length r.read_Some.new.1.0) r.read_Some.result r.read_Some.ensures in
     omega (arith, old, new, c.bytes_of.ensures, added c, same r)
 
 loop-again : tie.Need-loop-preserved invariant-loop decreases-loop

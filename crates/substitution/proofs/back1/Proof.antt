@@ -7,7 +7,7 @@ use lib.Ieee.{nan}
 use Rattle.vectors.specs.Vec.{at}
 use Rattle.substitution.specs.Solved.{Carried}
 use Rattle.substitution.proofs.Orders.{step-1}
-use Rattle.substitution.proofs.Laws.{carried_none, carried-more}
+use Rattle.substitution.proofs.Laws.{carried_none, carried_more}
 use Rattle.substitution.proofs.back1.Statement.{statement}
 use Rattle.substitution.proofs.back1.Tie as tie
 
@@ -31,7 +31,7 @@ loop-again c = let at-loop = c.before.before.before.before in
     let e : i - 1 + 1 ≡ i = omega arith in (
       search rules,
       sym (get_or-set_same s (m * 2 + (i - 1)) _ nan (omega arith)),
-      carried-more (i - 1) (m * 2 + (i - 1)) inv.2 (omega arith) (omega arith) refl (omega arith) (step-1 s m (i - 1) (omega arith) (rw e inv.1)) (omega arith),
+      carried_more (i - 1) (m * 2 + (i - 1)) inv.2 (omega arith) (omega arith) refl (omega arith) (step-1 s m (i - 1) (omega arith) (rw e inv.1)) (omega arith),
     )
 
 returns : tie.Need-returns invariant-loop decreases-loop

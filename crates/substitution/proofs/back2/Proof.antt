@@ -8,7 +8,7 @@ use lib.Seq.{get_or-set_same, get_or-set_other}
 use Rattle.vectors.specs.Vec.{at}
 use Rattle.substitution.specs.Solved.{Carried}
 use Rattle.substitution.proofs.Orders.{step-2}
-use Rattle.substitution.proofs.Laws.{carried_none, carried-more}
+use Rattle.substitution.proofs.Laws.{carried_none, carried_more}
 use Rattle.substitution.proofs.back2.Statement.{statement}
 use Rattle.substitution.proofs.back2.Tie as tie
 
@@ -35,7 +35,7 @@ loop-again c = let at-loop = c.before.before.before.before.before in
       search rules,
       sym (get_or-set_same s (m * 3 + (i - 1)) _ nan (omega arith)),
       inv.1 ∙ sym (rw e (get_or-set_other s (m * 3 + (i - 1)) (m * 3 + i) _ nan (ne_of_gt (omega arith)))),
-      carried-more (i - 1) (m * 3 + (i - 1)) inv.3 (omega arith) (omega arith) refl (omega arith) (step-2 s m (i - 1) (omega arith) (rw e inv.1) (rw f inv.2)) (omega arith),
+      carried_more (i - 1) (m * 3 + (i - 1)) inv.3 (omega arith) (omega arith) refl (omega arith) (step-2 s m (i - 1) (omega arith) (rw e inv.1) (rw f inv.2)) (omega arith),
     )
 
 returns : tie.Need-returns invariant-loop decreases-loop

@@ -4,7 +4,7 @@ use Prim.Native.Nat.{◌≤◌, ◌-◌}
 use native.Mathlib.Omega.{arith}
 use Rattle.banded.proofs.Laws.{wide_row}
 use Rattle.substitution.specs.Solved.{Carried}
-use Rattle.substitution.proofs.Laws.{carried_none, carried-more}
+use Rattle.substitution.proofs.Laws.{carried_none, carried_more}
 use Rattle.substitution.proofs.back_any.Statement.{statement}
 use Rattle.substitution.proofs.back_any.Tie as tie
 
@@ -23,7 +23,7 @@ loop-holds c = (search rules, carried_none _ _ _ _)
 
 loop-again : tie.Need-loop-preserved invariant-loop decreases-loop
 loop-again c = let inv = c.before.before.before.loop.invariant in
-    (search rules, carried-more _ _ inv.1 (omega arith) refl refl (omega arith) c.back_at.ensures refl)
+    (search rules, carried_more _ _ inv.1 (omega arith) refl refl (omega arith) c.back_at.ensures refl)
 
 returns : tie.Need-returns invariant-loop decreases-loop
 returns c = let at-loop = c.before in

@@ -5,15 +5,15 @@ use native.Mathlib.Nat.{add-sub_cancel_left}
 use native.Mathlib.Omega.{arith}
 use Rattle.float64.specs.Ops.{◌⊘◌, ◌⊗◌}
 use Rattle.vectors.specs.Vec.{at}
-use Rattle.banded.specs.Rows.{lessFrom}
-use Rattle.banded.specs.Solve.{backAt}
-use Rattle.banded.specs.Run.{ofRun, HasRow}
-use Rattle.banded.proofs.Laws.{row_fits, within, lessFrom-none, lessFrom-more}
+use Rattle.banded.specs.Rows.{less_from}
+use Rattle.banded.specs.Solve.{back_at}
+use Rattle.banded.specs.Run.{of_run, HasRow}
+use Rattle.banded.proofs.Laws.{row_fits, within, less_from_none, less_from-more}
 use Rattle.substitution.proofs.back_at.Statement.{statement}
 use Rattle.substitution.proofs.back_at.Tie as tie
 
 abbrev invariant-loop : tie.invariant-loop
-invariant-loop s k m i b d v₀ n t₀ v t = (t ≤ n) × (v ≡ lessFrom (at s (m * (k + 1) + i) ⊘ ofRun k s i i) (λ r. ofRun k s r i ⊗ at s (m * (k + 1) + r)) (i + 1) (i + 1 + t))
+invariant-loop s k m i b d v₀ n t₀ v t = (t ≤ n) × (v ≡ less_from (at s (m * (k + 1) + i) ⊘ of_run k s i i) (λ r. of_run k s r i ⊗ at s (m * (k + 1) + r)) (i + 1) (i + 1 + t))
 
 abbrev decreases-loop : tie.decreases-loop
 decreases-loop s k m i b d v₀ n t₀ v t = n - t
@@ -30,7 +30,7 @@ get-requires c κs = let st = c.before in
 
 loop-holds : tie.Need-loop-init invariant-loop decreases-loop
 loop-holds c = let a = c.before.before.before.before.args in
-    (search rules, rw (c.before.before.get.ensures, add-sub_cancel_left a.i a.k) (sym (lessFrom-none _ _ _ _ (omega arith))))
+    (search rules, rw (c.before.before.get.ensures, add-sub_cancel_left a.i a.k) (sym (less_from_none _ _ _ _ (omega arith))))
 
 add-get-2 : tie.Need-overflow-add-get-2 invariant-loop decreases-loop
 add-get-2 c = let n-is = c.before.before in
@@ -50,10 +50,10 @@ loop-again c = let at-loop = c.before.before.before in
     let a = at-loop.before.before.before.before.before.args in
     let t = at-loop.loop.t in
     let e : a.i + a.k - (a.i + 1 + t) ≡ a.k - (t + 1) = omega arith in
-    (search rules, lessFrom-more _ _ (a.i + 1) (a.i + 1 + t) at-loop.loop.invariant.1 (rw (c.before.get2.ensures, e)) (omega arith) (omega arith))
+    (search rules, less_from-more _ _ (a.i + 1) (a.i + 1 + t) at-loop.loop.invariant.1 (rw (c.before.get2.ensures, e)) (omega arith) (omega arith))
 
 returns : tie.Need-returns invariant-loop decreases-loop
-unfolding backAt
+unfolding back_at
 returns c = let at-loop = c.before in
     let a = at-loop.before.before.before.before.before.args in
     let e : a.i + 1 + at-loop.loop.t ≡ min (a.i + a.k + 1) a.m = omega (arith, at-loop.before.smaller.ensures) in

@@ -1,7 +1,7 @@
 use borrow.Author.Rules.{rules}
 use mathlib.Core.Path.{◌≡◌}
 use native.Mathlib.Omega.{arith}
-use Rattle.substitution.proofs.Laws.{carried_none, more-than, last-k}
+use Rattle.substitution.proofs.Laws.{carried_none, more_than, last_k}
 use Rattle.substitution.proofs.back_rest.Statement.{statement}
 use Rattle.substitution.proofs.back_rest.Tie as tie
 
@@ -17,14 +17,14 @@ returns-2 : tie.Need-returns-2
 returns-2 c = let done = c.before.before in
     let two = done.before.before in
     let st = two.before.before.before in
-    let n : st.args.n ≡ st.args.k = last-k st.requires.1 two.before.if1.false in
+    let n : st.args.n ≡ st.args.k = last_k st.requires.1 two.before.if1.false in
     rw (n, two.if2.true) done.back1.ensures
 
 back2-requires : tie.Need-back2-requires
 back2-requires c κs = let three = c.before in
     let not-all = three.before.before in
     let st = not-all.before.before in
-    let l = more-than st.requires.1 not-all.if1.false in
+    let l = more_than st.requires.1 not-all.if1.false in
     (omega arith, rw three.if3.true at st.requires.0)
 
 returns-3 : tie.Need-returns-3
@@ -32,14 +32,14 @@ returns-3 c = let done = c.before.before in
     let three = done.before.before in
     let not-all = three.before.before in
     let st = not-all.before.before in
-    let n : st.args.n ≡ st.args.k = last-k st.requires.1 not-all.if1.false in
+    let n : st.args.n ≡ st.args.k = last_k st.requires.1 not-all.if1.false in
     rw (n, three.if3.true) done.back2.ensures
 
 back-any-requires : tie.Need-back-any-requires
 back-any-requires c κs = let not-all = c.before.before.before in
     let st = not-all.before.before in
-    let l = more-than st.requires.1 not-all.if1.false in
-    let n : st.args.n ≡ st.args.k = last-k st.requires.1 not-all.if1.false in
+    let l = more_than st.requires.1 not-all.if1.false in
+    let n : st.args.n ≡ st.args.k = last_k st.requires.1 not-all.if1.false in
     search rules
 
 returns-4 : tie.Need-returns-4

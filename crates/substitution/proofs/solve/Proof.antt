@@ -1,7 +1,7 @@
 use borrow.Author.Rules.{rules}
 use native.Mathlib.Omega.{arith}
 use native.Mathlib.Nat.{min-le_right}
-use Rattle.substitution.proofs.Laws.{carried-then, substituted}
+use Rattle.substitution.proofs.Laws.{carried_then, substituted}
 use Rattle.substitution.proofs.solve.Statement.{statement}
 use Rattle.substitution.proofs.solve.Tie as tie
 
@@ -13,7 +13,7 @@ back-any-requires c κs = let n-is = c.before in
 returns : tie.Need-returns
 returns c = let rest = c.before.before in
     let last = rest.before.before.before.before in
-    substituted (carried-then last.back_any.ensures rest.back-rest.ensures)
+    substituted (carried_then last.back_any.ensures rest.back-rest.ensures)
 
 pub solve-spec : {M : Type 1} → statement M
 solve-spec =

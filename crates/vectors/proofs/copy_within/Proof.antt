@@ -7,7 +7,7 @@ use native.Mathlib.Omega.{arith}
 use lib.Ieee.{nan}
 use Rattle.vectors.specs.Vec.{at}
 use Rattle.vectors.specs.Parts.{Written, part_of}
-use Rattle.vectors.proofs.Laws.{none, store-more, written-kept}
+use Rattle.vectors.proofs.Laws.{none, store_more, written-kept}
 use Rattle.vectors.proofs.Parts.{store-done}
 use Rattle.vectors.proofs.copy_within.Statement.{statement}
 use Rattle.vectors.proofs.copy_within.Tie as tie
@@ -28,7 +28,7 @@ loop-again c = let l = c.before.before.loop in
     let w = l.invariant.1 in
     let size = w.size in (
       search rules,
-      store-more a.b l.i (λ j. at a.s.now (a.a + j)) a.s.now l.s _ w (omega arith)
+      store_more a.b l.i (λ j. at a.s.now (a.a + j)) a.s.now l.s _ w (omega arith)
           (⊎_elim (λ (h : a.a + a.n ≤ a.b). w.below (a.a + l.i) (omega arith)) (λ (h : a.b + a.n ≤ a.a). w.above (a.a + l.i) (omega arith)) st.requires.apart),
     )
 

@@ -3,19 +3,19 @@ use mathlib.Core.Path.{◌≡◌, refl, ◌∙◌}
 use Prim.Native.Nat.{◌≤◌, ◌-◌}
 use native.Mathlib.Omega.{arith}
 use lib.ListN.{length}
-use Rattle.vectors.specs.Sums.{insideTo}
+use Rattle.vectors.specs.Sums.{inside_to}
 use Rattle.vectors.proofs.Sums.{inside-more}
 use Rattle.vectors.proofs.inside.Statement.{statement}
 use Rattle.vectors.proofs.inside.Tie as tie
 
 abbrev invariant-loop : tie.invariant-loop
-invariant-loop v lam all₀ i₀ all i = (i ≤ length v) × (all ≡ insideTo lam v i)
+invariant-loop v lam all₀ i₀ all i = (i ≤ length v) × (all ≡ inside_to lam v i)
 
 abbrev decreases-loop : tie.decreases-loop
 decreases-loop v lam all₀ i₀ all i = length v - i
 
 loop-holds : tie.Need-loop-init invariant-loop decreases-loop
-unfolding insideTo
+unfolding inside_to
 loop-holds c = (search rules, refl)
 
 loop-again : tie.Need-loop-preserved invariant-loop decreases-loop

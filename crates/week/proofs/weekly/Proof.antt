@@ -4,8 +4,8 @@ use mathlib.Core.Path.{sym, ◌∙◌}
 use Prim.Native.Nat.{ℕ}
 use mathlib.Core.List.{List}
 use lib.Seq.{length-take-le}
-use Rattle.records.specs.Week.{readWeek}
-use Rattle.week.proofs.Showing.{Taken, taken-week, text-refused, text-taken, wrote-counts}
+use Rattle.records.specs.Week.{read_week}
+use Rattle.week.proofs.Showing.{Taken, taken_week, text_refused, text_taken, wrote_counts}
 use Rattle.week.proofs.weekly.Statement.{statement}
 use Rattle.week.proofs.weekly.Tie as tie
 
@@ -13,9 +13,9 @@ use Rattle.week.proofs.weekly.Tie as tie
 abbrev input : tie.After-settings → List ℕ
 input k = let r = k.before.before in r.before.before.before.before.args.input.now
 
-week : (c : tie.After-known-told2) → let k = c.before in Taken (readWeek (input k)) k.settings.given.0.0 k.settings.given.0.1.0 k.before.before.read-week.new.1.0 k.before.before.read-week.new.1.1.0
+week : (c : tie.After-known-told2) → let k = c.before in Taken (read_week (input k)) k.settings.given.0.0 k.settings.given.0.1.0 k.before.before.read-week.new.1.0 k.before.before.read-week.new.1.1.0
 week c = let k = c.before in
-    taken-week _ (rw k.settings.given.1 at k.before.before.read-week.ensures)
+    taken_week _ (rw k.settings.given.1 at k.before.before.read-week.ensures)
 
 array-share-prefix-y : tie.Need-array-share-prefix-y
 array-share-prefix-y c = (week c).hours.room
@@ -37,12 +37,12 @@ fit-week-requires c κs = let q = c.before in
 
 returns : tie.Need-returns
 returns c = let k = c.before.before.before in
-    let e = text-refused _ (sym k.number.given.1 ∙ k.before.before.read-week.ensures.said) in
-    (rw e c.Put-refused.ensures, wrote-counts c.Put-refused.ensures)
+    let e = text_refused _ (sym k.number.given.1 ∙ k.before.before.read-week.ensures.said) in
+    (rw e c.Put-refused.ensures, wrote_counts c.Put-refused.ensures)
 
 returns-2 : tie.Need-returns-2
 returns-2 c = let w = week c.before.before.before.before in
-    (rw (text-taken _ w) c.fit-week.ensures, wrote-counts c.fit-week.ensures)
+    (rw (text_taken _ w) c.fit-week.ensures, wrote_counts c.fit-week.ensures)
 
 pub weekly-spec : {M : Type 1} → statement M
 weekly-spec =

@@ -2,19 +2,19 @@ use borrow.Author.Rules.{rules}
 use mathlib.Core.Path.{◌≡◌, ◌∙◌}
 use native.Mathlib.Omega.{arith}
 use Rattle.vectors.proofs.Parts.{store-done}
-use Rattle.vectors.proofs.Laws.{none, store-more, written-kept}
+use Rattle.vectors.proofs.Laws.{none, store_more, written-kept}
 use native.Mathlib.Nat.{add-zero}
 use lib.Ieee.{nan}
 use lib.ListN.{get_or}
 use Rattle.vectors.specs.Parts.{Written}
-use Rattle.active_set.specs.Marks.{heldBy}
-use Rattle.active_set.specs.ActiveSet.{compressedRhsAt}
+use Rattle.active_set.specs.Marks.{held_by}
+use Rattle.active_set.specs.ActiveSet.{compressed_rhs_at}
 use Prim.Native.Nat.{◌≤◌, ◌-◌, ◌+◌}
 use Rattle.active_set.proofs.system.fill_right.Statement.{statement}
 use Rattle.active_set.proofs.system.fill_right.Tie as tie
 
 abbrev invariant-loop : tie.invariant-loop
-invariant-loop s₀ b marks dy lam g k n q p₀ s p = (p ≤ q) × Written b (b + p) (λ j. compressedRhsAt k g dy lam (heldBy n marks) (n - k) (get_or marks (j - b) 0)) s₀ s
+invariant-loop s₀ b marks dy lam g k n q p₀ s p = (p ≤ q) × Written b (b + p) (λ j. compressed_rhs_at k g dy lam (held_by n marks) (n - k) (get_or marks (j - b) 0)) s₀ s
 
 abbrev decreases-loop : tie.decreases-loop
 decreases-loop s₀ b marks dy lam g k n q p₀ s p = q - p
@@ -36,7 +36,7 @@ loop-again : tie.Need-loop-preserved invariant-loop decreases-loop
 loop-again c = let l = c.before.before.before.before in
     let a = l.before.before.before.before.args in (
       search rules,
-      store-more a.b l.loop.p (λ r. compressedRhsAt a.k a.g a.dy.now a.lam (heldBy a.n a.marks.now) (a.n - a.k) (get_or a.marks.now r 0))
+      store_more a.b l.loop.p (λ r. compressed_rhs_at a.k a.g a.dy.now a.lam (held_by a.n a.marks.now) (a.n - a.k) (get_or a.marks.now r 0))
           a.s.now l.loop.s c.right-at.result l.loop.invariant.1 (omega arith) (c.right-at.ensures ∙ rw c.before.wide.ensures),
     )
 
@@ -45,7 +45,7 @@ returns c = let l = c.before.loop in
     let a = c.before.before.before.before.before.args in
     let e : l.p ≡ a.q = omega arith in
     let w = rw e at l.invariant.1 in
-    (store-done nan a.b a.q (λ r. compressedRhsAt a.k a.g a.dy.now a.lam (heldBy a.n a.marks.now) (a.n - a.k) (get_or a.marks.now r 0)) a.s.now l.s w, written-kept w)
+    (store-done nan a.b a.q (λ r. compressed_rhs_at a.k a.g a.dy.now a.lam (held_by a.n a.marks.now) (a.n - a.k) (get_or a.marks.now r 0)) a.s.now l.s w, written-kept w)
 
 pub fill-right-spec : {M : Type 1} → statement M
 fill-right-spec =

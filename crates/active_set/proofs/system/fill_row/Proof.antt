@@ -4,8 +4,8 @@ use native.Mathlib.Nat.{add-zero}
 use native.Mathlib.Omega.{arith}
 use Prim.Native.Nat.{◌≤◌, ◌-◌, ◌+◌, ◌*◌}
 use Rattle.vectors.specs.Parts.{Written}
-use Rattle.vectors.proofs.Laws.{none, store-more}
-use Rattle.banded.proofs.Laws.{one-row}
+use Rattle.vectors.proofs.Laws.{none, store_more}
+use Rattle.banded.proofs.Laws.{one_row}
 use Rattle.banded.specs.Rows.{placed}
 use Rattle.active_set.specs.ActiveSet.{compressed}
 use Rattle.active_set.proofs.system.fill_row.Statement.{statement}
@@ -19,7 +19,7 @@ decreases-loop s₀ free g k p a c₀ s c = k + 1 - c
 
 mul-a : tie.Need-overflow-mul-a invariant-loop decreases-loop
 mul-a c = let a = c.before.before.args in
-    omega (arith, one-row a.k a.p)
+    omega (arith, one_row a.k a.p)
 
 loop-holds : tie.Need-loop-init invariant-loop decreases-loop
 loop-holds c = (search rules, rw add-zero none)
@@ -30,19 +30,19 @@ band-at-requires c κs = record { order = c.before.before.before.before.requires
 add-s : tie.Need-overflow-add-s invariant-loop decreases-loop
 add-s c = let a = c.before.before.before.before.before.args in
     let size = c.before.before.loop.invariant.1.size in
-    omega (arith, one-row a.k a.p)
+    omega (arith, one_row a.k a.p)
 
 slice-write-s : tie.Need-slice-write-s invariant-loop decreases-loop
 slice-write-s c = let a = c.before.before.before.before.before.args in
     let size = c.before.before.loop.invariant.1.size in
-    omega (arith, one-row a.k a.p)
+    omega (arith, one_row a.k a.p)
 
 loop-again : tie.Need-loop-preserved invariant-loop decreases-loop
 loop-again c = let a = c.before.before.before.before.before.args in
     let l = c.before.before.loop in
     let size = l.invariant.1.size in (
       search rules,
-      store-more (a.p * (a.k + 1)) l.c (placed a.k (compressed a.k a.g a.free.now) a.p) a.s.now l.s _ l.invariant.1 (omega (arith, one-row a.k a.p)) c.band-at.ensures,
+      store_more (a.p * (a.k + 1)) l.c (placed a.k (compressed a.k a.g a.free.now) a.p) a.s.now l.s _ l.invariant.1 (omega (arith, one_row a.k a.p)) c.band-at.ensures,
     )
 
 returns : tie.Need-returns invariant-loop decreases-loop

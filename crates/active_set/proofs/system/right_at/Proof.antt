@@ -4,20 +4,20 @@ use native.Mathlib.Omega.{arith}
 use Rattle.active_set.proofs.Laws.{less-more}
 use native.Mathlib.Nat.{sub_self}
 use Rattle.vectors.specs.Vec.{at}
-use Rattle.active_set.specs.Marks.{heldBy}
-use Rattle.active_set.specs.ActiveSet.{lessTo, compressedRhsAt}
+use Rattle.active_set.specs.Marks.{held_by}
+use Rattle.active_set.specs.ActiveSet.{less_to, compressed_rhs_at}
 use Prim.Native.Nat.{◌≤◌, ◌-◌}
 use Rattle.active_set.proofs.system.right_at.Statement.{statement}
 use Rattle.active_set.proofs.system.right_at.Tie as tie
 
 abbrev invariant-loop : tie.invariant-loop
-invariant-loop marks dy lam g k n m i lo hi v₀ j₀ v j = (lo ≤ j) × (j ≤ hi) × (v ≡ lessTo lam g (heldBy n marks) i lo (at dy i) (j - lo))
+invariant-loop marks dy lam g k n m i lo hi v₀ j₀ v j = (lo ≤ j) × (j ≤ hi) × (v ≡ less_to lam g (held_by n marks) i lo (at dy i) (j - lo))
 
 abbrev decreases-loop : tie.decreases-loop
 decreases-loop marks dy lam g k n m i lo hi v₀ j₀ v j = hi - j
 
 loop-holds : tie.Need-loop-init invariant-loop decreases-loop
-unfolding lessTo
+unfolding less_to
 loop-holds c = (search rules, omega arith, rw sub_self)
 
 loop-again : tie.Need-loop-preserved invariant-loop decreases-loop
@@ -25,7 +25,7 @@ loop-again c = let l = c.before.before.before in
     (search rules, search rules, less-more _ _ _ _ _ _ _ _ _ l.loop.invariant.2 (omega arith) c.less-held.ensures)
 
 returns : tie.Need-returns invariant-loop decreases-loop
-unfolding compressedRhsAt
+unfolding compressed_rhs_at
 returns c = let l = c.before in
     let e : l.loop.j ≡ l.before.before.smaller.result = omega arith in
     rw (e ∙ l.before.before.smaller.ensures, l.before.before.before.over.ensures) at l.loop.invariant.2

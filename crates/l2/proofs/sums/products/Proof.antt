@@ -6,14 +6,14 @@ use lib.ListN.{length}
 use lib.Ieee.{Float}
 use Rattle.float64.specs.Ops.{◌⊗◌}
 use Rattle.vectors.specs.Vec.{at}
-use Rattle.vectors.specs.Sums.{sum_to, dot, norm2Sq}
+use Rattle.vectors.specs.Sums.{sum_to, dot, norm2_sq}
 use Rattle.vectors.proofs.Sums.{sum_more}
-use Rattle.differences.specs.Diff.{diffK}
+use Rattle.differences.specs.Diff.{diff_k}
 use Rattle.l2.proofs.sums.products.Statement.{statement}
 use Rattle.l2.proofs.sums.products.Tie as tie
 
 abbrev invariant-loop : tie.invariant-loop
-invariant-loop v y k a₀ b₀ i₀ a b i = (i ≤ length v) × ((a ≡ sum_to (λ j. at v j ⊗ at (diffK k y) j) i) × (b ≡ sum_to (λ j. at v j ⊗ at v j) i))
+invariant-loop v y k a₀ b₀ i₀ a b i = (i ≤ length v) × ((a ≡ sum_to (λ j. at v j ⊗ at (diff_k k y) j) i) × (b ≡ sum_to (λ j. at v j ⊗ at v j) i))
 
 abbrev decreases-loop : tie.decreases-loop
 decreases-loop v y k a₀ b₀ i₀ a b i = length v - i
@@ -30,7 +30,7 @@ loop-again c = let lp = c.before.before.before in
     )
 
 returns : tie.Need-returns invariant-loop decreases-loop
-unfolding dot norm2Sq
+unfolding dot norm2_sq
 returns c = let lp = c.before in
     let e : lp.loop.i ≡ length lp.before.before.before.args.v.now = omega arith in
     (rw e at lp.loop.invariant.1.0, rw e at lp.loop.invariant.1.1)

@@ -6,7 +6,7 @@ use lib.ListN.{length}
 use lib.Ieee.{Float}
 use Rattle.float64.specs.Ops.{◌⊗◌}
 use Rattle.vectors.specs.Vec.{at}
-use Rattle.vectors.specs.Sums.{sum_to, norm2Sq}
+use Rattle.vectors.specs.Sums.{sum_to, norm2_sq}
 use Rattle.vectors.proofs.Sums.{sum_more}
 use Rattle.certificate.specs.Certificate.{minus}
 use Rattle.certificate.proofs.Laws.{length-minus, at-minus}
@@ -29,7 +29,7 @@ loop-again c = let lp = c.before.before.before in
     (search rules, λ s. sum_more _ _ _ _ (lp.loop.invariant.1 s) (ap (λ (d : Float). d ⊗ d) (sym (at-minus a.y.now a.x.now lp.loop.i (omega arith)))))
 
 returns : tie.Need-returns invariant-loop decreases-loop
-unfolding norm2Sq
+unfolding norm2_sq
 returns c = let a = c.before.before.args in
     let e : c.before.loop.i ≡ length (minus a.y.now a.x.now) = omega (arith, length-minus a.y.now a.x.now) in
     λ s. rw e at (c.before.loop.invariant.1 s)

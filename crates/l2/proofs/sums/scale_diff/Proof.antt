@@ -8,14 +8,14 @@ use Rattle.float64.specs.Ops.{◌⊗◌}
 use Rattle.vectors.specs.Vec.{at}
 use Rattle.vectors.specs.Parts.{Written}
 use Rattle.vectors.proofs.Laws.{none, up, length-list, at-list, written-put}
-use Rattle.differences.specs.Diff.{diffK}
-use Rattle.differences.proofs.Laws.{length-diffK}
+use Rattle.differences.specs.Diff.{diff_k}
+use Rattle.differences.proofs.Laws.{length-diff_k}
 use Rattle.l2.specs.L2.{scaled}
 use Rattle.l2.proofs.sums.scale_diff.Statement.{statement}
 use Rattle.l2.proofs.sums.scale_diff.Tie as tie
 
 abbrev invariant-loop : tie.invariant-loop
-invariant-loop v₀ x lam k m i₀ v i = (i ≤ m) × Written 0 i (λ j. lam ⊗ at (diffK k x) j) v₀ v
+invariant-loop v₀ x lam k m i₀ v i = (i ≤ m) × Written 0 i (λ j. lam ⊗ at (diff_k k x) j) v₀ v
 
 abbrev decreases-loop : tie.decreases-loop
 decreases-loop v₀ x lam k m i₀ v i = m - i
@@ -33,9 +33,9 @@ returns : tie.Need-returns invariant-loop decreases-loop
 unfolding scaled
 returns c = let l = c.before in
     let a = l.before.before.before.args in
-    let d = diffK a.k a.x.now in
-    let e : l.loop.i ≡ length d = omega (arith, length-diffK a.k a.x.now) in
-    written-put (scaled a.lam d) (rw e at l.loop.invariant.1) (length-list (length d) (λ i. a.lam ⊗ at d i)) (omega (arith, length-diffK a.k a.x.now)) (λ i h. sym (at-list (length d) (λ i. a.lam ⊗ at d i) i h))
+    let d = diff_k a.k a.x.now in
+    let e : l.loop.i ≡ length d = omega (arith, length-diff_k a.k a.x.now) in
+    written-put (scaled a.lam d) (rw e at l.loop.invariant.1) (length-list (length d) (λ i. a.lam ⊗ at d i)) (omega (arith, length-diff_k a.k a.x.now)) (λ i h. sym (at-list (length d) (λ i. a.lam ⊗ at d i) i h))
 
 pub scale-diff-spec : {M : Type 1} → statement M
 scale-diff-spec =

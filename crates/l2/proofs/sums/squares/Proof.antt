@@ -6,10 +6,10 @@ use lib.ListN.{length}
 use lib.Ieee.{Float}
 use Rattle.float64.specs.Ops.{◌⊗◌}
 use Rattle.vectors.specs.Vec.{at}
-use Rattle.vectors.specs.Sums.{sum_to, norm2Sq}
+use Rattle.vectors.specs.Sums.{sum_to, norm2_sq}
 use Rattle.vectors.proofs.Sums.{sum_more}
-use Rattle.differences.specs.Diff.{diffK}
-use Rattle.differences.proofs.Laws.{length-diffK}
+use Rattle.differences.specs.Diff.{diff_k}
+use Rattle.differences.proofs.Laws.{length-diff_k}
 use Rattle.certificate.specs.Certificate.{minus}
 use Rattle.certificate.proofs.Laws.{at-minus}
 use Rattle.l2.proofs.sums.squares.Statement.{statement}
@@ -17,7 +17,7 @@ use Rattle.l2.proofs.sums.squares.Tie as tie
 
 abbrev invariant-loop : tie.invariant-loop
 invariant-loop x y k m a₀ b₀ i₀ a b i =
-    (i ≤ m) × ((a ≡ sum_to (λ j. at (minus y x) j ⊗ at (minus y x) j) i) × (b ≡ sum_to (λ j. at (diffK k x) j ⊗ at (diffK k x) j) i))
+    (i ≤ m) × ((a ≡ sum_to (λ j. at (minus y x) j ⊗ at (minus y x) j) i) × (b ≡ sum_to (λ j. at (diff_k k x) j ⊗ at (diff_k k x) j) i))
 
 abbrev decreases-loop : tie.decreases-loop
 decreases-loop x y k m a₀ b₀ i₀ a b i = m - i
@@ -37,11 +37,11 @@ loop-again c = let lp = c.before.before.before.before in
     )
 
 returns : tie.Need-returns invariant-loop decreases-loop
-unfolding norm2Sq
+unfolding norm2_sq
 returns c = let lp = c.before.before in
     let a = lp.before.before.before.args in
     let t : lp.loop.i ≡ length a.x.now - a.k = omega arith in
-    let e : lp.loop.i ≡ length (diffK a.k a.x.now) = omega (arith, length-diffK a.k a.x.now) in
+    let e : lp.loop.i ≡ length (diff_k a.k a.x.now) = omega (arith, length-diff_k a.k a.x.now) in
     (c.residual-rest.ensures (rw t at lp.loop.invariant.1.0), rw e at lp.loop.invariant.1.1)
 
 pub squares-spec : {M : Type 1} → statement M

@@ -1,11 +1,11 @@
 use borrow.Author.Rules.{rules}
 use mathlib.Core.Path.{refl, sym}
-use Rattle.trend_filter.proofs.Calling.{told-refused, told_fit}
+use Rattle.trend_filter.proofs.Calling.{told_refused, told_fit}
 use Rattle.trend_filter.proofs.c.tell.Statement.{statement}
 use Rattle.trend_filter.proofs.c.tell.Tie as tie
 
 returns : tie.Need-returns
-returns c = let a = c.before in told-refused _ _ _ _ (sym a.a.given.1)
+returns c = let a = c.before in told_refused _ _ _ _ (sym a.a.given.1)
 
 returns-2 : tie.Need-returns-2
 returns-2 c = let w = c.before.before in

@@ -1,6 +1,6 @@
 use borrow.Author.Rules.{rules}
 use mathlib.Core.Path.{sym}
-use Rattle.trend_filter.proofs.Calling.{told-by}
+use Rattle.trend_filter.proofs.Calling.{told_by}
 use Rattle.trend_filter.proofs.c.trend_filter_crossings.Statement.{statement}
 use Rattle.trend_filter.proofs.c.trend_filter_crossings.Tie as tie
 
@@ -10,7 +10,7 @@ returns c = let a = c.before in
     record {
       answer = l.crossings.result;
       listed = l.crossings.ensures;
-      told = told-by l.before.before.before.before.args.found.now (sym a.q.given.1);
+      told = told_by l.before.before.before.before.args.found.now (sym a.q.given.1);
     }
 
 returns-2 : tie.Need-returns-2
@@ -19,7 +19,7 @@ returns-2 c = let a = c.before.before in
     record {
       answer = l.crossings.result;
       listed = l.crossings.ensures;
-      told = told-by l.before.before.before.before.args.found.now (sym a.n.given.1);
+      told = told_by l.before.before.before.before.args.found.now (sym a.n.given.1);
     }
 
 pub trend-filter-crossings-spec : {M : Type 1} → statement M
