@@ -15,7 +15,7 @@ use lib.Ieee.{Float, lt}
 use Rattle.float64.specs.Ops.{◌⊕◌, ◌⊖◌}
 use Rattle.vectors.specs.Vec.{at, places_to, KeptOf}
 use Rattle.vectors.proofs.Parts.{at_part}
-use Rattle.vectors.proofs.Places.{places_count, places-few, places-rising}
+use Rattle.vectors.proofs.Places.{places_count, places_few, places_rising}
 use Rattle.dual_point.specs.Places.{point}
 use Rattle.active_set.specs.ActiveSet.{Hold, free, at_lam, at_minus_lam, is_free, hold_at, free_to, compressed, less_held, less_to, compressed_rhs_at}
 use Rattle.active_set.specs.Marks.{mark_of, hold_of, Marks}
@@ -56,7 +56,7 @@ count_suc h n = places_count (λ i. is_free (h i)) n
 
 pub count_le : (h : ℕ → Hold) (n : ℕ) → length (free_to h n) ≤ n
 unfolding free_to
-count_le h n = places-few (λ i. is_free (h i)) n
+count_le h n = places_few (λ i. is_free (h i)) n
 
 pub count_more : (h : ℕ → Hold) (i : ℕ) {q r : ℕ} → q ≡ length (free_to h i) → r ≡ cond (is_free (h i)) 1 0 → q + r ≡ length (free_to h (i + 1))
 count_more h i e p = rw (add-one i, count_suc h i, e, p)
@@ -78,7 +78,7 @@ free_index h i m l f =
 -- each is a place
 pub free_lt : (h : ℕ → Hold) (m r : ℕ) → r < length (free_to h m) → get_or (free_to h m) r 0 < m
 unfolding free_to
-free_lt h m r l = (places-rising (λ i. is_free (h i)) m).below r l
+free_lt h m r l = (places_rising (λ i. is_free (h i)) m).below r l
 
 pub free_ext : (h h' : ℕ → Hold) (n : ℕ) → ((j : ℕ) → j < n → h j ≡ h' j) → free_to h n ≡ free_to h' n
 unfolding free_to places_to
@@ -128,9 +128,9 @@ module _ {h : ℕ → Hold} {n i q x : ℕ} {v : List ℕ} (w : Marks h n i v q)
   one : (r : ℕ) → r ≡ cond (is_free (hold_of x)) 1 0 → r ≡ cond (is_free (h i)) 1 0
   one r e = e ∙ ap (λ (t : Hold). cond (is_free t) 1 0) (ap hold_of is ∙ hold_mark (h i))
 
-  pub marks-more : (r : ℕ) → r ≡ cond (is_free (hold_of x)) 1 0 → Marks h n (i + 1) (set (set v (n + i) x) q i) (q + r)
+  pub marks_more : (r : ℕ) → r ≡ cond (is_free (hold_of x)) 1 0 → Marks h n (i + 1) (set (set v (n + i) x) q i) (q + r)
   unfolding free_to places_to
-  marks-more r e =
+  marks_more r e =
       rw (add-one i)
       (record {
         count = rw (w.count, one r e) (sym (count_suc h i));
@@ -142,8 +142,8 @@ module _ {h : ℕ → Hold} {n i q x : ℕ} {v : List ℕ} (w : Marks h n i v q)
             (eq-or-lt_of_le (le_of_suc-le-suc l));
       })
 
-  pub marks-kept : {v₀ : List ℕ} → KeptOf 0 0 (n + i) v₀ v → KeptOf 0 0 (n + (i + 1)) v₀ (set (set v (n + i) x) q i)
-  marks-kept k = record {
+  pub marks_kept : {v₀ : List ℕ} → KeptOf 0 0 (n + i) v₀ v → KeptOf 0 0 (n + (i + 1)) v₀ (set (set v (n + i) x) q i)
+  marks_kept k = record {
     size = length-set (set v (n + i) x) q i ∙ length-set v (n + i) x ∙ k.size;
     below = λ j l. absurd (omega arith);
     above = λ j l. after j (omega arith) ∙ k.above j (omega arith);

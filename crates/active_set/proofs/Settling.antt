@@ -9,7 +9,7 @@ use lib.ListN.{length, get_or}
 use lib.Ieee.{Float}
 use Rattle.vectors.specs.Vec.{list}
 use Rattle.vectors.specs.Parts.{Kept, part_of, part}
-use Rattle.vectors.proofs.Laws.{list_ext, kept-none, kept_then}
+use Rattle.vectors.proofs.Laws.{list_ext, kept_none, kept_then}
 use Rattle.differences.specs.Diff.{gram_row}
 use Rattle.banded.specs.Rows.{rows, sound}
 use Rattle.banded.specs.Solve.{solve, forward, divided, back}
@@ -22,8 +22,8 @@ use Rattle.active_set.specs.Marks.{hold_of, held_by, Marks, Settled}
 use Rattle.active_set.proofs.Laws.{hold_mark, band_ext, right_ext}
 
 module _ {h : ℕ → Hold} {n m q : ℕ} {v : List ℕ} (w : Marks h n m v q) where
-  pub held_by : (j : ℕ) → j < m → held_by n v j ≡ h j
-  held_by j l = ap hold_of (w.held j l) ∙ hold_mark (h j)
+  pub marks_say : (j : ℕ) → j < m → held_by n v j ≡ h j
+  marks_say j l = ap hold_of (w.held j l) ∙ hold_mark (h j)
 
   -- the rows over the first marks keep the system over the free places; and the right side is its own
   rows_is : (k : ℕ) (g s : List Float) → Keeps k q (compressed k g v) s → Keeps k q (compressed k g (free_to h m)) s
@@ -32,7 +32,7 @@ module _ {h : ℕ → Hold} {n m q : ℕ} {v : List ℕ} (w : Marks h n m v q) w
   right_is : (k : ℕ) (g dy : List Float) (lam : Float) → list q (λ r. compressed_rhs_at k g dy lam (held_by n v) m (get_or v r 0)) ≡ compressed_rhs k g dy lam h m (free_to h m)
   right_is k g dy lam =
       list_ext q (λ r. compressed_rhs_at k g dy lam (held_by n v) m (get_or v r 0)) (λ r. compressed_rhs_at k g dy lam h m (get_or (free_to h m) r 0))
-      (λ j l. right_ext k g dy lam (held_by n v) h m (get_or v j 0) held_by ∙ ap (compressed_rhs_at k g dy lam h m) (w.free j l))
+      (λ j l. right_ext k g dy lam (held_by n v) h m (get_or v j 0) marks_say ∙ ap (compressed_rhs_at k g dy lam h m) (w.free j l))
       ∙ ap (λ (x : ℕ). list x (λ r. compressed_rhs_at k g dy lam h m (get_or (free_to h m) r 0))) w.count
 
 -- with nothing to solve
@@ -41,7 +41,7 @@ unfolding sound solved rows solve forward divided back list part_of
 settled_none k n dy lam v q s e = record {
   answer = λ h w. rw e;
   solution = λ h w t. let z : length (free_to h (n - k)) ≡ 0 = sym w.count ∙ e in rw (e, z);
-  kept = kept-none 0 (q * (k + 1) + q) s;
+  kept = kept_none 0 (q * (k + 1) + q) s;
 }
 
 -- s₀ with the rows, s₁, with the right side, s₂, solved, s₃

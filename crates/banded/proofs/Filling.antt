@@ -10,8 +10,8 @@ use lib.Seq.{take_all, length-take-le}
 use lib.Ieee.{Float}
 use Rattle.vectors.specs.Vec.{put}
 use Rattle.vectors.specs.Parts.{Kept, part, Written, Wrote}
-use Rattle.vectors.proofs.Laws.{kept-none}
-use Rattle.vectors.proofs.Parts.{mid_is, put_back, mid-put, length-put}
+use Rattle.vectors.proofs.Laws.{kept_none}
+use Rattle.vectors.proofs.Parts.{mid_is, put_back, mid_put, length-put}
 use Rattle.vectors.proofs.Texts.{wrote_take}
 use Rattle.banded.specs.Rows.{Matrix, placed}
 use Rattle.banded.specs.Run.{Keeps}
@@ -19,7 +19,7 @@ use Rattle.banded.specs.Layout.{Laid}
 use Rattle.banded.proofs.Laws.{above, one_row, placed_at}
 
 pub laid_none : (k : ℕ) (a : Matrix) (s : List Float) → Laid k 0 a s s
-laid_none k a s = record { kept = kept-none 0 (0 * (k + 1)) s; same = λ i j h g. absurd (omega arith) }
+laid_none k a s = record { kept = kept_none 0 (0 * (k + 1)) s; same = λ i j h g. absurd (omega arith) }
 
 pub laid_more : {k r : ℕ} {a : Matrix} {s₀ s s' : List Float} → Laid k r a s₀ s → Written (r * (k + 1)) (r * (k + 1) + (k + 1)) (λ q. placed k a r (q - r * (k + 1))) s s' → Laid k (r + 1) a s₀ s'
 laid_more {k} {r} {a} {s₀} {s} {s'} w v =
@@ -43,9 +43,9 @@ keeps_still k m h w l i j u g o = w.below (i * (k + 1) + (j + k - i)) (omega (ar
 -- ---- a right side v, written over the n places from a on: x is what the call left there
 
 module _ (a n : ℕ) (s x : List Float) (fits : a + n ≤ length s) (l : length x ≡ n) where
-  pub side-put : (v : List Float) → length v ≡ n → x ≡ put (take n (drop a s)) 0 v → part a n (put_back a n s x) ≡ v
-  side-put v e h =
+  pub side_put : (v : List Float) → length v ≡ n → x ≡ put (take n (drop a s)) 0 v → part a n (put_back a n s x) ≡ v
+  side_put v e h =
       let t = take n (drop a s) in
       let lt : length t ≡ n = length-take-le n (drop a s) (omega (arith, length-drop a s)) in
       let w : Wrote t 0 v x n = record { next = omega arith; room = omega arith; text = h } in
-      sym (mid_is a n (put_back a n s x) (omega (arith, length-put a n s x fits l))) ∙ mid-put a n s x fits l ∙ sym (take_all n x (omega arith)) ∙ (wrote_take w).0
+      sym (mid_is a n (put_back a n s x) (omega (arith, length-put a n s x fits l))) ∙ mid_put a n s x fits l ∙ sym (take_all n x (omega arith)) ∙ (wrote_take w).0

@@ -14,8 +14,8 @@ use lib.Ieee.{Float, nan, binary64, of_bits, sub}
 use borrow.Author.Tests.{ltb-true, ltb-false, le-ltb}
 use Rattle.vectors.specs.Vec.{at}
 use Rattle.vectors.specs.Parts.{part}
-use Rattle.vectors.proofs.Laws.{cond_cong, kept-none}
-use Rattle.vectors.proofs.Parts.{length_part, at_part, partOf-range}
+use Rattle.vectors.proofs.Laws.{cond_cong, kept_none}
+use Rattle.vectors.proofs.Parts.{length_part, at_part, part_of_range}
 use Rattle.banded.specs.Rows.{Matrix, line, less, less_from, reduced, entry, placed, row_to, row, rows, sound}
 use Rattle.banded.specs.Run.{concat, flat, look, of_run, Keeps, Shape, Holds, Stands, Factored, HasRow}
 
@@ -127,8 +127,8 @@ module _ (k i c : ℕ) (a a' : Matrix) (p p' : ℕ → ℕ → Float) (b : c ≤
     unfolding entry
     column-ext e = rw (reduced-ext e) (cond_cong (ltb j i) _ _ _ (λ u. let t : j < i = ltb-true j i u in rw (up j (j + k - j) t (omega arith))))
 
-  pub entry-ext : placed k (entry k a l) i c ≡ placed k (entry k a' l') i c
-  entry-ext = placed_ext k (entry k a l) (entry k a' l') i c (λ g. column-ext (i + c - k) (omega arith) (same g))
+  pub entry_ext : placed k (entry k a l) i c ≡ placed k (entry k a' l') i c
+  entry_ext = placed_ext k (entry k a l) (entry k a' l') i c (λ g. column-ext (i + c - k) (omega arith) (same g))
 
 -- ---- one more row
 
@@ -172,7 +172,7 @@ holds_kept {k} {r} {f} {s} {s'} h e = record { shape = h.shape; same = λ i j b 
 
 -- nothing stored yet; one more place, at q
 pub row_none : {k r : ℕ} {s : List Float} → Factored k r 0 s s
-row_none {k} {r} {s} = record { kept = kept-none (r * (k + 1)) 0 s; made = λ j b. absurd (omega arith) }
+row_none {k} {r} {s} = record { kept = kept_none (r * (k + 1)) 0 s; made = λ j b. absurd (omega arith) }
 
 pub row_more : {k r c : ℕ} {s₀ s : List Float} {x : Float} (q : ℕ) → Factored k r c s₀ s → c ≤ k → q ≡ r * (k + 1) + c → q < length s
     → x ≡ placed k (entry k (of_run k s) (of_run k s)) r c → Factored k r (c + 1) s₀ (set s q x)
@@ -189,10 +189,10 @@ row_more {k} {r} {c} {s₀} {s} {x} q w b e fits is =
           ⊎_elim
           (λ (z : j ≡ c).
           rw z (ap (at (set s q x)) (sym e) ∙ get_or-set_same s q x nan fits ∙ is
-          ∙ entry-ext k r c (of_run k s) (of_run k s₀) (flat k s) (flat k (set s q x)) b (λ g. w.kept.above (r * (k + 1) + (r + c - k + k - r)) (omega arith)) up left))
+          ∙ entry_ext k r c (of_run k s) (of_run k s₀) (flat k s) (flat k (set s q x)) b (λ g. w.kept.above (r * (k + 1) + (r + c - k + k - r)) (omega arith)) up left))
           (λ (z : j < c).
           sym (left j z) ∙ w.made j z
-          ∙ entry-ext k r j (of_run k s₀) (of_run k s₀) (flat k s) (flat k (set s q x)) (omega arith) (λ g. refl) up (λ i h. left i (omega arith)))
+          ∙ entry_ext k r j (of_run k s₀) (of_run k s₀) (flat k s) (flat k (set s q x)) (omega arith) (λ g. refl) up (λ i h. left i (omega arith)))
           (eq-or-lt_of_le (omega arith));
     }
 
@@ -224,8 +224,8 @@ module _ (k m : ℕ) (f : List (List Float)) (s : List Float) where
         ∙ at-concat k f (λ n u. h.full n (omega (arith, h.count))) i j (omega (arith, h.count)) g;
   }
 
-  pub of-holds : Holds k m f s → part 0 (m * (k + 1)) s ≡ concat f
-  of-holds h =
+  pub of_holds : Holds k m f s → part 0 (m * (k + 1)) s ≡ concat f
+  of_holds h =
       let n = h.shape.count in
       let l = length_part 0 (m * (k + 1)) s in
       let full : (i : ℕ) → i < length f → length (line f i) ≡ k + 1 = λ i u. h.shape.full i (omega arith) in
@@ -279,15 +279,15 @@ stands_part b n x s e h =
 
 -- a part of the n places from p on
 sub_part : (p n b l : ℕ) (s : List Float) → p + n ≤ length s → b + l ≤ n → part b l (take n (drop p s)) ≡ part (p + b) l s
-sub_part p n b l s room h = let d : p + n - p ≡ n = omega arith in rw d at (partOf-range nan b l p (p + n) s (omega arith) room (omega arith))
+sub_part p n b l s room h = let d : p + n - p ≡ n = omega arith in rw d at (part_of_range nan b l p (p + n) s (omega arith) room (omega arith))
 
 -- a system that stands from place p on: its m rows, the matrix that they keep, and its right side
 module _ (k p m : ℕ) (s : List Float) (room : p + (m * (k + 1) + m) ≤ length s) where
   pub rows-part : part 0 (m * (k + 1)) (take (m * (k + 1) + m) (drop p s)) ≡ part p (m * (k + 1)) s
   rows-part = let z : p + 0 ≡ p = omega arith in rw z at (sub_part p (m * (k + 1) + m) 0 (m * (k + 1)) s room (omega arith))
 
-  pub keeps-part : {a : Matrix} → Keeps k m a (drop p s) → Keeps k m a (take (m * (k + 1) + m) (drop p s))
-  keeps-part h i j l b o = get_or-take (m * (k + 1) + m) (drop p s) (i * (k + 1) + (j + k - i)) nan (omega (arith, above k m i (j + k - i) l (omega arith))) ∙ h i j l b o
+  pub keeps_part : {a : Matrix} → Keeps k m a (drop p s) → Keeps k m a (take (m * (k + 1) + m) (drop p s))
+  keeps_part h i j l b o = get_or-take (m * (k + 1) + m) (drop p s) (i * (k + 1) + (j + k - i)) nan (omega (arith, above k m i (j + k - i) l (omega arith))) ∙ h i j l b o
 
-  pub side-part : part (m * (k + 1)) m (take (m * (k + 1) + m) (drop p s)) ≡ part (p + m * (k + 1)) m s
-  side-part = sub_part p (m * (k + 1) + m) (m * (k + 1)) m s room (omega arith)
+  pub side_part : part (m * (k + 1)) m (take (m * (k + 1) + m) (drop p s)) ≡ part (p + m * (k + 1)) m s
+  side_part = sub_part p (m * (k + 1) + m) (m * (k + 1)) m s room (omega arith)

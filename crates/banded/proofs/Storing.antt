@@ -40,8 +40,8 @@ first : (p : ℕ) (v : ℕ → Float) (s : List Float) (x : Float) → p < lengt
 first p v s x h e = let z : p - p ≡ 0 = omega arith in up none (omega arith) h (e ∙ rw z)
 
 module _ (m r : ℕ) (s : List Float) (a b x : Float) where
-  pub stored-1 : HasRow 1 m r (length s) → Stored 1 m r (at (a ∷ b ∷ [])) x s (set (set (set s (r * 2) a) (r * 2 + 1) b) (m * 2 + r) x)
-  stored-1 has =
+  pub stored_1 : HasRow 1 m r (length s) → Stored 1 m r (at (a ∷ b ∷ [])) x s (set (set (set s (r * 2) a) (r * 2 + 1) b) (m * 2 + r) x)
+  stored_1 has =
       let row = has.row in
       let room = has.room in
       let v : ℕ → Float = at (a ∷ b ∷ []) in
@@ -49,9 +49,9 @@ module _ (m r : ℕ) (s : List Float) (a b x : Float) where
       stored (r * 2) (m * 2 + r) refl refl has
       (store_more (r * 2) 1 v s (set s (r * 2) a) b (first (r * 2) v s a (omega arith) refl) (omega arith) refl)
 
-  pub stored-2 : (d : Float) → HasRow 2 m r (length s)
+  pub stored_2 : (d : Float) → HasRow 2 m r (length s)
       → Stored 2 m r (at (a ∷ b ∷ d ∷ [])) x s (set (set (set (set s (r * 3) a) (r * 3 + 1) b) (r * 3 + 2) d) (m * 3 + r) x)
-  stored-2 d has =
+  stored_2 d has =
       let row = has.row in
       let room = has.room in
       let v : ℕ → Float = at (a ∷ b ∷ d ∷ []) in

@@ -83,12 +83,12 @@ module _ (a : Asked) (other : ℕ) (r s : Answer) (b c d e : Buffers) (h : TwoCa
   fits x t = came (fit a (lent b)) x (sym h.first.gives.answer ∙ t)
 
   -- questions 8 and 9 don't read the limit
-  room-other : (l : Lent) → room (length a.y) (needs_for (with_max_iter other a)) l ≡ room (length a.y) (needs_for a) l
+  room_other : (l : Lent) → room (length a.y) (needs_for (with_max_iter other a)) l ≡ room (length a.y) (needs_for a) l
   unfolding room
-  room-other l = refl
+  room_other l = refl
 
   same : (o : Outcome) → fit (with_max_iter other a) (lent b) ≡ o → fit (with_max_iter other a) (lent d) ≡ o
-  same o q = same_lent (with_max_iter other a) (lent d) (lent b) (room-other (lent d) ∙ h.same_room ∙ sym (room-other (lent b))) ∙ q
+  same o q = same_lent (with_max_iter other a) (lent d) (lent b) (room_other (lent d) ∙ h.same_room ∙ sym (room_other (lent b))) ∙ q
 
   -- the places of two calls that write one fit
   placed : (f : FitResult) (o : Outcome) → fit a (lent b) ≡ fitted f → fit (with_max_iter other a) (lent d) ≡ o → ((v : Outputs) → after o v ≡ after (fitted f) v) → SamePlaces (length a.y) (length f.knots) (places a) c.out e.out
@@ -107,8 +107,8 @@ module _ (a : Asked) (other : ℕ) (r s : Answer) (b c d e : Buffers) (h : TwoCa
   }
 
   -- calls whose outcome is one but for the reason
-  agree-but : (q : Reason) (x : Summary) (g : Came (fit a (lent b)) x) → fit (with_max_iter other a) (lent b) ≡ fitted (with_reason q g.result) → Agree a (Fit (reasoned q x)) s c e
-  agree-but q x g w =
+  agree_but : (q : Reason) (x : Summary) (g : Came (fit a (lent b)) x) → fit (with_max_iter other a) (lent b) ≡ fitted (with_reason q g.result) → Agree a (Fit (reasoned q x)) s c e
+  agree_but q x g w =
       let o = same (fitted (with_reason q g.result)) w in
       record {
         answers = h.second.gives.answer ∙ ap answer_of o ∙ told_with q g.result ∙ ap (λ (z : Summary). Fit (reasoned q z)) g.told;
@@ -127,9 +127,9 @@ module _ (a : Asked) (other : ℕ) (r s : Answer) (b c d e : Buffers) (h : TwoCa
         let f = fits x t in
         let n = steps_told f.result x f.told in
         let q = reason_told f.result x f.told in
-        agree-but (at_limit x.reason) x f
+        agree_but (at_limit x.reason) x f
         (ap (λ (m : ℕ). fit (with_max_iter m a) (lent b)) (sym (n ∙ g))
-        ∙ demand.at_limit a (lent b) f.result f.is (rw n low) (omega (arith, n, g, one))
+        ∙ demand.at_limit_lem a (lent b) f.result f.is (rw n low) (omega (arith, n, g, one))
         ∙ ap (λ (z : Reason). fitted (with_reason (at_limit z) f.result)) q);
     settled = λ low high. agree (demand.settled a (lent b) other a.max_iter high low);
   }

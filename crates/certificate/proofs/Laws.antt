@@ -12,7 +12,7 @@ use Rattle.vectors.specs.Vec.{at, put}
 use Rattle.vectors.specs.Parts.{part, Written}
 use Rattle.vectors.specs.Sums.{sum_to, norm2_sq, dot, sum_abs}
 use Rattle.vectors.proofs.Laws.{length-list, at-list, list_is, up, front}
-use Rattle.vectors.proofs.Parts.{partOf-ext, range_part, first_part, length_part, at_part}
+use Rattle.vectors.proofs.Parts.{part_of_ext, range_part, first_part, length_part, at_part}
 use Rattle.vectors.proofs.Texts.{put_start}
 use Rattle.vectors.proofs.Sums.{sum_more, sum_ext}
 use Rattle.differences.specs.Diff.{diff_k, diff_kt}
@@ -50,7 +50,7 @@ dot-take a b c m e h =
 -- the dual point stays while the trend before it is written
 pub behind : (n m j : ℕ) (f : ℕ → Float) (s₀ s : List Float) → Written 0 j f s₀ s → j ≤ n → n + m ≤ length s
     → take (n + m - n) (drop n s) ≡ part n m s₀
-behind n m j f s₀ s w h l = range_part n (n + m) m s refl l ∙ partOf-ext nan n n m s s₀ (λ q _. w.above (n + q) (omega arith))
+behind n m j f s₀ s w h l = range_part n (n + m) m s refl l ∙ part_of_ext nan n n m s s₀ (λ q _. w.above (n + q) (omega arith))
 
 -- ---- the pass over the places
 
@@ -63,8 +63,8 @@ module _ {k : ℕ} {y s₀ s : List Float} {j : ℕ} {a d : Float} (t : Trend k 
   pub stored : at y j ⊖ d ≡ at (trend_of k y s₀) j
   stored = ap (λ (x : Float). at y j ⊖ x) fallen ∙ sym (at-minus y (fall_of k y s₀) j h)
 
-  pub trend-more : Trend k y s₀ (set s j (at y j ⊖ d)) (j + 1) (a ⊕ d ⊗ d)
-  trend-more = record {
+  pub trend_more : Trend k y s₀ (set s j (at y j ⊖ d)) (j + 1) (a ⊕ d ⊗ d)
+  trend_more = record {
     written = up t.written (omega arith) (omega arith) stored;
     squared = sum_more _ _ _ _ t.squared (ap (λ (x : Float). x ⊗ x) fallen);
   }
@@ -76,7 +76,7 @@ pub passed_more : {k : ℕ} {y dy s₀ s : List Float} {j : ℕ} {a b g d x : Fl
     → Passed k y dy s₀ (set s j (at y j ⊖ d)) (j + 1)
     (record { squares = a ⊕ d ⊗ d; dx = b ⊕ x; dot = g ⊕ at (set s j (at y j ⊖ d)) (length y + j - k) ⊗ at dy (j - k) })
 passed_more {k} {y} {dy} {s₀} {s} {j} p o h l e f =
-    let t = trend-more p.trend h l e in
+    let t = trend_more p.trend h l e in
     let q : j + 1 - k ≡ j - k + 1 = omega arith in
     let z = t.written.above (length y + j - k) (omega arith) ∙ sym (at_part (length y) (length y - k) s₀ (j - k) (length y + j - k) (omega arith) (omega arith)) in
     record {

@@ -7,7 +7,7 @@ ghost use Rattle.differences.specs.Diff.{diff_k, diff_kt};
 ghost use Rattle.differences.specs.Series.{Order, Series};
 ghost use Rattle.certificate.specs.Run.{Trend, Last, Ahead, Passed, Beside, Summed};
 
-// Σ(D'z)², Σ|D x| and typeof.z.D y, of the places passed so far.
+// Σ(D'z)², Σ|D x| and z·D y, of the places passed so far.
 #[derive(Clone, Copy)]
 pub struct Sums {
     pub squares: f64,

@@ -14,7 +14,7 @@ use Rattle.float64.proofs.Clash.{clash}
 use Rattle.vectors.specs.Vec.{at, put}
 use Rattle.vectors.specs.Sums.{inside}
 use Rattle.vectors.proofs.Laws.{list_ext, list_is}
-use Rattle.vectors.proofs.Parts.{range_part, length_part, part-above}
+use Rattle.vectors.proofs.Parts.{range_part, length_part, part_above}
 use Rattle.vectors.proofs.Texts.{put_start}
 use Rattle.vectors.proofs.Sums.{inside-at}
 use Rattle.differences.specs.Diff.{diff_k}
@@ -74,15 +74,15 @@ module _ {k : ℕ} {y dy s₀ s : List Float} {c : Sums} (r : Ready k y dy (leng
   point =
       let size = t.kept.size in
       range_part (length y) (length y + (length y - k)) (length y - k) s refl (omega arith)
-      ∙ part-above nan (length y) (length y - k) t.kept (omega arith)
+      ∙ part_above nan (length y) (length y - k) t.kept (omega arith)
 
   pub length-point : length (take (length y + (length y - k) - length y) (drop (length y) s)) ≡ length y - k
   length-point = ap length point ∙ length_part (length y) (length y - k) s₀
 
   -- a dual point that is its own clamped point, for which d₀ has room
-  pub certified-inside : (lam : Float) (d₀ d : List Float) → length y - k ≤ length d₀ → {p : Float} → p ≡ half ⊗ c.squares ⊕ lam ⊗ c.dx → inside lam (dual_of k y s₀) ≡ true
+  pub certified_inside : (lam : Float) (d₀ d : List Float) → length y - k ≤ length d₀ → {p : Float} → p ≡ half ⊗ c.squares ⊕ lam ⊗ c.dx → inside lam (dual_of k y s₀) ≡ true
       → d ≡ put d₀ 0 (take (length y + (length y - k) - length y) (drop (length y) s)) → Certified k y lam s₀ s d₀ d p (neg half ⊗ c.squares ⊕ c.dot)
-  certified-inside lam d₀ d fits isp h e =
+  certified_inside lam d₀ d fits isp h e =
       let own = clamped-inside lam (dual_of k y s₀) h in
       certified r t lam d₀ d fits isp
       (ap₂ (λ (u v : Float). neg half ⊗ u ⊕ v) t.squared t.multiplied ∙ ap (dual_value k dy) (sym own))

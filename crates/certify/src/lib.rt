@@ -29,7 +29,7 @@ pub fn clamp_into(dual: &mut [f64], z: &[f64], lam: f64)
     }
 }
 
-// The sum of typeof.v.D y.
+// The sum of v·D y.
 fn product(v: &[f64], dy: &[f64]) -> f64
     requires { length v.now ≤ length dy.now }
     ensures { result ≡ dot v.now dy.now }

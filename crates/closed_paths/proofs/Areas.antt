@@ -11,8 +11,8 @@ use lib.ListN.{length, take, drop}
 use lib.Ieee.{Float, nan}
 use Rattle.float64.specs.Ops.{◌⊖◌}
 use Rattle.vectors.specs.Parts.{Kept, part}
-use Rattle.vectors.proofs.Laws.{kept-none, kept_then}
-use Rattle.vectors.proofs.Parts.{length_part, put_back, partOf-range, part-put}
+use Rattle.vectors.proofs.Laws.{kept_none, kept_then}
+use Rattle.vectors.proofs.Parts.{length_part, put_back, part_of_range, part-put}
 use Rattle.differences.specs.Diff.{gram_row}
 use Rattle.certificate.specs.Certificate.{gap_of}
 use Rattle.certificate.specs.Run.{Certified}
@@ -30,7 +30,7 @@ use Rattle.closed_paths.specs.Trends.{solution_lane, ridge_area, path_area, tren
 
 -- a change within a wider stretch
 pub kept_wide : {a n : ℕ} {s₀ s : List Float} (b k : ℕ) → Kept a n s₀ s → b ≤ a → a + n ≤ b + k → Kept b k s₀ s
-kept_wide {a} {n} {s₀} {s} b k w h l = kept_then b k w (kept-none b 0 s) h (omega arith) l (omega arith)
+kept_wide {a} {n} {s₀} {s} b k w h l = kept_then b k w (kept_none b 0 s) h (omega arith) l (omega arith)
 
 -- the preparation and a path's area behind it are within the places of work that a fit needs
 pub work_fits : (a : Asked) → preparation (length a.y) + path_area a.penalty (length a.y) ≤ (needs_for a).work
@@ -64,7 +64,7 @@ flat-found a w x d₀ d primal dual low fits size star c =
     let e = s + n + places a in
     let start = ap (λ (q : ℕ). part q n (put_back s (e - s) w x)) (sym (add-zero s)) in
     let trend = start ∙ part-put s (e - s) w x (omega arith) size nan 0 n (omega arith) ∙ c.trend in
-    let point = partOf-range nan n (places a) s e w (omega arith) fits (omega arith) ∙ star in
+    let point = part_of_range nan n (places a) s e w (omega arith) fits (omega arith) ∙ star in
     (λ i. record { trend = trend i; dual = c.zc_is i; numbers = closed (c.primal_is i ⊖ c.dual_is i) (c.primal_is i) }) ∙ ap (certified_at a) point
 
 -- ---- L2
@@ -75,8 +75,8 @@ rows_fit k n h = let f : n * (k + 1) ≤ n * 3 = mul-le-mul_left n (omega arith)
 
 module _ (k : ℕ) (y : List Float) (lam : Float) (w x : List Float) (ok : Bool) (a e : ℕ) (start : a + length y * (k + 1) ≡ solution_lane (length y)) (end : e ≡ solution_lane (length y) + length y)
     (fits : e ≤ length w) (size : length x ≡ e - a) (c : SolvedL2 k y lam (take (e - a) (drop a w)) x ok) where
-  pub solution-stands : ok ≡ true → part (solution_lane (length y)) (length y) (put_back a (e - a) w x) ≡ trend_l2 k y lam
-  solution-stands t =
+  pub solution_stands : ok ≡ true → part (solution_lane (length y)) (length y) (put_back a (e - a) w x) ≡ trend_l2 k y lam
+  solution_stands t =
       ap (λ (q : ℕ). part q (length y) (put_back a (e - a) w x)) (sym start)
       ∙ part-put a (e - a) w x (omega arith) size nan (length y * (k + 1)) (length y) (omega arith)
       ∙ c.trend t

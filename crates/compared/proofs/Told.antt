@@ -88,9 +88,9 @@ fit_told s i {a} {b} {c} {f} {m} p t =
 
 module _ {a : Asked} {b c : Buffers} {m : ℕ} (e : m ≡ places a) where
   -- the buffers hold what is compared
-  pub told-room : (r : Answer) → Answered a r b c → length a.y ≤ 168 → Room r (length a.y) m (length c.out.trend) (length c.out.cycle) (length c.out.knots) (length c.out.dual)
-  told-room (answers.Refused q) h w = tt
-  told-room (answers.Fit f) h w =
+  pub told_room : (r : Answer) → Answered a r b c → length a.y ≤ 168 → Room r (length a.y) m (length c.out.trend) (length c.out.cycle) (length c.out.knots) (length c.out.dual)
+  told_room (answers.Refused q) h w = tt
+  told_room (answers.Fit f) h w =
       let t : Told a b c f = told h refl in
       record { trend = t.trend_in; cycle = t.cycle_in; knots_in = t.knots_in; dual = omega (arith, t.dual_in, e); week = w; fewer = omega (arith, e); few = omega (arith, t.few) }
 
@@ -100,8 +100,8 @@ module _ {a : Asked} {b c : Buffers} {m : ℕ} (e : m ≡ places a) where
   told_same s i (answers.Refused q) h = told_refused s i h refl
   told_same s i (answers.Fit f) h = fit_told s i e (told h refl)
 
-  pub told-compares : {s : List ℕ} {i : ℕ} {r : Answer} {z : Bool} → z ≡ same_answer r (length a.y) m c.out.trend c.out.cycle c.out.knots c.out.dual s i → Answered a r b c → Compares a z b c s i
-  told-compares {s} {i} {r} p h = record { same = p ∙ told_same s i r h; answered = subst (λ (x : Answer). Answered a x b c) h.gives.answer h }
+  pub told_compares : {s : List ℕ} {i : ℕ} {r : Answer} {z : Bool} → z ≡ same_answer r (length a.y) m c.out.trend c.out.cycle c.out.knots c.out.dual s i → Answered a r b c → Compares a z b c s i
+  told_compares {s} {i} {r} p h = record { same = p ∙ told_same s i r h; answered = subst (λ (x : Answer). Answered a x b c) h.gives.answer h }
 
 -- slices that hold a fit, and their parts
 pub held : {r : Answer} {f : Summary} {n m t c k d : ℕ} → r ≡ answers.Fit f → Room r n m t c k d → Holds f.knots n m t c k d

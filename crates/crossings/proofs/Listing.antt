@@ -21,9 +21,9 @@ and_no p q e f = f ∙ rw e
 
 module _ (level : Float) (n places : ℕ) where
   -- refused for the level, for the sizes, and not at all
-  pub level-refused : is_finite level ≡ false → unlisted level n places ≡ 18
+  pub level_refused : is_finite level ≡ false → unlisted level n places ≡ 18
   unfolding unlisted
-  level-refused f = rw f
+  level_refused f = rw f
 
   pub size_refused : is_finite level ≡ true → (65536 < n) ⊎ (places < n) → unlisted level n places ≡ 19
   unfolding unlisted

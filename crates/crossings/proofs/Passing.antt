@@ -16,7 +16,7 @@ use Rattle.vectors.specs.Vec.{at}
 use Rattle.vectors.specs.Rising.{Among}
 use Rattle.vectors.proofs.Sums.{both}
 use Rattle.vectors.proofs.Rising.{rising_within, none_between}
-use Rattle.vectors.proofs.Places.{places-rising, places-hold, places-all}
+use Rattle.vectors.proofs.Places.{places_rising, places_hold, places_all}
 use Rattle.crossings.specs.Crossings.{crosses_at, crossings}
 use Rattle.crossings.specs.Passing.{JustTheCrossings, NoNaN, crossing, PassesInTurn, Passing}
 
@@ -24,10 +24,10 @@ just_the_crossings : (level : Float) (t : List Float) → JustTheCrossings level
 unfolding crossings
 just_the_crossings level t =
     let p = crosses_at level t in
-    let r = places-rising p (length t - 1) in
+    let r = places_rising p (length t - 1) in
     record {
-      each = λ i m. (omega (arith, m.holds, r.below m.place m.within), ap p (sym m.holds) ∙ places-hold p (length t - 1) m.place m.within);
-      all = λ i h e. places-all p (length t - 1) i (omega arith) e;
+      each = λ i m. (omega (arith, m.holds, r.below m.place m.within), ap p (sym m.holds) ∙ places_hold p (length t - 1) m.place m.within);
+      all = λ i h e. places_all p (length t - 1) i (omega arith) e;
       rising = rising_within r (omega arith);
     }
 
@@ -57,8 +57,8 @@ module _ (level : Float) (t : List Float) (finite : is_finite level ≡ true) (c
   under : (i : ℕ) → i < length t → le (at t i) level ≡ not (over i)
   under i h = at_most_or_above level (at t i) (finite_no_nan level finite) (clean i (omega (arith, h)))
 
-  crosses-by : (i : ℕ) → i + 1 < length t → crosses_at level t i ≡ (not (over i) && over (i + 1)) || (over i && not (over (i + 1)))
-  crosses-by i h = rw (under i (omega arith), under (i + 1) h)
+  crosses_by : (i : ℕ) → i + 1 < length t → crosses_at level t i ≡ (not (over i) && over (i + 1)) || (over i && not (over (i + 1)))
+  crosses_by i h = rw (under i (omega arith), under (i + 1) h)
 
   -- without a crossing it stays where it is
   stays : (a b : ℕ) → a ≤ b → b < length t → ((i : ℕ) → a ≤ i → i < b → crosses_at level t i ≡ false) → over b ≡ over a
@@ -67,7 +67,7 @@ module _ (level : Float) (t : List Float) (finite : is_finite level ≡ true) (c
       ⊎_elim
       (λ (e : a ≡ suc b). rw e)
       (λ (g : a < suc b).
-      let s = same (over b) (over (b + 1)) (sym (crosses-by b (omega arith)) ∙ n b (omega arith) (omega arith)) in
+      let s = same (over b) (over (b + 1)) (sym (crosses_by b (omega arith)) ∙ n b (omega arith) (omega arith)) in
       (rw (add-one b) at s) ∙ stays a b (omega arith) (omega arith) (λ i x y. n i x (omega arith)))
       (eq-or-lt_of_le l)
 
@@ -85,10 +85,10 @@ module _ (level : Float) (t : List Float) (finite : is_finite level ≡ true) (c
       let quiet : (k : ℕ) → i + 1 ≤ k → k < i' → crosses_at level t k ≡ false =
       λ k a b. off (crosses_at level t k) (λ e. none_between w.rising j h k (omega arith) b (w.all k (omega (arith, c.0)) e)) in
       let s : over i' ≡ over (i + 1) = stays (i + 1) i' (omega arith) (omega (arith, c.0)) quiet in
-      (o, c.0, s, turned (over i') (over (i' + 1)) (sym (crosses-by i' c.0) ∙ c.1) ∙ ap not s)
+      (o, c.0, s, turned (over i') (over (i' + 1)) (sym (crosses_by i' c.0) ∙ c.1) ∙ ap not s)
 
-  one-side-of : crossings level t ≡ [] → ((i : ℕ) → i < length t → le (at t i) level ≡ true) ⊎ ((i : ℕ) → i < length t → lt level (at t i) ≡ true)
-  one-side-of e = go (over 0) refl
+  one_side_of : crossings level t ≡ [] → ((i : ℕ) → i < length t → le (at t i) level ≡ true) ⊎ ((i : ℕ) → i < length t → lt level (at t i) ≡ true)
+  one_side_of e = go (over 0) refl
     where
       quiet : (i : ℕ) → i + 1 < length t → crosses_at level t i ≡ false
       quiet i h = off (crosses_at level t i) (λ c. let m = (just_the_crossings level t).all i h c in omega (arith, m.within, ap length e))
@@ -100,8 +100,8 @@ module _ (level : Float) (t : List Float) (finite : is_finite level ≡ true) (c
       go true z = inr (λ i h. start i h ∙ z)
       go false z = inl (λ i h. under i h ∙ ap not (start i h ∙ z))
 
-  in-turn : PassesInTurn level t
-  in-turn = record {
+  in_turn : PassesInTurn level t
+  in_turn = record {
     after_up = λ j h u.
         let n = next_one j h in
         let e = (both (le (at t (crossing level t j)) level) _ u).1 in
@@ -111,8 +111,8 @@ module _ (level : Float) (t : List Float) (finite : is_finite level ≡ true) (c
         let i = crossing level t j in
         let e : over (i + 1) ≡ false = not-true _ (sym (under (i + 1) (omega (arith, n.0, n.1))) ∙ (both (over i) _ d).1) in
         rw (under (crossing level t (j + 1)) (omega (arith, n.1)), n.2 ∙ e, n.3 ∙ ap not e);
-    one_side = one-side-of;
+    one_side = one_side_of;
   }
 
 pub passing : Passing
-passing level t = (just_the_crossings level t, λ f n. in-turn level t f n)
+passing level t = (just_the_crossings level t, λ f n. in_turn level t f n)

@@ -10,7 +10,7 @@ use lib.Ieee.{Float, nan, inf, fin, binary64, lt, is_nan, of_bits}
 use Rattle.vectors.specs.Vec.{at, list}
 use Rattle.vectors.specs.Parts.{Kept, part}
 use Rattle.vectors.proofs.Laws.{list_ext, kept_then}
-use Rattle.vectors.proofs.Parts.{length_part, at_part, part-below}
+use Rattle.vectors.proofs.Parts.{length_part, at_part, part_below}
 use Rattle.dual_point.specs.Places.{point}
 use Rattle.dual_point.proofs.Points.{point_below}
 use Rattle.direction.specs.Direction.{dmu1_at, dmu2_at, direction, step_cap_by, step_cap_to}
@@ -62,10 +62,10 @@ unfolding direction dmu1_at dmu2_at
 directed b m lam inv_t s₀ s s' cap o e v f w t =
     let x : b + (m + m) ≡ b + m + m = omega arith in
     let ways : point b m s' ≡ direction lam inv_t (point 0 m s₀) (part b m s₀) = λ i. record {
-      z = (part-below nan b m w (omega arith) ∙ part-below nan b m v (omega arith)) i;
-      mu1 = (part-below nan (b + m) m w (omega arith) ∙ e ∙ dmu_done false b m (0 + m) m lam inv_t s₀ (omega arith)) i;
+      z = (part_below nan b m w (omega arith) ∙ part_below nan b m v (omega arith)) i;
+      mu1 = (part_below nan (b + m) m w (omega arith) ∙ e ∙ dmu_done false b m (0 + m) m lam inv_t s₀ (omega arith)) i;
       mu2 = (ap (λ (q : ℕ). part q m s') (sym x) ∙ f ∙ dmu_done true b (m + m) (0 + m + m) m lam inv_t s (omega arith)
-          ∙ λ j. (direction lam inv_t (point_below 0 m v (omega arith) j) (part-below nan b m v (omega arith) j)).mu2) i;
+          ∙ λ j. (direction lam inv_t (point_below 0 m v (omega arith) j) (part_below nan b m v (omega arith) j)).mu2) i;
     } in
     let both = kept_then (b + m) (m + m) v w (omega arith) (omega arith) (omega arith) (omega arith) in
     record { ways = ways; cap_is = t ∙ (λ i. step_cap_to (point_below 0 m both (omega arith) i) (ways i) m); kept = both }

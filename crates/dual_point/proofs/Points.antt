@@ -8,15 +8,15 @@ use lib.Seq.{get_or-take, get_or-drop}
 use lib.Ieee.{Float, nan}
 use Rattle.vectors.specs.Vec.{at}
 use Rattle.vectors.specs.Parts.{Kept, part}
-use Rattle.vectors.proofs.Parts.{at_part, partOf-ext, put_back, getD-put}
+use Rattle.vectors.proofs.Parts.{at_part, part_of_ext, put_back, get_d_put}
 use Rattle.dual_point.specs.Places.{point}
 
 -- two points are the same where their places are
 pub point_ext : (a b m : ℕ) (s t : List Float) → ((j : ℕ) → j < 3 * m → at s (a + j) ≡ at t (b + j)) → point a m s ≡ point b m t
 point_ext a b m s t e = λ i. record {
-  z = partOf-ext nan a b m s t (λ j l. e j (omega arith)) i;
-  mu1 = partOf-ext nan (a + m) (b + m) m s t (λ j l. place (m + j) (a + m + j) (b + m + j) (omega arith) (omega arith) (omega arith)) i;
-  mu2 = partOf-ext nan (a + m + m) (b + m + m) m s t (λ j l. place (m + m + j) (a + m + m + j) (b + m + m + j) (omega arith) (omega arith) (omega arith)) i;
+  z = part_of_ext nan a b m s t (λ j l. e j (omega arith)) i;
+  mu1 = part_of_ext nan (a + m) (b + m) m s t (λ j l. place (m + j) (a + m + j) (b + m + j) (omega arith) (omega arith) (omega arith)) i;
+  mu2 = part_of_ext nan (a + m + m) (b + m + m) m s t (λ j l. place (m + m + j) (a + m + m + j) (b + m + m + j) (omega arith) (omega arith) (omega arith)) i;
 }
   where
     place : (q x y : ℕ) → q < 3 * m → a + q ≡ x → b + q ≡ y → at s x ≡ at t y
@@ -41,4 +41,4 @@ point_range m c e s h =
 -- and the point of a run whose n places from a on became x
 pub point-put : (a n m : ℕ) (s x : List Float) → a + n ≤ length s → length x ≡ n → 3 * m ≤ n → point a m (put_back a n s x) ≡ point 0 m x
 point-put a n m s x f e h =
-    point_ext a 0 m (put_back a n s x) x (λ j l. let z : 0 + j ≡ j = omega arith in rw z (sym (getD-put a n s x f e nan j (omega arith))))
+    point_ext a 0 m (put_back a n s x) x (λ j l. let z : 0 + j ≡ j = omega arith in rw z (sym (get_d_put a n s x f e nan j (omega arith))))

@@ -17,7 +17,7 @@ use Rattle.vectors.proofs.Parts.{length_part}
 use Rattle.banded.specs.Rows.{Matrix, entry, placed, row_to, row, rows, sound, good}
 use Rattle.banded.specs.Solve.{forward_at, forward}
 use Rattle.banded.specs.Run.{flat, look, of_run, Keeps, Holds, Stands, Factored, HasRow, Stored, Eliminated}
-use Rattle.banded.proofs.Laws.{within, one_row, above, entry-ext, length-row_to, line_above, line-here, holds_none, holds_snoc, holds_kept, of-holds, unsound, part_stands, stands_part}
+use Rattle.banded.proofs.Laws.{within, one_row, above, entry_ext, length-row_to, line_above, line-here, holds_none, holds_snoc, holds_kept, of_holds, unsound, part_stands, stands_part}
 use Rattle.banded.proofs.Forward.{forward_ext, length-forward, forward-rows}
 use Rattle.banded.proofs.Storing.{stored}
 use Rattle.elimination.specs.Decomposed.{Reached, Decomposed}
@@ -45,7 +45,7 @@ eliminated_any {k} {m} {r} {s₀} {s} {x} {ok} q w has e is g =
     (stored {s = s} p q refl e has (record { size = w.kept.size; inside = λ j a b. same j a; below = w.kept.below; above = w.kept.above }))
     (λ c u.
     w.made c (omega arith)
-    ∙ entry-ext k r c (of_run k s₀) (of_run k s₀) (flat k s) (flat k (set s q x)) u (λ h. refl) (λ i j h l. here i j (omega arith) l) (λ j h. here r j (omega arith) (omega arith)))
+    ∙ entry_ext k r c (of_run k s₀) (of_run k s₀) (flat k s) (flat k (set s q x)) u (λ h. refl) (λ i j h l. here i j (omega arith) l) (λ j h. here r j (omega arith) (omega arith)))
     (is
     ∙ forward_ext k r (flat k s) (flat k (set s q x)) (λ j. at s (m * (k + 1) + j)) (λ j. at (set s q x) (m * (k + 1) + j)) (at s q)
     (λ c h. here r c (omega arith) (omega arith)) (λ j h. sym (get_or-set_other s q (m * (k + 1) + j) x nan (ne_of_lt (omega arith))))
@@ -77,7 +77,7 @@ module _ {k m r : ℕ} {a : Matrix} {v s₀ s : List Float} {ok : Bool} (h : Rea
       ⊎_elim
       (λ (z : j ≡ n).
       rw z (e.made n (omega arith)
-      ∙ entry-ext k r n (of_run k s₀) a (flat k s) (look (f ++ (p ∷ []))) (omega arith) (λ g. had (r + n - k) (omega arith) (omega arith))
+      ∙ entry_ext k r n (of_run k s₀) a (flat k s) (look (f ++ (p ∷ []))) (omega arith) (λ g. had (r + n - k) (omega arith) (omega arith))
       (λ i c x g. e.elsewhere.below (i * (k + 1) + c) (above k r i c x g) ∙ h.made.same i c x g ∙ sym (ap (λ (l : List Float). at l c) (line_above f p i (omega (arith, h.made.shape.count)))))
       (λ c x. places n (omega arith) c x ∙ sym (ap (λ (l : List Float). at l c) (line-here f p r h.made.shape.count)))
       ∙ sym (get_or_at p _ [] nan n (length-row_to k a f r n))))
@@ -112,9 +112,9 @@ module _ {k m r : ℕ} {a : Matrix} {v s₀ s : List Float} {ok : Bool} (h : Rea
   unfolding rows sound
   reached-more t = rw (add-one r) (record { made = rw (add-one r) at next; firm = rw (h.firm, ← pivot, ← e.pivot) t; side = carried })
 
-  pub reached-bad : ok ≡ false → sound k a m ≡ false
+  pub reached_bad : ok ≡ false → sound k a m ≡ false
   unfolding sound
-  reached-bad t = unsound k a (suc r) m (rw (h.firm, ← pivot, ← e.pivot) t) b
+  reached_bad t = unsound k a (suc r) m (rw (h.firm, ← pivot, ← e.pivot) t) b
 
 -- ---- the factor loop after r rows: what it has not reached stays, and what it has is the factor of whatever matrix the run began with
 
@@ -142,8 +142,8 @@ module _ {k m r : ℕ} {s₀ s s' : List Float} {ok : Bool} (w : Factoring k m r
     right : at s (m * (k + 1) + r) ≡ at v r
     right = w.later (m * (k + 1) + r) (omega arith) ∙ st r (omega arith)
 
-  pub factoring-more : ok ≡ true → Factoring k m (r + 1) s₀ s'
-  factoring-more t =
+  pub factoring_more : ok ≡ true → Factoring k m (r + 1) s₀ s'
+  factoring_more t =
       let one = one_row k r in
       record {
         some = omega arith;
@@ -153,15 +153,15 @@ module _ {k m r : ℕ} {s₀ s s' : List Float} {ok : Bool} (w : Factoring k m r
         done = λ a v h st l. reached-more (w.done a v h st l) e b (had a v h st l) (right a v h st l) t;
       }
 
-  pub factoring-bad : ok ≡ false → Decomposed k m s₀ s' false
-  factoring-bad t = record {
+  pub factoring_bad : ok ≡ false → Decomposed k m s₀ s' false
+  factoring_bad t = record {
     kept = record { size = size-more; below = λ j h. absurd (omega arith); above = λ q h. later_more q (omega arith) };
     answer = λ a g.
         let n = m * (k + 1) in
         let v = part n m s₀ in
         let l = length_part n m s₀ in
         let st = part_stands n m s₀ in
-        sym (reached-bad (w.done a v g st l) e b (had a v g st l) (right a v g st l) t);
+        sym (reached_bad (w.done a v g st l) e b (had a v g st l) (right a v g st l) t);
     factor = λ a g y. absurd (clash y refl);
     side = λ a g y. absurd (clash y refl);
   }
@@ -172,13 +172,13 @@ module _ {k m r : ℕ} {s₀ s : List Float} (w : Factoring k m r s₀ s) (z : r
       let n = m * (k + 1) in
       rw z at (w.done a (part n m s₀) g (part_stands n m s₀) (length_part n m s₀))
 
-  pub factoring-done : Decomposed k m s₀ s true
-  factoring-done =
+  pub factoring_done : Decomposed k m s₀ s true
+  factoring_done =
       let n = m * (k + 1) in
       let v = part n m s₀ in
       record {
         kept = record { size = w.size; below = λ j h. absurd (omega arith); above = λ q h. w.later q (omega arith) };
         answer = λ a g. sym (all a g).firm;
-        factor = λ a g y. of-holds k m (rows k a m) s (all a g).made;
+        factor = λ a g y. of_holds k m (rows k a m) s (all a g).made;
         side = λ a g y. stands_part n m (forward k (rows k a m) v m) s (length-forward k (rows k a m) v m) (all a g).side;
       }

@@ -18,7 +18,7 @@ use Rattle.search.specs.Search.{Problem, Ended}
 use Rattle.search.specs.Bounds.{Bounded}
 use Rattle.search.specs.Demand3 as search
 use Rattle.search.specs.Looser.{finite_above0}
-use Rattle.search.proofs.Demand.{demand3, never-closed, bounded_closed}
+use Rattle.search.proofs.Demand.{demand3, never_closed, bounded_closed}
 use Rattle.search.proofs.Looser.{tol_positive}
 use Rattle.interior_point.specs.InteriorPoint.{State, problem, origin, interior_point}
 use Rattle.l2.specs.L2.{sound_l2}
@@ -99,7 +99,7 @@ Closed a f = f.numbers.reason ≡ ClosedPath → (eqb a.penalty 2 ≡ true) ⊎ 
 
 end_not-closed : (a : Asked) → (path_end a (search_of a)).numbers.reason ≡ ClosedPath → ⊥
 unfolding path_end search_of interior_point
-end_not-closed a = never-closed (problem_of a) a.tol (origin (places a)) a.max_iter
+end_not-closed a = never_closed (problem_of a) a.tol (origin (places a)) a.max_iter
 
 pub closed-path : (a : Asked) (l : Lent) (f : FitResult) → fit a l ≡ fitted f → f.numbers.reason ≡ ClosedPath → (eqb a.penalty 2 ≡ true) ⊎ ((lam_zero a ≡ true) ⊎ (lam_high a ≡ true))
 unfolding written
@@ -196,7 +196,7 @@ ends_settled a one other s h g = s.settled other one g h
 -- another limit from 1 up: the same but for where the search ends
 relimited : (a : Asked) (l : Lent) (f : FitResult) (p : Passed a l f) (other : ℕ) → 1 ≤ other → fit (with_max_iter other a) l ≡ outcome a (path_with a (path_end a (search_of (with_max_iter other a))))
 relimited a l f p other one =
-    fit_passed (with_max_iter other a) l (questions.same-question a l other (questions.passed a l p.asked).max_iter one ∙ p.asked)
+    fit_passed (with_max_iter other a) l (questions.same_question a l other (questions.passed a l p.asked).max_iter one ∙ p.asked)
     ∙ ap (λ (b : Bool). cond b (outcome (with_max_iter other a) (path (with_max_iter other a))) (refused 10)) p.sound
     ∙ outcome_other other a (path (with_max_iter other a))
     ∙ ap (outcome a) (path_other other a)

@@ -19,11 +19,11 @@ use Rattle.certificate.specs.Certificate.{Certificate, certify}
 use Rattle.certificate.proofs.Laws.{length-minus, length-clamped}
 use Rattle.vectors.specs.Rising.{Rising}
 use Rattle.vectors.proofs.Rising.{rising_within}
-use Rattle.vectors.proofs.Places.{places-few, places-rising}
+use Rattle.vectors.proofs.Places.{places_few, places_rising}
 use Rattle.decomposition.specs.Knots.{knots}
 use Rattle.gram.specs.Gram.{zstar}
 use Rattle.dual_point.specs.Dual.{Dual}
-use Rattle.interior_point.proofs.Lengths.{search-length}
+use Rattle.interior_point.proofs.Lengths.{search_length}
 use Rattle.active_set.specs.ActiveSet.{hold_at, free_to, compressed, solved}
 use Rattle.polish.specs.Polish.{candidate_at, candidate, polish}
 use Rattle.l2.specs.L2.{trend_l2}
@@ -43,7 +43,7 @@ length-solve k f b =
 
 pub length-knots : (k : ℕ) (y d : List Float) → length (knots k y d) ≤ length d
 unfolding knots
-length-knots k y d = places-few _ (length d)
+length-knots k y d = places_few _ (length d)
 
 pub length-zstar : (a : Asked) → length (zstar a.order (gram_row a.order) (places a) a.y) ≡ places a
 unfolding zstar
@@ -51,7 +51,7 @@ length-zstar a = length-solve a.order _ (diff_k a.order a.y) ∙ length-diff_k a
 
 search_spans : (a : Asked) → length (search_of a).state.point.z ≡ places a
 unfolding search_of
-search_spans a = search-length a.order (gram_row a.order) a.y a.lam (places a) a.tol a.max_iter
+search_spans a = search_length a.order (gram_row a.order) a.y a.lam (places a) a.tol a.max_iter
 
 candidate_has : (k : ℕ) (g dy : List Float) (lam : Float) (p : Dual) (P : List Float → Type 0) → ((z : List Float) → length z ≡ length p.z → P z) → Over P (polish k g dy lam p)
 unfolding polish candidate
@@ -125,4 +125,4 @@ knot_places a l f e =
     let p = passed a l f e in
     let x = p.found.trend in
     let d : length (diff_k a.order x) ≡ length a.y - a.order = length-diff_k a.order x ∙ ap (λ (n : ℕ). n - a.order) (found_spans a l f p).0 in
-    subst (λ (g : FitResult). Rising (places a) g.knots) (sym p.made) (rising_within (places-rising _ (length (diff_k a.order x))) (le_of_eq d))
+    subst (λ (g : FitResult). Rising (places a) g.knots) (sym p.made) (rising_within (places_rising _ (length (diff_k a.order x))) (le_of_eq d))

@@ -11,7 +11,7 @@ use Rattle.vectors.specs.Sums.{inside}
 use Rattle.vectors.proofs.Laws.{length-list}
 use Rattle.banded.specs.Rows.{sound}
 use Rattle.search.specs.Search.{moved, lost, start_at}
-use Rattle.search.proofs.Trace.{Led, trace, kept-to-end}
+use Rattle.search.proofs.Trace.{Led, trace, kept_to_end}
 use Rattle.dual_point.specs.Dual.{Dual}
 use Rattle.newton_system.specs.Newton.{NewtonData, system}
 use Rattle.line_search.specs.LineSearch.{stepped, along, accepted, trials, search_line, next_point}
@@ -55,6 +55,6 @@ module _ (k : ℕ) (g y : List Float) (lam : Float) (m : ℕ) where
       go true t e = e
       go false t e = tt
 
-  pub search-length : (tol : Float) (max_iter : ℕ) → length (interior_point k g m y lam tol max_iter).state.point.z ≡ m
+  pub search_length : (tol : Float) (max_iter : ℕ) → length (interior_point k g m y lam tol max_iter).state.point.z ≡ m
   unfolding interior_point problem origin
-  search-length tol max_iter = kept-to-end Spans move-length (trace (problem k g y lam) tol max_iter (start_at (problem k g y lam) (origin m))) (length-list m (λ i. c0))
+  search_length tol max_iter = kept_to_end Spans move-length (trace (problem k g y lam) tol max_iter (start_at (problem k g y lam) (origin m))) (length-list m (λ i. c0))

@@ -14,8 +14,8 @@ use Rattle.float64.specs.Ops.{◌⊖◌, ◌⊗◌, ◌⊘◌, c0, c0·99, c1, c
 use Rattle.vectors.specs.Vec.{at}
 use Rattle.vectors.specs.Parts.{Kept, part_of, part, Written}
 use Rattle.vectors.specs.Sums.{inside}
-use Rattle.vectors.proofs.Laws.{kept_then, kept-none, list_ext, written-kept}
-use Rattle.vectors.proofs.Parts.{length_part, part-below, part-above}
+use Rattle.vectors.proofs.Laws.{kept_then, kept_none, list_ext, written_kept}
+use Rattle.vectors.proofs.Parts.{length_part, part_below, part_above}
 use Rattle.differences.specs.Diff.{diff_k, gram_row}
 use Rattle.banded.specs.Rows.{sound}
 use Rattle.certificate.specs.Certificate.{certify, gap_of}
@@ -23,7 +23,7 @@ use Rattle.certificate.specs.Run.{Certified}
 use Rattle.search.specs.declared.Reason.{Reason}
 use Rattle.search.specs.declared.Reason.TheVariants.{GapSmall, LimitSpent, Stalled, PivotLost}
 use Rattle.search.specs.Search.{lost, moved, Problem, Point, Ended, gap, ended, enough, improved, advance, start_at, run}
-use Rattle.search.proofs.Trace.{run_small, run-spent, run-stalled, run-lost, run_moved, idle_room}
+use Rattle.search.proofs.Trace.{run_small, run_spent, run_stalled, run_lost, run_moved, idle_room}
 use Rattle.dual_point.specs.Dual.{Dual}
 use Rattle.newton_system.specs.Newton.{system}
 use Rattle.newton_system.specs.Rows.{data_of}
@@ -105,11 +105,11 @@ module _ (L : Problem State) (tol : Float) (max_iter : ℕ) (e : Ended State) (p
   finish false false false d u v w x q =
       let o : max_iter ≤ p.n_iter = ltb-false p.n_iter max_iter w in
       let z : max_iter - p.n_iter ≡ 0 = omega arith in
-      ended_at e p LimitSpent why (sym (run-spent L tol p v) ∙ sym (ap (λ (j : ℕ). run L tol j p) z) ∙ rest u) q
+      ended_at e p LimitSpent why (sym (run_spent L tol p v) ∙ sym (ap (λ (j : ℕ). run L tol j p) z) ∙ rest u) q
   finish false false true true u v w x q =
       let o : p.n_iter < max_iter = ltb-true p.n_iter max_iter w in
       let z : max_iter - p.n_iter ≡ suc (max_iter - suc p.n_iter) = omega arith in
-      ended_at e p Stalled why (sym (run-stalled L tol (max_iter - suc p.n_iter) p v x) ∙ sym (ap (λ (j : ℕ). run L tol j p) z) ∙ rest u) q
+      ended_at e p Stalled why (sym (run_stalled L tol (max_iter - suc p.n_iter) p v x) ∙ sym (ap (λ (j : ℕ). run L tol j p) z) ∙ rest u) q
   finish false false true false u v w x q = impossible cc
 
 -- n is the length of the series and m of the dual point
@@ -135,20 +135,20 @@ module _ (k : ℕ) (y : List Float) (lam : Float) where
   -- what the certificate wrote, for an account of its P and gap
   certified : {s₀ s d₀ d : List Float} {p q : Float} → Certified k y lam s₀ s d₀ d p q → (r : Run) → r.primal ≡ p → r.gap ≡ p ⊖ q → Standing k y lam s d r
   certified {s₀} {s} {d₀} {d} c r e f =
-      stands_at s d (part n m s₀) r (sym (part-above nan n m c.kept (omega arith))) c.trend c.zc_is (e ∙ c.primal_is) (f ∙ λ i. c.primal_is i ⊖ c.dual_is i)
+      stands_at s d (part n m s₀) r (sym (part_above nan n m c.kept (omega arith))) c.trend c.zc_is (e ∙ c.primal_is) (f ∙ λ i. c.primal_is i ⊖ c.dual_is i)
 
   -- then the definition's test of the gap is the code's
-  enough-is : {s d : List Float} {r : Run} (g : List Float) (tol : Float) → Standing k y lam s d r → enough (problem k g y lam) tol (point_of k y s r) ≡ le r.gap (tol ⊗ r.primal)
+  enough_is : {s d : List Float} {r : Run} (g : List Float) (tol : Float) → Standing k y lam s d r → enough (problem k g y lam) tol (point_of k y s r) ≡ le r.gap (tol ⊗ r.primal)
   unfolding problem
-  enough-is g tol w = sym (λ i. le (w.gap i) (tol ⊗ w.primal i))
+  enough_is g tol w = sym (λ i. le (w.gap i) (tol ⊗ w.primal i))
 
   -- ---- the start
 
   -- z, mu1 and mu2 filled, and then the trend written
-  origin-stands : (s₀ s₁ s₂ s₃ : List Float) → Written n (n + m) (λ j. c0) s₀ s₁ → Written (n + m) (n + m + m + m) (λ j. c1) s₁ s₂ → Kept 0 n s₂ s₃
+  origin_stands : (s₀ s₁ s₂ s₃ : List Float) → Written n (n + m) (λ j. c0) s₀ s₁ → Written (n + m) (n + m + m + m) (λ j. c1) s₁ s₂ → Kept 0 n s₂ s₃
       → point n m s₃ ≡ (origin m).point
   unfolding origin part_of
-  origin-stands s₀ s₁ s₂ s₃ v w f = λ i. record {
+  origin_stands s₀ s₁ s₂ s₃ v w f = λ i. record {
     z = list_ext m (λ j. at s₃ (n + j)) (λ j. c0) (λ j l. f.above (n + j) (omega arith) ∙ w.below (n + j) (omega arith) ∙ v.inside (n + j) (omega arith) (omega arith)) i;
     mu1 = list_ext m (λ j. at s₃ (n + m + j)) (λ j. c1) (λ j l. f.above (n + m + j) (omega arith) ∙ w.inside (n + m + j) (omega arith) (omega arith)) i;
     mu2 = list_ext m (λ j. at s₃ (n + m + m + j)) (λ j. c1) (λ j l. f.above (n + m + m + j) (omega arith) ∙ w.inside (n + m + m + j) (omega arith) (omega arith)) i;
@@ -172,9 +172,9 @@ module _ (k : ℕ) (y : List Float) (lam : Float) where
   started {s₀} {s₁} {s₂} {s₃} {d₀} {d} {p} {q} v w c =
       let stands = certified c (start_run (p ⊖ q) p) refl refl in
       let b : Kept (n + m) (m + m) s₁ s₂ = record { size = w.size; below = w.below; above = λ j u. w.above j (omega arith) } in
-      let a = kept_then 0 (search_area n) (written-kept v) b (omega arith) (omega arith) (omega arith) (omega arith) in
+      let a = kept_then 0 (search_area n) (written_kept v) b (omega arith) (omega arith) (omega arith) (omega arith) in
       record {
-        begins = λ g. start_is g s₃ (p ⊖ q) p (origin-stands s₀ s₁ s₂ s₃ v w c.kept) stands.gap;
+        begins = λ g. start_is g s₃ (p ⊖ q) p (origin_stands s₀ s₁ s₂ s₃ v w c.kept) stands.gap;
         standing = stands;
         lost = refl;
         kept = kept_then 0 (search_area n) a c.kept (omega arith) (omega arith) (omega arith) (omega arith);
@@ -184,10 +184,10 @@ module _ (k : ℕ) (y : List Float) (lam : Float) where
   -- ---- one iteration
 
   -- the move of the definition, t₁ being the next t
-  move-is : (g : List Float) (st : State) (v t₁ : Float) → length st.point.z ≡ m → t₁ ≡ next_t m v st
+  move_is : (g : List Float) (st : State) (v t₁ : Float) → length st.point.z ≡ m → t₁ ≡ next_t m v st
       → move k g y lam v st ≡ cond (sound k (system k g lam st.point) m) (moved (landed lam st t₁ (search_line (data_of k g (diff_k k y) lam (c1 ⊘ t₁)) st.point))) lost
   unfolding move
-  move-is g st v t₁ l f =
+  move_is g st v t₁ l f =
       let q : next_t (length st.point.z) v st ≡ t₁ = (λ i. next_t (l i) v st) ∙ sym f in
       λ i. cond (sound k (system k g lam st.point) (l i)) (moved (landed lam st (q i) (search_line (data_of k g (diff_k k y) lam (c1 ⊘ q i)) st.point))) lost
 
@@ -217,16 +217,16 @@ module _ (k : ℕ) (y : List Float) (lam : Float) where
     unfolding problem
     by_flag b e =
         (λ i. move k g y lam (sym stands.gap i) (state_of k y s₀ r))
-        ∙ move-is g (state_of k y s₀ r) r.gap t₁ (length_part n m s₀) (next (point n m s₀))
+        ∙ move_is g (state_of k y s₀ r) r.gap t₁ (length_part n m s₀) (next (point n m s₀))
         ∙ λ i. cond (e i) (moved (landed lam (state_of k y s₀ r) t₁ line)) lost
 
     -- where the point is as it was, so is its certificate
     unmoved : point n m s₁ ≡ point n m s₀ → (x : Run) → x.primal ≡ r.primal → x.gap ≡ r.gap → Standing k y lam s₁ d₀ x
     unmoved same x p v =
-        stands_at s₁ d₀ (part n m s₀) x (ap (λ (q : Dual). q.z) (sym same)) (part-below nan 0 n stepped.kept (omega arith) ∙ stands.trend) stands.dual (p ∙ stands.primal) (v ∙ stands.gap)
+        stands_at s₁ d₀ (part n m s₀) x (ap (λ (q : Dual). q.z) (sym same)) (part_below nan 0 n stepped.kept (omega arith) ∙ stands.trend) stands.dual (p ∙ stands.primal) (v ∙ stands.gap)
 
     step_kept : Kept 0 (search_area n) s₀ s₁
-    step_kept = kept_then 0 (search_area n) stepped.kept (kept-none 0 0 s₁) (omega arith) (omega arith) (omega (arith, room)) (omega arith)
+    step_kept = kept_then 0 (search_area n) stepped.kept (kept_none 0 0 s₁) (omega arith) (omega arith) (omega (arith, room)) (omega arith)
 
     -- a lost pivot
     pub turned-lost : w ≡ Lost → Turned k g y lam s₀ s₁ d₀ d₀ r (lost_run r)
@@ -234,14 +234,14 @@ module _ (k : ℕ) (y : List Float) (lam : Float) where
         let b : firm ≡ false = was_lost firm within line.step (sym stepped.answer ∙ e) in
         let same : point n m s₁ ≡ point n m s₀ = stepped.moves ∙ rw b in
         record {
-          ahead = λ tol j q f. run-lost L tol j (point_of k y s₀ r) (enough-is g tol stands ∙ q) f (by_flag false b)
+          ahead = λ tol j q f. run_lost L tol j (point_of k y s₀ r) (enough_is g tol stands ∙ q) f (by_flag false b)
               ∙ λ i. record { state = record { point = sym same i; t = r.t; step = r.step }; n_iter = sym (add-one r.n_iter) i; first = r.first; best = r.best; improvements = r.improvements; reason = PivotLost };
           standing = unmoved same (lost_run r) refl refl;
           n_iter = refl;
           improvements = omega arith;
           stall = omega arith;
           kept = step_kept;
-          dual_kept = kept-none 0 m d₀;
+          dual_kept = kept_none 0 m d₀;
         }
 
     -- a step that ended with p and the gap v, which are those of the point that stands in s
@@ -283,7 +283,7 @@ module _ (k : ℕ) (y : List Float) (lam : Float) where
 
       turned : Kept 0 n s₁ s → Kept 0 m d₀ d → Turned k g y lam s₀ s d₀ d r x
       turned u z = record {
-        ahead = λ tol j h f. run_moved L tol j (point_of k y s₀ r) (state_of k y s x) (improves r v) (enough-is g tol stands ∙ h) f
+        ahead = λ tol j h f. run_moved L tol j (point_of k y s₀ r) (state_of k y s x) (improves r v) (enough_is g tol stands ∙ h) f
             landed_at improved-is
             ∙ sym (ap (run L tol j) (advanced (improves r v) refl))
             ∙ sym (ap (left_of L tol j (point_of k y s x)) new.lost);
@@ -304,7 +304,7 @@ module _ (k : ℕ) (y : List Float) (lam : Float) where
     turned-stayed {step} {x} new e =
         let b = was_stayed firm within line.step step (sym stepped.answer ∙ e) in
         let same : point n m s₁ ≡ point n m s₀ = stepped.moves ∙ rw (b.0, b.1) in
-        turned new (unmoved same x new.primal new.gap) b.0 refl b.2 (kept-none 0 n s₁) (kept-none 0 m d₀)
+        turned new (unmoved same x new.primal new.gap) b.0 refl b.2 (kept_none 0 n s₁) (kept_none 0 m d₀)
 
     -- the point moved: it is inside the bounds, and then has its certificate
     module _ {step : Float} (e : w ≡ Moved step) where
@@ -330,8 +330,8 @@ module _ (k : ℕ) (y : List Float) (lam : Float) where
     pub kept : Kept 0 (search_area n) s₀ s
     pub dual_kept : Kept 0 m d₀ d
 
-  pub loop-starts : {g : List Float} {tol : Float} {max_iter : ℕ} {s₀ s d₀ d : List Float} {r : Run} → Started k y lam s₀ s d₀ d r → Looping g tol max_iter s s d d r
-  loop-starts {g} {tol} {max_iter} {s = s} {d = d} {r = r} w =
+  pub loop_starts : {g : List Float} {tol : Float} {max_iter : ℕ} {s₀ s d₀ d : List Float} {r : Run} → Started k y lam s₀ s d₀ d r → Looping g tol max_iter s s d d r
+  loop_starts {g} {tol} {max_iter} {s = s} {d = d} {r = r} w =
       let e = w.begins g in
       let none : r.n_iter ≡ 0 = ap (λ (p : Point State). p.n_iter) e in
       let gains : r.improvements ≡ 0 = ap (λ (p : Point State). p.improvements) e in
@@ -343,8 +343,8 @@ module _ (k : ℕ) (y : List Float) (lam : Float) where
         within = omega arith;
         fewer = omega arith;
         idle = omega arith;
-        kept = kept-none 0 (search_area n) s;
-        dual_kept = kept-none 0 m d;
+        kept = kept_none 0 (search_area n) s;
+        dual_kept = kept_none 0 m d;
       }
 
   module _ {g : List Float} {tol : Float} {max_iter : ℕ} {s₀ s d₀ d : List Float} {r : Run} (w : Looping g tol max_iter s₀ s d₀ d r) where
@@ -380,7 +380,7 @@ module _ (k : ℕ) (y : List Float) (lam : Float) where
     loop-ends : (why : Reason) → test_of r tol max_iter ≡ Stops why → EndsAt (run P tol max_iter (start_at P (origin m))) (point_of k y s r) why
     loop-ends why h =
         finish P tol max_iter (run P tol max_iter (start_at P (origin m))) (point_of k y s r) r.lost why w.within w.left
-        r.lost (le r.gap (tol ⊗ r.primal)) (ltb r.n_iter max_iter) (eqb r.stalled 10) refl (enough-is g tol w.standing) refl refl h
+        r.lost (le r.gap (tol ⊗ r.primal)) (ltb r.n_iter max_iter) (eqb r.stalled 10) refl (enough_is g tol w.standing) refl refl h
 
   -- the whole search
   pub all_found : {g : List Float} {tol : Float} {max_iter : ℕ} {s₀ s₁ s d₀ d₁ d : List Float} {r₁ r : Run} {why : Reason} → g ≡ gram_row k → Started k y lam s₀ s₁ d₀ d₁ r₁

@@ -53,7 +53,7 @@ pub fn squares(x: &[f64], y: &[f64], k: usize) -> PrimalSums
     }
 }
 
-// Σ typeof.v.D y and Σ v².
+// Σ v·D y and Σ v².
 #[derive(Clone, Copy)]
 pub struct DualSums {
     pub dot: f64,

@@ -10,7 +10,7 @@ use Rattle.float64.specs.Ops.{◌⊗◌, half}
 use Rattle.float64.proofs.Clash.{impossible}
 use Rattle.vectors.specs.Sums.{inside}
 use Rattle.vectors.specs.Parts.{Kept, Written}
-use Rattle.vectors.proofs.Laws.{kept_then, kept-none}
+use Rattle.vectors.proofs.Laws.{kept_then, kept_none}
 use Rattle.vectors.proofs.Parts.{range_part}
 use Rattle.vectors.proofs.Sums.{both}
 use Rattle.dual_point.specs.Dual.{Dual}
@@ -19,16 +19,16 @@ use Rattle.dual_point.proofs.Points.{point_below, point_above}
 use Rattle.newton_system.specs.Newton.{NewtonData, residual_norm}
 use Rattle.line_search.specs.LineSearch.{along, sufficient_decrease, accepted, Trial, trials}
 use Rattle.line_search.specs.Places.{moved, searched_from, Attempted, Searched}
-use Rattle.line_search.proofs.Moves.{written_within, z-moved, all_moved}
+use Rattle.line_search.proofs.Moves.{written_within, z_moved, all_moved}
 
 module _ (c : NewtonData) where
-  accept-yes : (old step : Float) (q : Dual) (low : Bool) → true ≡ inside c.lam q.z → low ≡ sufficient_decrease (residual_norm c q) step old → low ≡ accepted c old q step
+  accept_yes : (old step : Float) (q : Dual) (low : Bool) → true ≡ inside c.lam q.z → low ≡ sufficient_decrease (residual_norm c q) step old → low ≡ accepted c old q step
   unfolding accepted
-  accept-yes old step q low e h = h ∙ rw (← e)
+  accept_yes old step q low e h = h ∙ rw (← e)
 
-  accept-no : (old step : Float) (q : Dual) → false ≡ inside c.lam q.z → false ≡ accepted c old q step
+  accept_no : (old step : Float) (q : Dual) → false ≡ inside c.lam q.z → false ≡ accepted c old q step
   unfolding accepted
-  accept-no old step q e = rw (← e)
+  accept_no old step q e = rw (← e)
 
   -- what is accepted is inside
   accepted-inside : (old step : Float) (q : Dual) → accepted c old q step ≡ true → inside c.lam q.z ≡ true
@@ -38,7 +38,7 @@ module _ (c : NewtonData) where
   -- z of the trial made: it is inside, the rest is made and its residual taken, or it is not
   module _ (m b : ℕ) (step old : Float) (s₀ s₁ : List Float) (w : Written (3 * m + 0) (3 * m + m) (moved b (3 * m) step s₀) s₀ s₁) (long : 3 * m + m ≤ length s₁) where
     z-inside : {y : Bool} → y ≡ inside c.lam (take (3 * m + m - 3 * m) (drop (3 * m) s₁)) → y ≡ inside c.lam (along (point 0 m s₀) (point b m s₀) step).z
-    z-inside e = e ∙ ap (inside c.lam) (range_part (3 * m) (3 * m + m) m s₁ refl long ∙ z-moved m b step s₀ s₁ w)
+    z-inside e = e ∙ ap (inside c.lam) (range_part (3 * m) (3 * m + m) m s₁ refl long ∙ z_moved m b step s₀ s₁ w)
 
     pub trial-inside : {s₂ s₃ : List Float} {low : Bool} → true ≡ inside c.lam (take (3 * m + m - 3 * m) (drop (3 * m) s₁)) → 6 * m ≤ b
         → Written (3 * m + m) (3 * m + 3 * m) (moved b (3 * m) step s₁) s₁ s₂
@@ -48,7 +48,7 @@ module _ (c : NewtonData) where
         record {
           in_bounds = z-inside y;
           taken = λ _. point_below (3 * m) m k (omega arith) ∙ made.0;
-          accepts = accept-yes old step (along (point 0 m s₀) (point b m s₀) step) low (z-inside y)
+          accepts = accept_yes old step (along (point 0 m s₀) (point b m s₀) step) low (z-inside y)
               (h ∙ ap (λ (p : Dual). sufficient_decrease (residual_norm c p) step old) made.0);
           kept = kept_then (3 * m) (4 * m) made.1 k (omega arith) (omega arith) (omega arith) (omega arith);
         }
@@ -57,20 +57,20 @@ module _ (c : NewtonData) where
     trial-outside y = record {
       in_bounds = z-inside y;
       taken = λ t. impossible cc;
-      accepts = accept-no old step (along (point 0 m s₀) (point b m s₀) step) (z-inside y);
+      accepts = accept_no old step (along (point 0 m s₀) (point b m s₀) step) (z-inside y);
       kept = written_within (3 * m) (4 * m) w (omega arith) (omega arith);
     }
 
   -- one trial of the definition: accepted, or not
-  trial-stop : (p d : Dual) (old : Float) (n : ℕ) (step : Float) (last : Dual) → accepted c old (along p d step) step ≡ true
+  trial_stop : (p d : Dual) (old : Float) (n : ℕ) (step : Float) (last : Dual) → accepted c old (along p d step) step ≡ true
       → trials c p d old (suc n) step last ≡ record { point = along p d step; step = step }
   unfolding trials
-  trial-stop p d old n step last h = rw h
+  trial_stop p d old n step last h = rw h
 
-  trial-go : (p d : Dual) (old : Float) (n : ℕ) (step : Float) (last : Dual) → accepted c old (along p d step) step ≡ false
+  trial_go : (p d : Dual) (old : Float) (n : ℕ) (step : Float) (last : Dual) → accepted c old (along p d step) step ≡ false
       → trials c p d old (suc n) step last ≡ trials c p d old n (step ⊗ half) (along p d step)
   unfolding trials
-  trial-go p d old n step last h = rw h
+  trial_go p d old n step last h = rw h
 
   -- after i trials: the last of them, whether it is inside, and inside that it stands after the point
   pub record Searching (m b : ℕ) (cap old : Float) (s₀ s : List Float) (step : Float) (within : Bool) (i : ℕ) : Type 0 where
@@ -84,7 +84,7 @@ module _ (c : NewtonData) where
   pub begins : (m b : ℕ) (cap old : Float) (s : List Float) → Searching m b cap old s s cap false 0
   begins m b cap old s = record {
     some = omega arith;
-    kept = kept-none (3 * m) (4 * m) s;
+    kept = kept_none (3 * m) (4 * m) s;
     last = point 0 m s;
     left = refl;
     in_bounds = λ h. absurd (omega arith);
@@ -117,7 +117,7 @@ module _ (c : NewtonData) where
       some = omega arith;
       kept = more-kept;
       last = trial;
-      left = left ∙ trial-go (point 0 m s₀) (point b m s₀) old (20 - (i + 1)) step w.last (sym answer ∙ f);
+      left = left ∙ trial_go (point 0 m s₀) (point b m s₀) old (20 - (i + 1)) step w.last (sym answer ∙ f);
       in_bounds = λ _. in_bounds;
       taken = λ _ y. t.taken y ∙ same;
     }
@@ -125,7 +125,7 @@ module _ (c : NewtonData) where
     pub stops : good ≡ true → Searched c m b cap old s₀ s' step true
     stops f =
         let a = sym answer ∙ f in
-        let e = left ∙ trial-stop (point 0 m s₀) (point b m s₀) old (20 - (i + 1)) step w.last a in
+        let e = left ∙ trial_stop (point 0 m s₀) (point b m s₀) old (20 - (i + 1)) step w.last a in
         let y = accepted-inside old step (trial) a in
         record {
           step_is = ap (λ (x : Trial). x.step) e;

@@ -51,9 +51,9 @@ module _ (b c : ℕ) (step : Float) (s₀ s : List Float) where
 
 -- z of the trial, and then all of it
 module _ (m b : ℕ) (step : Float) (s₀ s₁ : List Float) (w : Written (3 * m + 0) (3 * m + m) (moved b (3 * m) step s₀) s₀ s₁) where
-  pub z-moved : part (3 * m) m s₁ ≡ (along (point 0 m s₀) (point b m s₀) step).z
+  pub z_moved : part (3 * m) m s₁ ≡ (along (point 0 m s₀) (point b m s₀) step).z
   unfolding along
-  z-moved = part_moved b (3 * m) step s₀ s₁ m 0 b (3 * m) w (omega arith) (omega arith) (omega arith) (omega arith)
+  z_moved = part_moved b (3 * m) step s₀ s₁ m 0 b (3 * m) w (omega arith) (omega arith) (omega arith) (omega arith)
 
   pub all_moved : (s₂ : List Float) → 6 * m ≤ b → Written (3 * m + m) (3 * m + 3 * m) (moved b (3 * m) step s₁) s₁ s₂
       → (point (3 * m) m s₂ ≡ along (point 0 m s₀) (point b m s₀) step) × Kept (3 * m) (4 * m) s₀ s₂

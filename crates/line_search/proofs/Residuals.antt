@@ -12,7 +12,7 @@ use Rattle.vectors.specs.Vec.{at, list}
 use Rattle.vectors.specs.Sums.{sum_to}
 use Rattle.vectors.specs.Parts.{Kept}
 use Rattle.vectors.proofs.Laws.{length-list, at-list, up}
-use Rattle.vectors.proofs.Parts.{length_part, range_part, store-done}
+use Rattle.vectors.proofs.Parts.{length_part, range_part, store_done}
 use Rattle.vectors.proofs.Sums.{sum_ext}
 use Rattle.gram.specs.Gram.{product}
 use Rattle.dual_point.specs.Dual.{Dual}
@@ -62,5 +62,5 @@ unfolding residual_square
 squares_sum c {m} {s₀} {s} w n e =
     let f : ℕ → Float = residual_square_of c (point (3 * m) m s₀) in
     let all : take (7 * m - 6 * m) (drop (6 * m) s) ≡ list m f =
-    range_part (6 * m) (7 * m) m s (omega arith) n ∙ store-done nan (6 * m) m f s₀ s (rw add-zero at w.each) in
+    range_part (6 * m) (7 * m) m s (omega arith) n ∙ store_done nan (6 * m) m f s₀ s (rw add-zero at w.each) in
     e ∙ rw (all, length-list m f, length_part (3 * m) m s₀) (sum_ext (at (list m f)) f m (at-list m f))

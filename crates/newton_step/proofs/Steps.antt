@@ -6,7 +6,7 @@ use Prim.Native.Nat.{ℕ, ◌+◌, ◌*◌}
 use native.Mathlib.Omega.{arith}
 use lib.Ieee.{Float}
 use Rattle.vectors.specs.Parts.{Kept, part}
-use Rattle.vectors.proofs.Laws.{kept_then, kept-none}
+use Rattle.vectors.proofs.Laws.{kept_then, kept_none}
 use Rattle.vectors.proofs.Parts.{length_part}
 use Rattle.banded.specs.Rows.{sound}
 use Rattle.square_root.specs.Sqrt.{sqrt_of}
@@ -59,13 +59,13 @@ module _ {k : ℕ} {g dy : List Float} {lam inv_t : Float} {m : ℕ} {s₀ s₁ 
   abbrev all : ℕ
   all = step_area k m
 
-  pub lost-step : w.good ≡ false → Stepped k g dy lam inv_t 0 m s₀ s₁ Lost
-  lost-step f =
+  pub lost_step : w.good ≡ false → Stepped k g dy lam inv_t 0 m s₀ s₁ Lost
+  lost_step f =
       let no : sound k (system k g lam (point 0 m s₀)) m ≡ false = sym z.answer ∙ f in
       record {
         answer = rw no;
         moves = point_below 0 m z.kept (omega arith) ∙ rw no;
-        kept = kept_then 0 all z.kept (kept-none 0 0 s₁) (omega arith) (omega arith) (omega arith) (omega arith);
+        kept = kept_then 0 all z.kept (kept_none 0 0 s₁) (omega arith) (omega arith) (omega arith) (omega arith);
       }
 
   -- the direction and the line search made: the point stays, or the trial takes its place

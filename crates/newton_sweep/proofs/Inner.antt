@@ -8,14 +8,14 @@ use lib.ListN.{length, take, drop, length-drop}
 use lib.Seq.{length-take-le, get_or-take, get_or-drop}
 use lib.Ieee.{Float, nan, binary64, add}
 use Rattle.vectors.specs.Vec.{at}
-use Rattle.vectors.proofs.Parts.{put_back, mid-put, first-put, rest_put, part-size}
+use Rattle.vectors.proofs.Parts.{put_back, mid_put, first_put, rest_put, part-size}
 use Rattle.banded.specs.Rows.{good}
 use Rattle.banded.specs.Run.{HasRow, Stored, Eliminated}
-use Rattle.banded.proofs.Storing.{stored-1, stored-2}
+use Rattle.banded.proofs.Storing.{stored_1, stored_2}
 use Rattle.elimination.specs.declared.Row1.{Row1}
 use Rattle.elimination.specs.declared.Row2.{Row2}
 use Rattle.elimination.specs.Next.{Next1Made, Next2Made}
-use Rattle.elimination.proofs.Orders.{eliminated-1, eliminated-2}
+use Rattle.elimination.proofs.Orders.{eliminated_1, eliminated_2}
 use Rattle.dual_point.specs.Places.{point}
 use Rattle.newton_system.specs.declared.Row.{Row}
 use Rattle.newton_system.specs.Rows.{besides, RowMade}
@@ -44,7 +44,7 @@ module _ {k a m : ℕ} {s : List Float} (room : Room k a m s) where
     long = part-size a (places k m) s t room.fits st.elsewhere.size
 
     after : mid k a m (put_back a (places k m) s t) ≡ t
-    after = mid-put a (places k m) s t room.fits long
+    after = mid_put a (places k m) s t room.fits long
 
     -- stored as made, and then factored
     module _ {u : List Float} {ok : Bool} (e : Eliminated k m r (mid k a m (put_back a (places k m) s t)) u ok) where
@@ -52,7 +52,7 @@ module _ {k a m : ℕ} {s : List Float} (room : Room k a m s) where
       done-any = record { mid = t; put = st; done = rw after at e }
 
       pub put-twice : put_back a (places k m) (put_back a (places k m) s t) u ≡ put_back a (places k m) s u
-      put-twice = rw (first-put a (places k m) s t room.fits long, rest_put a (places k m) s t room.fits long)
+      put-twice = rw (first_put a (places k m) s t room.fits long, rest_put a (places k m) s t room.fits long)
 
 -- so in a loop over some of the rows, where each is lent the places of the system
 module _ {k : ℕ} {g dy : List Float} {lam inv_t : Float} {a m from to l r : ℕ} {acc₀ acc : Float} {s₀ s t u : List Float} {ok : Bool} {v : Row} (pre : AtRows k a m from to (length s₀) l)
@@ -65,11 +65,11 @@ module _ {k : ℕ} {g dy : List Float} {lam inv_t : Float} {a m from to l r : �
   factored : Eliminated k m r (mid k a m (put_back a (places k m) s t)) u ok
   factored = rw (lent a (places k m)) at e
 
-  pub any-more : ok ≡ true → Going k g dy lam inv_t a m from to acc₀ s₀ (put_back a (a + places k m - a) (put_back a (a + places k m - a) s t) u) (add binary64 acc v.square) (r + 1)
-  any-more y = rw (lent a (places k m)) (going_more pre w b new (done-any (room pre w) put factored) (put-twice (room pre w) put factored) y)
+  pub any_more : ok ≡ true → Going k g dy lam inv_t a m from to acc₀ s₀ (put_back a (a + places k m - a) (put_back a (a + places k m - a) s t) u) (add binary64 acc v.square) (r + 1)
+  any_more y = rw (lent a (places k m)) (going_more pre w b new (done-any (room pre w) put factored) (put-twice (room pre w) put factored) y)
 
-  pub any-bad : ok ≡ false → SweptOn k g dy lam inv_t a m from to acc₀ s₀ (put_back a (a + places k m - a) (put_back a (a + places k m - a) s t) u) (record { acc = acc; good = false })
-  any-bad y = rw (lent a (places k m)) (going-bad pre w b new (done-any (room pre w) put factored) (put-twice (room pre w) put factored) y)
+  pub any_bad : ok ≡ false → SweptOn k g dy lam inv_t a m from to acc₀ s₀ (put_back a (a + places k m - a) (put_back a (a + places k m - a) s t) u) (record { acc = acc; good = false })
+  any_bad y = rw (lent a (places k m)) (going-bad pre w b new (done-any (room pre w) put factored) (put-twice (room pre w) put factored) y)
 
 -- a row stored over another
 over : {k m r : ℕ} {v w : ℕ → Float} {x y : Float} {s t u : List Float} → Stored k m r v x s t → Stored k m r w y s u → Stored k m r w y t u
@@ -96,18 +96,18 @@ pub record Last1 (m r : ℕ) (t : List Float) (d u : Float) : Type 0 where
 
 module _ {a m r : ℕ} {s t : List Float} {w : Row1} (g : List Float) (far : 1 ≤ r) (h : r < m) (room : Room 1 a m s)
     (st : Stored 1 m r (at (w.left ∷ w.pivot ∷ [])) w.side (mid 1 a m s) t) where
-  pub done-1 : {b x d u : Float} → Next1Made (at g 1) b x d u w → Last1 m r (mid 1 a m s) d u → RowDone 1 m r (besides 1 g b) x (mid 1 a m s) t (good w.pivot)
-  done-1 {b} {x} new o =
-      let p = stored-1 m r (mid 1 a m s) (at g 1) b x (has room h) in
+  pub done_1 : {b x d u : Float} → Next1Made (at g 1) b x d u w → Last1 m r (mid 1 a m s) d u → RowDone 1 m r (besides 1 g b) x (mid 1 a m s) t (good w.pivot)
+  done_1 {b} {x} new o =
+      let p = stored_1 m r (mid 1 a m s) (at g 1) b x (has room h) in
       record {
         mid = _;
         put = put_1 g b p;
-        done = eliminated-1 far h (over p st) new (first p) (p.row 1 (omega arith)) p.side (p.elsewhere.below (r * 2 - 1) (omega arith) ∙ o.pivot)
+        done = eliminated_1 far h (over p st) new (first p) (p.row 1 (omega arith)) p.side (p.elsewhere.below (r * 2 - 1) (omega arith) ∙ o.pivot)
             (p.elsewhere.between (m * 2 + r - 1) (omega arith) (omega arith) ∙ o.side);
       }
 
-  pub last-1 : Last1 m (r + 1) (mid 1 a m (put_back a (places 1 m) s t)) w.pivot w.side
-  last-1 = rw (after room st) (record { pivot = ap (at t) (omega arith) ∙ st.row 1 (omega arith); side = ap (at t) (omega arith) ∙ st.side })
+  pub last_1 : Last1 m (r + 1) (mid 1 a m (put_back a (places 1 m) s t)) w.pivot w.side
+  last_1 = rw (after room st) (record { pivot = ap (at t) (omega arith) ∙ st.row 1 (omega arith); side = ap (at t) (omega arith) ∙ st.side })
 
 -- ---- order 2: the pivots of rows r - 2 and r - 1 of t, what stands left of the second, and their right sides
 
@@ -120,19 +120,19 @@ pub record Last2 (m r : ℕ) (t : List Float) (d2 l d1 u2 u1 : Float) : Type 0 w
 
 module _ {a m r : ℕ} {s t : List Float} {w : Row2} (g : List Float) (far : 2 ≤ r) (h : r < m) (room : Room 2 a m s)
     (st : Stored 2 m r (at (w.far ∷ w.left ∷ w.pivot ∷ [])) w.side (mid 2 a m s) t) where
-  pub done-2 : {b x d2 l d1 u2 u1 : Float} → Next2Made (at g 2) (at g 1) b x d2 l d1 u2 u1 w → Last2 m r (mid 2 a m s) d2 l d1 u2 u1 → RowDone 2 m r (besides 2 g b) x (mid 2 a m s) t (good w.pivot)
-  done-2 {b} {x} new o =
-      let p = stored-2 m r (mid 2 a m s) (at g 2) (at g 1) x b (has room h) in
+  pub done_2 : {b x d2 l d1 u2 u1 : Float} → Next2Made (at g 2) (at g 1) b x d2 l d1 u2 u1 w → Last2 m r (mid 2 a m s) d2 l d1 u2 u1 → RowDone 2 m r (besides 2 g b) x (mid 2 a m s) t (good w.pivot)
+  done_2 {b} {x} new o =
+      let p = stored_2 m r (mid 2 a m s) (at g 2) (at g 1) x b (has room h) in
       record {
         mid = _;
         put = put_2 g b p;
-        done = eliminated-2 far h (over p st) new (first p) (p.row 1 (omega arith)) (p.row 2 (omega arith)) p.side
+        done = eliminated_2 far h (over p st) new (first p) (p.row 1 (omega arith)) (p.row 2 (omega arith)) p.side
             (p.elsewhere.below (r * 3 - 4) (omega arith) ∙ o.pivot2) (p.elsewhere.below (r * 3 - 2) (omega arith) ∙ o.left) (p.elsewhere.below (r * 3 - 1) (omega arith) ∙ o.pivot1)
             (p.elsewhere.between (m * 3 + r - 2) (omega arith) (omega arith) ∙ o.side2) (p.elsewhere.between (m * 3 + r - 1) (omega arith) (omega arith) ∙ o.side1);
       }
 
-  pub last-2 : {d2 l d1 u2 u1 : Float} → Last2 m r (mid 2 a m s) d2 l d1 u2 u1 → Last2 m (r + 1) (mid 2 a m (put_back a (places 2 m) s t)) d1 w.left w.pivot u1 w.side
-  last-2 o = rw (after room st) (record {
+  pub last_2 : {d2 l d1 u2 u1 : Float} → Last2 m r (mid 2 a m s) d2 l d1 u2 u1 → Last2 m (r + 1) (mid 2 a m (put_back a (places 2 m) s t)) d1 w.left w.pivot u1 w.side
+  last_2 o = rw (after room st) (record {
     pivot2 = ap (at t) (omega arith) ∙ st.elsewhere.below (r * 3 - 1) (omega arith) ∙ o.pivot1;
     left = ap (at t) (omega arith) ∙ st.row 1 (omega arith);
     pivot1 = ap (at t) (omega arith) ∙ st.row 2 (omega arith);

@@ -14,16 +14,16 @@ use Rattle.float64.proofs.Clash.{clash}
 use Rattle.vectors.specs.Sums.{sum_to}
 use Rattle.vectors.specs.Vec.{at}
 use Rattle.vectors.specs.Parts.{Kept}
-use Rattle.vectors.proofs.Laws.{kept-none, kept_then}
-use Rattle.vectors.proofs.Parts.{length_part, put_back, mid-put, length-put, kept_put, part-put, part-size}
+use Rattle.vectors.proofs.Laws.{kept_none, kept_then}
+use Rattle.vectors.proofs.Parts.{length_part, put_back, mid_put, length-put, kept_put, part-put, part-size}
 use Rattle.vectors.proofs.Sums.{sum_more}
 use Rattle.banded.specs.Rows.{rows}
 use Rattle.banded.specs.Solve.{forward, divided, back, solve}
 use Rattle.banded.specs.Run.{of_run, Stored, Eliminated}
-use Rattle.banded.proofs.Laws.{shape_rows, of-holds, stands_part, rows-part, side-part}
+use Rattle.banded.proofs.Laws.{shape_rows, of_holds, stands_part, rows-part, side_part}
 use Rattle.banded.proofs.Forward.{length-forward}
 use Rattle.elimination.specs.Decomposed.{Reached}
-use Rattle.elimination.proofs.Elimination.{reached_none, reached_kept, reached-more, reached-bad}
+use Rattle.elimination.proofs.Elimination.{reached_none, reached_kept, reached-more, reached_bad}
 use Rattle.substitution.specs.Solved.{Substituted}
 use Rattle.substitution.proofs.Laws.{solve_is}
 use Rattle.dual_point.specs.Dual.{Dual}
@@ -49,7 +49,7 @@ pub record Room (k a m : ℕ) (s : List Float) : Type 0 where
 pub sweep_none : {k : ℕ} {g dy : List Float} {lam inv_t : Float} {a m : ℕ} {s : List Float} → Sweeping k g dy lam inv_t a m s s c0 0
 unfolding sum_to
 sweep_none {k} {a = a} {m = m} {s = s} =
-    record { some = omega arith; kept = kept-none a (places k m) s; sum = refl; made = reached_none k m _ _ (take (places k m) (drop a s)) }
+    record { some = omega arith; kept = kept_none a (places k m) s; sum = refl; made = reached_none k m _ _ (take (places k m) (drop a s)) }
 
 -- row r of t stored as made, v with x after the rows, and then factored: u is what that leaves
 pub record RowDone (k m r : ℕ) (v : ℕ → Float) (x : Float) (t u : List Float) (ok : Bool) : Type 0 where
@@ -98,12 +98,12 @@ module _ {k : ℕ} {g dy : List Float} {lam inv_t : Float} {a m : ℕ} {s₀ s :
       some = omega arith;
       kept = swept_kept;
       sum = sum_more (residual_square_of (data_of k g dy lam inv_t) (point 0 m s₀)) r acc v.square w.sum (new.square ∙ ap (λ (q : Dual). residual_square_of (data_of k g dy lam inv_t) q r) same);
-      made = rw (mid-put a n s x room long) (reached-more before d.done b had at_right y);
+      made = rw (mid_put a n s x room long) (reached-more before d.done b had at_right y);
     }
 
     pub sweep-bad : ok ≡ false → Swept k g dy lam inv_t a m s₀ s₁ (record { acc = acc; good = false })
     sweep-bad bad = record {
-      answer = sym (reached-bad before d.done b had at_right bad);
+      answer = sym (reached_bad before d.done b had at_right bad);
       square = λ y. absurd (clash y refl);
       factor = λ y. absurd (clash y refl);
       side = λ y. absurd (clash y refl);
@@ -111,9 +111,9 @@ module _ {k : ℕ} {g dy : List Float} {lam inv_t : Float} {a m : ℕ} {s₀ s :
     }
 
   -- all rows, or a bad pivot among them
-  sweep-all : {w : Solved} {l : ℕ} → w.good ≡ true → Sweeping k g dy lam inv_t a m s₀ s w.acc m → AtSystem k a m (length s₀) l → Swept k g dy lam inv_t a m s₀ s w
+  sweep_all : {w : Solved} {l : ℕ} → w.good ≡ true → Sweeping k g dy lam inv_t a m s₀ s w.acc m → AtSystem k a m (length s₀) l → Swept k g dy lam inv_t a m s₀ s w
   unfolding residual_square
-  sweep-all ok w pre =
+  sweep_all ok w pre =
       let n = m * (k + 1) in
       let room : a + places k m ≤ length s = omega (arith, pre.room, w.kept.size) in
       let f = rows k (system k g lam (point 0 m s₀)) m in
@@ -122,26 +122,26 @@ module _ {k : ℕ} {g dy : List Float} {lam inv_t : Float} {a m : ℕ} {s₀ s :
       record {
         answer = ok ∙ sym d.firm;
         square = λ y. w.sum ∙ rw (length_part 0 m s₀);
-        factor = λ y. sym (rows-part k a m s room) ∙ of-holds k m f t d.made;
-        side = λ y. sym (side-part k a m s room) ∙ stands_part n m (forward k f (rhs (data_of k g dy lam inv_t) (point 0 m s₀)) m) t (length-forward k f (rhs (data_of k g dy lam inv_t) (point 0 m s₀)) m) d.side;
+        factor = λ y. sym (rows-part k a m s room) ∙ of_holds k m f t d.made;
+        side = λ y. sym (side_part k a m s room) ∙ stands_part n m (forward k f (rhs (data_of k g dy lam inv_t) (point 0 m s₀)) m) t (length-forward k f (rhs (data_of k g dy lam inv_t) (point 0 m s₀)) m) d.side;
         kept = w.kept;
       }
 
-  pub sweep-done : {w : Solved} {l : ℕ} → SweptTo k g dy lam inv_t a m m s₀ s w → AtSystem k a m (length s₀) l → Swept k g dy lam inv_t a m s₀ s w
-  sweep-done {w} h pre = go w.good refl
+  pub sweep_done : {w : Solved} {l : ℕ} → SweptTo k g dy lam inv_t a m m s₀ s w → AtSystem k a m (length s₀) l → Swept k g dy lam inv_t a m s₀ s w
+  sweep_done {w} h pre = go w.good refl
     where
       go : (b : Bool) → w.good ≡ b → Swept k g dy lam inv_t a m s₀ s w
-      go true y = sweep-all y (h.on y) pre
+      go true y = sweep_all y (h.on y) pre
       go false y = h.ended y
 
   -- a bad pivot; or the right side carried back, by x
-  pub newton-bad : {w : Solved} → Swept k g dy lam inv_t a m s₀ s w → w.good ≡ false → NewtonSolved k g dy lam inv_t a m s₀ s w
-  newton-bad h bad = record { answer = h.answer; square = h.square; dz = λ y. absurd (clash y bad); kept = h.kept }
+  pub newton_bad : {w : Solved} → Swept k g dy lam inv_t a m s₀ s w → w.good ≡ false → NewtonSolved k g dy lam inv_t a m s₀ s w
+  newton_bad h bad = record { answer = h.answer; square = h.square; dz = λ y. absurd (clash y bad); kept = h.kept }
 
-  pub newton-solved : {w : Solved} {x : List Float} {l : ℕ} → Swept k g dy lam inv_t a m s₀ s w → AtSystem k a m (length s₀) l → Substituted k m (take (places k m) (drop a s)) x
+  pub newton_solved : {w : Solved} {x : List Float} {l : ℕ} → Swept k g dy lam inv_t a m s₀ s w → AtSystem k a m (length s₀) l → Substituted k m (take (places k m) (drop a s)) x
       → NewtonSolved k g dy lam inv_t a m s₀ (put_back a (places k m) s x) w
   unfolding newton_z
-  newton-solved {w} {x} h pre b =
+  newton_solved {w} {x} h pre b =
       let n = m * (k + 1) in
       let room : a + places k m ≤ length s = omega (arith, pre.room, h.kept.size) in
       let f = rows k (system k g lam (point 0 m s₀)) m in
@@ -152,7 +152,7 @@ module _ {k : ℕ} {g dy : List Float} {lam inv_t : Float} {a m : ℕ} {s₀ s :
         dz = λ y.
             part-put a (places k m) s x room long nan n m (omega arith)
             ∙ b.made f (shape_rows k (system k g lam (point 0 m s₀)) m) (rows-part k a m s room ∙ h.factor y)
-            ∙ ap (λ (v : List Float). back k f (divided k f v) m) (side-part k a m s room ∙ h.side y)
+            ∙ ap (λ (v : List Float). back k f (divided k f v) m) (side_part k a m s room ∙ h.side y)
             ∙ sym (solve_is k m f (rhs (data_of k g dy lam inv_t) (point 0 m s₀)) (length-rhs k g dy lam inv_t m s₀))
             ∙ ap (λ (i : ℕ). solve k (rows k (system k g lam (point 0 m s₀)) i) (rhs (data_of k g dy lam inv_t) (point 0 m s₀))) (sym (length_part 0 m s₀));
         kept = kept_then a (places k m) h.kept (kept_put a (places k m) s x room long nan) (omega arith) (omega arith) (omega arith) (omega arith);
@@ -166,8 +166,8 @@ pub record Going (k : ℕ) (g dy : List Float) (lam inv_t : Float) (a m from to 
   pub since : (p : List Float) → Sweeping k g dy lam inv_t a m p s₀ acc₀ from → Sweeping k g dy lam inv_t a m p s acc r
 
 module _ {k : ℕ} {g dy : List Float} {lam inv_t : Float} {a m from to l : ℕ} {s₀ : List Float} (pre : AtRows k a m from to (length s₀) l) where
-  pub going-none : {acc₀ : Float} → Going k g dy lam inv_t a m from to acc₀ s₀ s₀ acc₀ from
-  going-none = record { size = refl; some = pre.order; since = λ p h. h }
+  pub going_none : {acc₀ : Float} → Going k g dy lam inv_t a m from to acc₀ s₀ s₀ acc₀ from
+  going_none = record { size = refl; some = pre.order; since = λ p h. h }
 
   module _ {acc₀ acc : Float} {s : List Float} {r : ℕ} (w : Going k g dy lam inv_t a m from to acc₀ s₀ s acc r) where
     pub room : Room k a m s

@@ -23,7 +23,7 @@ use Rattle.overrun.specs.Fractions.{LowestTerms}
 use Rattle.overrun.specs.Overrun.{Frames, frames_in, fraction_of, is_rated, is_below_zero, overrun}
 use Rattle.overrun.specs.Nearest.{distance, NearestDouble, OverrunsNearest}
 use Rattle.overrun.proofs.Fractions.{reductions}
-use Rattle.overrun.proofs.Nearest.{NearestCount, zero_nearest, across, rounded, rounded-nearest, rounded-value}
+use Rattle.overrun.proofs.Nearest.{NearestCount, zero_nearest, across, rounded, rounded_nearest, rounded_value}
 
 -- ---- zeros
 
@@ -64,7 +64,7 @@ either false false h p q a b = a refl
 
 -- ---- a double with a count m that is nearer than any other count
 
-module _ (s : Bool) (a b m : ℕ) (x : Float) (b-pos : 0 < b) (f : T (fits binary64 x)) (v : HasValue x s m (2 ^ 1074)) (near : NearestCount (a * 2 ^ 1074) b m) where
+module _ (s : Bool) (a b m : ℕ) (x : Float) (b_pos : 0 < b) (f : T (fits binary64 x)) (v : HasValue x s m (2 ^ 1074)) (near : NearestCount (a * 2 ^ 1074) b m) where
   finite : is_finite x ≡ true
   finite = value_finite x s m (2 ^ 1074) v
 
@@ -82,7 +82,7 @@ module _ (s : Bool) (a b m : ℕ) (x : Float) (b-pos : 0 < b) (f : T (fits binar
       rw own
       (either s (has_minus z) (apart (a * 2 ^ 1074) (m * b)) (apart (a * 2 ^ 1074) (in_units z * b)) (a * 2 ^ 1074 + in_units z * b)
       (λ e. near (in_units z) (double_grid z g) (λ h. self (same_double z x g f q finite (e ∙ sym sign) (h ∙ sym units))))
-      (across (a * 2 ^ 1074) b m (in_units z) b-pos near (λ h e. zeros (is_nought z g q e) (is_nought x f finite (units ∙ h)))))
+      (across (a * 2 ^ 1074) b m (in_units z) b_pos near (λ h e. zeros (is_nought z g q e) (is_nought x f finite (units ∙ h)))))
     where
       self : z ≡ x → ⊥
       self e = subst (λ (y : Float). HasValue y s m (2 ^ 1074)) (differs_from_itself x (subst (λ (y : Float). T (ne y x)) e d)) v
@@ -90,20 +90,20 @@ module _ (s : Bool) (a b m : ℕ) (x : Float) (b-pos : 0 < b) (f : T (fits binar
       zeros : z ≡ nought (has_minus z) → x ≡ nought (has_minus x) → ⊥
       zeros e h = noughts (has_minus z) (has_minus x) (subst (λ (y : Float). T (ne (nought (has_minus z)) y)) h (subst (λ (y : Float). T (ne y x)) e d))
 
-  nearest-double : NearestDouble s a b x
-  nearest-double = record { double = f; finite = finite; sign = sign; others = others }
+  nearest_double : NearestDouble s a b x
+  nearest_double = record { double = f; finite = finite; sign = sign; others = others }
 
 -- ---- a / b rounded, where it is u / v
 
 round_nearest : (s : Bool) (a b u v : ℕ) → 0 < b → b ≤ 2 ^ 1022 → 0 < v → u < 2 ^ 53 → u * b ≡ a * v → NearestDouble s a b (round binary64 s a b)
-round_nearest s zero b u v b-pos b-le v-pos u-lt e =
-    nearest-double s 0 b 0 (round binary64 s 0 b) b-pos (round-fits binary64 s 0 b)
-    (subst (λ (x : Float). HasValue x s 0 (2 ^ 1074)) (sym (round-zero s b b-pos)) (refl, refl))
-    (zero_nearest b b-pos)
-round_nearest s (suc a) b u v b-pos b-le v-pos u-lt e =
-    nearest-double s (suc a) b (rounded (suc a) b) (round binary64 s (suc a) b) b-pos (round-fits binary64 s (suc a) b)
-    (rounded-value (suc a) b u v (zero-lt-suc a) b-pos b-le v-pos u-lt e s)
-    (rounded-nearest (suc a) b u v (zero-lt-suc a) b-pos b-le v-pos u-lt e)
+round_nearest s zero b u v b_pos b-le v-pos u-lt e =
+    nearest_double s 0 b 0 (round binary64 s 0 b) b_pos (round-fits binary64 s 0 b)
+    (subst (λ (x : Float). HasValue x s 0 (2 ^ 1074)) (sym (round-zero s b b_pos)) (refl, refl))
+    (zero_nearest b b_pos)
+round_nearest s (suc a) b u v b_pos b-le v-pos u-lt e =
+    nearest_double s (suc a) b (rounded (suc a) b) (round binary64 s (suc a) b) b_pos (round-fits binary64 s (suc a) b)
+    (rounded_value (suc a) b u v (zero-lt-suc a) b_pos b-le v-pos u-lt e s)
+    (rounded_nearest (suc a) b u v (zero-lt-suc a) b_pos b-le v-pos u-lt e)
 
 -- ---- hours in frames
 
@@ -114,28 +114,28 @@ module _ (f : Frames) (rated : is_rated f ≡ true) where
   abbrev b : ℕ
   b = f.numerator
 
-  b-pos : 0 < b
-  b-pos = ltb-true 0 b ((and-eq-true_iff (ltb 0 b) _).0 rated).0
+  b_pos : 0 < b
+  b_pos = ltb-true 0 b ((and-eq-true_iff (ltb 0 b) _).0 rated).0
 
   upper_lt : (fraction_of f).upper < 2 ^ 53
   upper_lt = ltb-true _ _ ((and-eq-true_iff (ltb 0 f.denominator) _).0 ((and-eq-true_iff (ltb 0 b) _).0 rated).1).1
 
   terms : LowestTerms a b (fraction_of f)
-  terms = reductions.terms a b b-pos
+  terms = reductions.terms a b b_pos
 
   -- reduced or not, the fraction rounds alike
-  overrun-is : overrun f ≡ round binary64 (is_below_zero f) a b
+  overrun_is : overrun f ≡ round binary64 (is_below_zero f) a b
   unfolding overrun
-  overrun-is = rw rated (round_same binary64 (is_below_zero f) (fraction_of f).upper (fraction_of f).lower a b terms.above_zero b-pos terms.value)
+  overrun_is = rw rated (round_same binary64 (is_below_zero f) (fraction_of f).upper (fraction_of f).lower a b terms.above_zero b_pos terms.value)
 
   nearest : b ≤ 2 ^ 1022 → NearestDouble (is_below_zero f) a b (overrun f)
   nearest h =
-      subst (NearestDouble (is_below_zero f) a b) (sym overrun-is)
-      (round_nearest (is_below_zero f) a b (fraction_of f).upper (fraction_of f).lower b-pos h terms.above_zero upper_lt terms.value)
+      subst (NearestDouble (is_below_zero f) a b) (sym overrun_is)
+      (round_nearest (is_below_zero f) a b (fraction_of f).upper (fraction_of f).lower b_pos h terms.above_zero upper_lt terms.value)
 
   zero_count : f.count ≡ pos 0 → overrun f ≡ c0
   unfolding of_bits
-  zero_count e = overrun-is ∙ rw (e, zero-mul f.denominator) (round-zero false b b-pos)
+  zero_count e = overrun_is ∙ rw (e, zero-mul f.denominator) (round-zero false b b_pos)
 
 -- four bytes are far below the numerators of which some put an overrun half way between two doubles
 pub overruns_nearest : OverrunsNearest

@@ -83,41 +83,41 @@ tie : (a b u v l p q r : ℕ) → 0 < b → u * b ≡ a * v → q * (b * p) + r 
 tie a b u v l p q r h e f t = eq_of_mul-eq-mul_right b h (u * (l * 2)) ((2 * q + 1) * (v * p)) (omega (arith, ap (λ (x : ℕ). x * l) e, ap (λ (x : ℕ). x * v) f, ap (λ (x : ℕ). x * v) t))
 
 -- so with an u of 53 digits at most there is none, if b is not so large that fewer than 53 digits are kept
-module _ (a b u v : ℕ) (a-pos : 0 < a) (b-pos : 0 < b) (b-le : b ≤ 2 ^ 1022) (v-pos : 0 < v) (u-lt : u < 2 ^ 53) (e : u * b ≡ a * v) where
-  kept-all : 53 ≤ size (count a / b)
-  kept-all = normal_of_fraction binary64 a b b-pos (le_trans (mul-le-mul_left (2 ^ 52) b-le) (le_trans (lit≤ tt) (mul-le-mul_right (2 ^ 1074) a-pos)))
+module _ (a b u v : ℕ) (a-pos : 0 < a) (b_pos : 0 < b) (b-le : b ≤ 2 ^ 1022) (v-pos : 0 < v) (u-lt : u < 2 ^ 53) (e : u * b ≡ a * v) where
+  kept_all : 53 ≤ size (count a / b)
+  kept_all = normal_of_fraction binary64 a b b_pos (le_trans (mul-le-mul_left (2 ^ 52) b-le) (le_trans (lit≤ tt) (mul-le-mul_right (2 ^ 1074) a-pos)))
 
-  leading-ge : 2 ^ 52 ≤ leading a b
-  leading-ge =
+  leading_ge : 2 ^ 52 ≤ leading a b
+  leading_ge =
       let d = dropped a b in
-      let h : 52 + d < size (count a / b) = omega (arith, kept-all) in
+      let h : 52 + d < size (count a / b) = omega (arith, kept_all) in
       subst (λ (x : ℕ). 2 ^ 52 ≤ x) (div-div-eq-div-mul (count a) b (2 ^ d))
       ((le-div_iff_mul-le (pow_pos d)).1 (le_trans (le_of_eq (sym (pow-add 2 52 d))) (size_reaches (count a / b) (52 + d) h)))
 
   no_tie : count a % unit a b * 2 ≡ unit a b → ⊥
   no_tie t =
       let q = leading a b in
-      let h : u * 2 ^ 1075 ≡ (2 * q + 1) * (v * 2 ^ dropped a b) = tie a b u v (2 ^ 1074) (2 ^ dropped a b) q (count a % unit a b) b-pos e (div-add-mod' (count a) (unit a b)) t in
+      let h : u * 2 ^ 1075 ≡ (2 * q + 1) * (v * 2 ^ dropped a b) = tie a b u v (2 ^ 1074) (2 ^ dropped a b) q (count a % unit a b) b_pos e (div-add-mod' (count a) (unit a b)) t in
       let divides : 2 * q + 1 ∣ u = odd_divides q u 1075 (subst (λ (x : ℕ). 2 * q + 1 ∣ x) (sym h) (dvd-mul_right (2 * q + 1) (v * 2 ^ dropped a b))) in
-      omega (arith, leading-ge, u-lt, le_of_dvd (first_pos u b (subst (λ (x : ℕ). 0 < x) (sym e) (mul-pos a-pos v-pos))) divides)
+      omega (arith, leading_ge, u-lt, le_of_dvd (first_pos u b (subst (λ (x : ℕ). 0 < x) (sym e) (mul-pos a-pos v-pos))) divides)
 
-  pub rounded-nearest : NearestCount (count a) b (rounded a b)
-  rounded-nearest =
+  pub rounded_nearest : NearestCount (count a) b (rounded a b)
+  rounded_nearest =
       let r = count a % unit a b in
-      between (count a) b (leading a b) (dropped a b) r (compare (r * 2) (unit a b)) b-pos leading-ge (div-add-mod' (count a) (unit a b)) (mod-lt (count a) (mul-pos b-pos (pow_pos (dropped a b)))) (cmp (r * 2) (unit a b)) no_tie
+      between (count a) b (leading a b) (dropped a b) r (compare (r * 2) (unit a b)) b_pos leading_ge (div-add-mod' (count a) (unit a b)) (mod-lt (count a) (mul-pos b_pos (pow_pos (dropped a b)))) (cmp (r * 2) (unit a b)) no_tie
 
   -- u / v is below 2 ^ 53, so nothing overflows
-  dropped-le : dropped a b ≤ 1074
-  dropped-le =
-      let below : a < 2 ^ 53 * b = lt_of_le_of_lt (le_trans (le_of_eq (sym (mul-one a))) (le_trans (mul-le-mul_left a v-pos) (le_of_eq (sym e)))) (mul-lt-mul_of_pos_right u-lt b-pos) in
-      omega (arith, size-le (count a / b) 1127 ((div-lt_iff_lt-mul b-pos).1 (subst (λ (x : ℕ). count a < x) (mul_right_comm (2 ^ 53) b (2 ^ 1074)) (mul-lt-mul_of_pos_right below (pow_pos 1074)))))
+  dropped_le : dropped a b ≤ 1074
+  dropped_le =
+      let below : a < 2 ^ 53 * b = lt_of_le_of_lt (le_trans (le_of_eq (sym (mul-one a))) (le_trans (mul-le-mul_left a v-pos) (le_of_eq (sym e)))) (mul-lt-mul_of_pos_right u-lt b_pos) in
+      omega (arith, size-le (count a / b) 1127 ((div-lt_iff_lt-mul b_pos).1 (subst (λ (x : ℕ). count a < x) (mul_right_comm (2 ^ 53) b (2 ^ 1074)) (mul-lt-mul_of_pos_right below (pow_pos 1074)))))
 
   digits_le : digits a b ≤ 2 ^ 53
   digits_le =
       le_trans (nearest-le (leading a b) (compare (count a % unit a b * 2) (unit a b)))
       (subst (λ (x : ℕ). x < 2 ^ 53) (div-div-eq-div-mul (count a) b (2 ^ dropped a b)) (kept-lt 53 (count a / b)))
 
-  pub rounded-value : (s : Bool) → HasValue (round binary64 s a b) s (rounded a b) (2 ^ 1074)
-  rounded-value s =
+  pub rounded_value : (s : Bool) → HasValue (round binary64 s a b) s (rounded a b) (2 ^ 1074)
+  rounded_value s =
       subst (λ (x : Float). HasValue x s (rounded a b) (2 ^ 1074)) (sym (round_is binary64 s a b))
-      (units_val binary64 s (digits a b) (dropped a b) (lt_of_le_of_lt (mul-le-mul digits_le (pow_mono {j = 1074} dropped-le)) (lit< tt)))
+      (units_val binary64 s (digits a b) (dropped a b) (lt_of_le_of_lt (mul-le-mul digits_le (pow_mono {j = 1074} dropped_le)) (lit< tt)))

@@ -39,11 +39,11 @@ by_1 a n = rw (ne_eqb a.penalty 2 n)
 
 -- what is asked by the penalty
 module _ {k p d : ℕ} {y w c : List Float} {top : Float} {marks : List ℕ} (h : AsksPath k p y top w c d marks) where
-  pub asks-2 : p ≡ 2 → AsksSearch k (ridge_area (length y)) 0 y w c d marks
-  asks-2 e = rw (eq-eqb p 2 e) at h.search
+  pub asks_2 : p ≡ 2 → AsksSearch k (ridge_area (length y)) 0 y w c d marks
+  asks_2 e = rw (eq-eqb p 2 e) at h.search
 
-  pub asks-1 : (p ≡ 2 → ⊥) → AsksSearch k (search_area (length y)) (search_marks (length y)) y w c d marks
-  asks-1 n = rw (ne_eqb p 2 n) at h.search
+  pub asks_1 : (p ≡ 2 → ⊥) → AsksSearch k (search_area (length y)) (search_marks (length y)) y w c d marks
+  asks_1 n = rw (ne_eqb p 2 n) at h.search
 
 -- a path that finds is one that took, where it is the path of the fit
 pub took_done : {I : Type 0} {f : I → Found} {k l : ℕ} {y w₀ w c₀ c d₀ d : List Float} {r : Finding} (a : Asked) (i : I) → Finds f k l y w₀ w c₀ c d₀ d r → path a ≡ some (f i)

@@ -16,7 +16,7 @@ use Rattle.active_set.specs.ActiveSet.{Hold, is_free, held_at, free_to, compress
 use Rattle.polish.specs.Polish.{candidate_at, candidate}
 use Rattle.active_set.specs.Marks.{held_by, Marks}
 use Rattle.polish.specs.Places.{found}
-use Rattle.active_set.proofs.Settling.{held_by}
+use Rattle.active_set.proofs.Settling.{marks_say}
 use Rattle.active_set.proofs.Laws.{free_index, free_ext}
 
 -- a place of it, where q free places come before and the solution stands from b on
@@ -28,9 +28,9 @@ place_is lam h b m i q s₀ s x c l p e =
 
 module _ {h : ℕ → Hold} {n m q : ℕ} {v : List ℕ} (w : Marks h n m v q) where
   -- the places of the solution y, which stands after b places of x, the l places of s from c on
-  pub solution-at : (c l b : ℕ) (s x y : List Float) → c + l ≤ length s → length x ≡ l → b + q ≤ l → q ≤ m → part b q x ≡ y
+  pub solution_at : (c l b : ℕ) (s x y : List Float) → c + l ≤ length s → length x ≡ l → b + q ≤ l → q ≤ m → part b q x ≡ y
       → (j : ℕ) → j < q → at (part (c + b) m (put_back c l s x)) j ≡ at y j
-  solution-at c l b s x y fits e r t is j u =
+  solution_at c l b s x y fits e r t is j u =
       at_part (c + b) m (put_back c l s x) j (c + b + j) (omega arith) refl
       ∙ sym (at_part (c + b) q (put_back c l s x) j (c + b + j) u refl)
       ∙ ap (λ (z : List Float). at z j) (part-put c l s x fits e nan b q r ∙ is)
@@ -40,23 +40,23 @@ module _ {h : ℕ → Hold} {n m q : ℕ} {v : List ℕ} (w : Marks h n m v q) w
   unfolding candidate_at
   place_same lam x y e i l =
       let c = w.count in
-      let f : free_to (held_by n v) i ≡ free_to h i = free_ext (held_by n v) h i (λ j u. held_by w j (omega arith)) in
-      let t : held_by n v i ≡ h i = held_by w i l in
+      let f : free_to (held_by n v) i ≡ free_to h i = free_ext (held_by n v) h i (λ j u. marks_say w j (omega arith)) in
+      let t : held_by n v i ≡ h i = marks_say w i l in
       ap (λ (z : Hold). cond (is_free z) (at x (length (free_to (held_by n v) i))) (held_at lam z)) t
       ∙ ap (λ (u : List ℕ). cond (is_free (h i)) (at x (length u)) (held_at lam (h i))) f
       ∙ cond_cong (is_free (h i)) (at x (length (free_to h i))) (at y (length (free_to h i))) (held_at lam (h i))
       (λ p. e (length (free_to h i)) (omega (arith, free_index h i m l p)))
 
   -- no candidate
-  pub candidate-none : (k : ℕ) (g dy : List Float) (lam : Float) (x : List Float) → false ≡ sound k (compressed k g (free_to h m)) q
+  pub candidate_none : (k : ℕ) (g dy : List Float) (lam : Float) (x : List Float) → false ≡ sound k (compressed k g (free_to h m)) q
       → candidate k g dy lam h m ≡ found false x
   unfolding candidate
-  candidate-none k g dy lam x e = rw (← w.count, ← e)
+  candidate_none k g dy lam x e = rw (← w.count, ← e)
 
   -- the candidate in the m places x, made of the solution, the first q places of y
-  pub candidate-some : (k : ℕ) (g dy : List Float) (lam : Float) (x y : List Float) → true ≡ sound k (compressed k g (free_to h m)) q
+  pub candidate_some : (k : ℕ) (g dy : List Float) (lam : Float) (x y : List Float) → true ≡ sound k (compressed k g (free_to h m)) q
       → x ≡ list m (candidate_at lam (held_by n v) y) → ((j : ℕ) → j < q → at y j ≡ at (solved k g dy lam h m) j) → candidate k g dy lam h m ≡ found true x
   unfolding candidate
-  candidate-some k g dy lam x y e p s =
+  candidate_some k g dy lam x y e p s =
       rw (← w.count, ← e)
       (ap some (sym (p ∙ list_ext m (candidate_at lam (held_by n v) y) (candidate_at lam h (solved k g dy lam h m)) (place_same lam y (solved k g dy lam h m) s))))

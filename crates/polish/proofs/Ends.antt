@@ -13,8 +13,8 @@ use Rattle.float64.proofs.Clash.{impossible}
 use Rattle.float64.specs.Ops.{◌⊖◌}
 use Rattle.vectors.specs.Vec.{at, KeptOf}
 use Rattle.vectors.specs.Parts.{Kept, part}
-use Rattle.vectors.proofs.Laws.{list_ext, kept-none, kept_then}
-use Rattle.vectors.proofs.Parts.{length_part, partOf-range, put_back, part-put}
+use Rattle.vectors.proofs.Laws.{list_ext, kept_none, kept_then}
+use Rattle.vectors.proofs.Parts.{length_part, part_of_range, put_back, part-put}
 use Rattle.differences.specs.Diff.{diff_k, gram_row}
 use Rattle.dual_point.specs.Places.{point}
 use Rattle.dual_point.specs.Lanes.{settle_lane, candidate_trend, candidate_lane, polish_area, search_area}
@@ -29,29 +29,29 @@ use Rattle.vectors.proofs.Parts.{kept_part}
 
 -- dy holds D y in its first places
 module _ (k : ℕ) (y dy : List Float) (is : take (length y - k) dy ≡ diff_k k y) where
-  dy-at : (i : ℕ) → i < length y - k → at dy i ≡ at (diff_k k y) i
-  dy-at i l = sym (get_or-take (length y - k) dy i nan l) ∙ ap (λ (v : List Float). at v i) is
+  dy_at : (i : ℕ) → i < length y - k → at dy i ≡ at (diff_k k y) i
+  dy_at i l = sym (get_or-take (length y - k) dy i nan l) ∙ ap (λ (v : List Float). at v i) is
 
-  right-dy : (g : List Float) (lam : Float) (h : ℕ → Hold) (i : ℕ) → i < length y - k → compressed_rhs_at k g dy lam h (length y - k) i ≡ compressed_rhs_at k g (diff_k k y) lam h (length y - k) i
+  right_dy : (g : List Float) (lam : Float) (h : ℕ → Hold) (i : ℕ) → i < length y - k → compressed_rhs_at k g dy lam h (length y - k) i ≡ compressed_rhs_at k g (diff_k k y) lam h (length y - k) i
   unfolding compressed_rhs_at
-  right-dy g lam h i l = rw (dy-at i l)
+  right_dy g lam h i l = rw (dy_at i l)
 
-  solved-dy : (g : List Float) (lam : Float) (h : ℕ → Hold) → solved k g dy lam h (length y - k) ≡ solved k g (diff_k k y) lam h (length y - k)
+  solved_dy : (g : List Float) (lam : Float) (h : ℕ → Hold) → solved k g dy lam h (length y - k) ≡ solved k g (diff_k k y) lam h (length y - k)
   unfolding solved
-  solved-dy g lam h =
+  solved_dy g lam h =
       let f = free_to h (length y - k) in
       rw (list_ext (length f) (λ r. compressed_rhs_at k g dy lam h (length y - k) (get_or f r 0)) (λ r. compressed_rhs_at k g (diff_k k y) lam h (length y - k) (get_or f r 0))
-      (λ r l. right-dy g lam h (get_or f r 0) (free_lt h (length y - k) r l)))
+      (λ r l. right_dy g lam h (get_or f r 0) (free_lt h (length y - k) r l)))
 
-  candidate-dy : (g : List Float) (lam : Float) (h : ℕ → Hold) → candidate k g dy lam h (length y - k) ≡ candidate k g (diff_k k y) lam h (length y - k)
+  candidate_dy : (g : List Float) (lam : Float) (h : ℕ → Hold) → candidate k g dy lam h (length y - k) ≡ candidate k g (diff_k k y) lam h (length y - k)
   unfolding candidate
-  candidate-dy g lam h = rw (solved-dy g lam h)
+  candidate_dy g lam h = rw (solved_dy g lam h)
 
-  pub polish-is : (lam : Float) (w₀ : List Float) {o : Option (List Float)}
+  pub polish_is : (lam : Float) (w₀ : List Float) {o : Option (List Float)}
       → candidate k (gram_row k) dy lam (hold_at lam (point (length y) (length y - k) w₀)) (length y - k) ≡ o → polish_from k y lam w₀ ≡ o
   unfolding polish
-  polish-is lam w₀ e =
-      rw (length_part (length y) (length y - k) w₀) (sym (candidate-dy (gram_row k) lam (hold_at lam (point (length y) (length y - k) w₀))) ∙ e)
+  polish_is lam w₀ e =
+      rw (length_part (length y) (length y - k) w₀) (sym (candidate_dy (gram_row k) lam (hold_at lam (point (length y) (length y - k) w₀))) ∙ e)
 
 -- the free places are places
 pub freed : {h : ℕ → Hold} {n q : ℕ} {v : List ℕ} (k known : ℕ) → Marks h n (n - k) v q → k ≤ 2 → k ≤ n → 2 * n ≤ length v → n - k ≤ known → Freed k n v known q
@@ -71,13 +71,13 @@ only u = cc
 
 -- w₁ is the run with the candidate, v the marks
 module _ (k : ℕ) (y : List Float) (lam : Float) {w₀ w₁ : List Float} (d₀ : List Float) {v₀ v : List ℕ} (marks : KeptOf 0 0 (length y + (length y - k)) v₀ v) (kept : Kept (settle_lane (length y)) (polish_area (length y)) w₀ w₁) where
-  pub ended-none : (r : Candidate) → r.there ≡ false → polish_from k y lam w₀ ≡ none → Polished k y lam w₀ w₁ d₀ d₀ v₀ v r
-  ended-none r e p = record {
+  pub ended_none : (r : Candidate) → r.there ≡ false → polish_from k y lam w₀ ≡ none → Polished k y lam w₀ w₁ d₀ d₀ v₀ v r
+  ended_none r e p = record {
     there = e ∙ rw p;
     rated = λ z s. impossible cc;
     kept = kept;
     none_there = λ _. refl;
-    dual = kept-none 0 (length y - k) d₀;
+    dual = kept_none 0 (length y - k) d₀;
     marks = marks_all (length y) k marks;
   }
 
@@ -92,7 +92,7 @@ module _ (k : ℕ) (y : List Float) (lam : Float) {w₀ w₁ : List Float} (d₀
         let z = kept.size in
         let e : candidate_trend n + l - candidate_trend n ≡ l = omega arith in
         let t : candidate_trend n + n ≡ candidate_lane n = omega arith in
-        rw (e, t) at (partOf-range nan n (n - k) (candidate_trend n) (candidate_trend n + l) w₁ (omega arith) (omega arith) (omega arith))
+        rw (e, t) at (part_of_range nan n (n - k) (candidate_trend n) (candidate_trend n + l) w₁ (omega arith) (omega arith) (omega arith))
 
     pub ended_some : (r : Candidate) → r.there ≡ true → r.gap ≡ primal ⊖ dual → r.primal ≡ primal → Polished k y lam w₀ (put_back (candidate_trend n) l w₁ x) d₀ d v₀ v r
     ended_some r e g h =

@@ -45,9 +45,9 @@ put_kept n s₀ s u w e fits =
 
 module _ {a : Asked} {w₀ w c₀ c₁ d₀ d : List Float} {r : Path} {marks₀ marks : List ℕ} (t : Took (path a) a.order (path_area a.penalty (length a.y)) a.y w₀ w c₀ c₁ d₀ d r) (m : KeptOf 0 0 (path_marks a.penalty (length a.y)) marks₀ marks) where
   -- a path that was lost
-  pub fitted-lost : (x : List Float) (i : List ℕ) → r ≡ path.Lost → Fitted a Lost (outputs x c₀ i d₀) (outputs x c₁ i d) w₀ w marks₀ marks
+  pub fitted_lost : (x : List Float) (i : List ℕ) → r ≡ path.Lost → Fitted a Lost (outputs x c₀ i d₀) (outputs x c₁ i d) w₀ w marks₀ marks
   unfolding said tallied outcome after
-  fitted-lost x i e =
+  fitted_lost x i e =
       let p : none ≡ path a = sym (ap (said a.order a.y w d) e) ∙ t.says in
       let l = t.lost (sym p) in
       record {
@@ -58,11 +58,11 @@ module _ {a : Asked} {w₀ w c₀ c₁ d₀ d : List Float} {r : Path} {marks₀
       }
 
   -- the trend of what was found was written out, over whatever the path left in cycle; there is room in cycle and in dual
-  pub fitted-done : length a.y ≤ length c₀ → places a ≤ length d₀ → (f : Finding) (count : ℕ) (t₀ x c : List Float) (i₀ i : List ℕ) → r ≡ path.Done f
+  pub fitted_done : length a.y ≤ length c₀ → places a ≤ length d₀ → (f : Finding) (count : ℕ) (t₀ x c : List Float) (i₀ i : List ℕ) → r ≡ path.Done f
       → WroteOut a.order a.y (trend_of a.y w f.trend) count (decomposed t₀ c₁ i₀) (decomposed x c i)
       → Fitted a (Done (record { knots = count; numbers = f.numbers })) (outputs t₀ c₀ i₀ d₀) (outputs x c i d) w₀ w marks₀ marks
   unfolding said tallied outcome after written
-  fitted-done long fits f count t₀ x c i₀ i e o =
+  fitted_done long fits f count t₀ x c i₀ i e o =
       let p : some (found_of a.order a.y w d f) ≡ path a = sym (ap (said a.order a.y w d) e) ∙ t.says in
       let cycle-is = o.cycle ∙ put_kept (length a.y) c₀ c₁ (minus a.y (trend_of a.y w f.trend)) t.changed.cycle (length-minus a.y (trend_of a.y w f.trend)) long in
       let dual_is = start_put (places a) d₀ (part 0 (places a) d) d refl t.changed.dual fits in

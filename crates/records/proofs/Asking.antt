@@ -50,9 +50,9 @@ module _ {st : Settings} where
   first (correction p x ∷ es) e = impossible cc
 
 module _ (st : Settings) (t : List Entry) where
-  ask-settings : (count_settings (settings st ∷ t) ≡ 1 → ⊥) → ask_entries (some (settings st ∷ t)) ≡ unread 12
+  ask_settings : (count_settings (settings st ∷ t) ≡ 1 → ⊥) → ask_entries (some (settings st ∷ t)) ≡ unread 12
   unfolding ask_entries count_settings
-  ask-settings n = simp (ne_eqb (count_settings t) 0 (λ (z : count_settings t ≡ 0). n (ap suc z)))
+  ask_settings n = simp (ne_eqb (count_settings t) 0 (λ (z : count_settings t ≡ 0). n (ap suc z)))
 
   module _ (c : count_settings (settings st ∷ t) ≡ 1) where
     ask-unnamed : named (settings st ∷ t) ≡ false → ask_entries (some (settings st ∷ t)) ≡ unread 17
@@ -72,9 +72,9 @@ module _ (s : List ℕ) (h : length s ≤ 4096) where
   unfolding read_week
   asked = simp (le-ltb _ _ h)
 
-  pub week-broken : entries_in s ≡ none → read_week s ≡ unread 11
+  pub week_broken : entries_in s ≡ none → read_week s ≡ unread 11
   unfolding ask_entries
-  week-broken e = asked ∙ ap ask_entries e
+  week_broken e = asked ∙ ap ask_entries e
 
   module _ {es : List Entry} (e : entries_in s ≡ some es) where
     pub week-other : Other ≡ opening_of es → read_week s ≡ unread 12
@@ -82,7 +82,7 @@ module _ (s : List ℕ) (h : length s ≤ 4096) where
 
     module _ {st : Settings} (f : Set st ≡ opening_of es) where
       pub week-settings : (count_settings es ≡ 1 → ⊥) → read_week s ≡ unread 12
-      week-settings c = let g = first es f in asked ∙ ap ask_entries (e ∙ ap some g.1) ∙ ask-settings st g.0 (λ z. c (ap count_settings g.1 ∙ z))
+      week-settings c = let g = first es f in asked ∙ ap ask_entries (e ∙ ap some g.1) ∙ ask_settings st g.0 (λ z. c (ap count_settings g.1 ∙ z))
 
       module _ (c : count_settings es ≡ 1) where
         pub week-unnamed : named es ≡ false → read_week s ≡ unread 17

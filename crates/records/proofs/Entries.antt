@@ -57,8 +57,8 @@ module _ (k : ℕ) (b : List ℕ) where
       (record { yes = λ h. absurd (clash h refl); no = λ h. refl })))))
 
   -- what a record says, by its kind
-  pub entry-says : (e : Entry) → entry_of (rec k b) ≡ some e → Says k (length b) b e
-  entry-says e h = go (known k (length b)) refl
+  pub entry_says : (e : Entry) → entry_of (rec k b) ≡ some e → Says k (length b) b e
+  entry_says e h = go (known k (length b)) refl
     where
       go : (v : Bool) → known k (length b) ≡ v → Says k (length b) b e
       go true g =
@@ -79,13 +79,13 @@ said_first r (some rs) = refl
 
 -- what stands at a place
 module _ (s : List ℕ) (at : ℕ) where
-  pub stands-end : End ≡ head_at s at → entries_in (drop at s) ≡ some []
+  pub stands_end : End ≡ head_at s at → entries_in (drop at s) ≡ some []
   unfolding entries bind
-  stands-end e = ap (λ (o : Option (List Rec)). bind o entries) (subst (Heads s at) (sym e) (heads s at))
+  stands_end e = ap (λ (o : Option (List Rec)). bind o entries) (subst (Heads s at) (sym e) (heads s at))
 
-  pub stands-bad : Bad ≡ head_at s at → entries_in (drop at s) ≡ none
+  pub stands_bad : Bad ≡ head_at s at → entries_in (drop at s) ≡ none
   unfolding bind
-  stands-bad e = ap (λ (o : Option (List Rec)). bind o entries) (subst (Heads s at) (sym e) (heads s at))
+  stands_bad e = ap (λ (o : Option (List Rec)). bind o entries) (subst (Heads s at) (sym e) (heads s at))
 
   pub opens : {k b n : ℕ} → Record k b n ≡ head_at s at → Opens s at k b n
   opens e = subst (Heads s at) (sym e) (heads s at)
@@ -114,8 +114,8 @@ module _ {s : List ℕ} {at k b n : ℕ} (o : Opens s at k b n) where
         rest = said e.is;
       }
 
-  pub found-unknown : false ≡ known k (n - b) → entries_in (drop at s) ≡ none
-  found-unknown h = said (tells.no (sym h))
+  pub found_unknown : false ≡ known k (n - b) → entries_in (drop at s) ≡ none
+  found_unknown h = said (tells.no (sym h))
 
 -- by kind: how many settings an entry is
 pub says_count : {k n : ℕ} {b : List ℕ} {e : Entry} → Says k n b e → count_settings (e ∷ []) ≡ bool_byte (eqb k 3)
@@ -166,11 +166,11 @@ opens_with e none es h = impossible cc
 opens_with e (some t) es h = same_opening e t ∙ ap opening_of (let g : e ∷ t ≡ es = cc in g)
 
 module _ (s : List ℕ) (es : List Entry) (h : entries_in s ≡ some es) where
-  pub first-end : entries_in (drop 0 s) ≡ some [] → Other ≡ opening_of es
-  first-end e = ap opening_of (let g : [] ≡ es = cc in g)
+  pub first_end : entries_in (drop 0 s) ≡ some [] → Other ≡ opening_of es
+  first_end e = ap opening_of (let g : [] ≡ es = cc in g)
 
-  pub first-bad : entries_in (drop 0 s) ≡ none → Other ≡ opening_of es
-  first-bad e = impossible cc
+  pub first_bad : entries_in (drop 0 s) ≡ none → Other ≡ opening_of es
+  first_bad e = impossible cc
 
   module _ {k b n : ℕ} (f : Found s 0 k b n) where
     first-is : opening_of (f.entry ∷ []) ≡ opening_of es

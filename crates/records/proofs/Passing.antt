@@ -33,11 +33,11 @@ pub passed_none : (s : List ℕ) → Passed s 0 []
 passed_none s = record { rest = onto_nil (entries_in s) }
 
 module _ {s : List ℕ} {at : ℕ} {P : List Entry} (p : Passed s at P) where
-  pub passed-end : entries_in (drop at s) ≡ some [] → entries_in s ≡ some P
-  passed-end e = p.rest ∙ ap (onto P) e ∙ ap some (append-nil P)
+  pub passed_end : entries_in (drop at s) ≡ some [] → entries_in s ≡ some P
+  passed_end e = p.rest ∙ ap (onto P) e ∙ ap some (append-nil P)
 
-  pub passed-bad : entries_in (drop at s) ≡ none → entries_in s ≡ none
-  passed-bad e = p.rest ∙ ap (onto P) e
+  pub passed_bad : entries_in (drop at s) ≡ none → entries_in s ≡ none
+  passed_bad e = p.rest ∙ ap (onto P) e
 
   pub passed_more : {k b n : ℕ} (f : Found s at k b n) → Passed s n (P ++ (f.entry ∷ []))
   passed_more {k} {b} {n} f = record { rest = p.rest ∙ ap (onto P) f.rest ∙ onto_more P f.entry (entries_in (drop n s)) }

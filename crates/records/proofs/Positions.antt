@@ -16,7 +16,7 @@ use Rattle.overrun.specs.Overrun.{frames_in, overrun}
 use Rattle.records.specs.Entries.{Slot, silent, sounding, Entry, milliseconds_in, both, entry_of, entries, hours_of}
 use Rattle.records.specs.Positions.{positions_from, positions_of, HasPosition, Positions, Somewhere, Hour, in_milliseconds, in_silence, in_frames, slots_of, count_kind, sounding_among, hours_among, PositionsInFile}
 use Rattle.records.specs.Inner.{Says, hour, quiet, setup, repair, framed}
-use Rattle.records.proofs.Entries.{entry-says}
+use Rattle.records.proofs.Entries.{entry_says}
 
 -- one position for each sounding hour
 each_one : (p : ℕ) (ws : List Slot) → length (positions_from p ws) ≡ length (hours_of ws)
@@ -124,7 +124,7 @@ unfolding entries
 all_say [] es h = rw (let f : es ≡ [] = cc in f) end
 all_say (rec k b ∷ rs) es h =
     let w = parted (entry_of (rec k b)) (entries rs) es h in
-    rw w.all (next (entry-says k b w.first w.one) (all_say rs w.rest w.more))
+    rw w.all (next (entry_says k b w.first w.one) (all_say rs w.rest w.more))
 
 -- some record, by what it also has, and after one record more
 pub weaker : {k : ℕ} {R S : List Rec → List ℕ → Type 0} {rs : List Rec} → ((P : List Rec) (b : List ℕ) → R P b → S P b) → Somewhere k R rs → Somewhere k S rs

@@ -11,7 +11,7 @@ use lib.Ieee.{Float, nan}
 use borrow.Author.Tests.{eq-eqb, ne_eqb}
 use Rattle.float64.specs.Ops.{◌⊗◌}
 use Rattle.vectors.specs.Vec.{at}
-use Rattle.vectors.proofs.Laws.{kept-none}
+use Rattle.vectors.proofs.Laws.{kept_none}
 use Rattle.banded.specs.Rows.{Matrix, placed}
 use Rattle.banded.specs.Run.{flat}
 use Rattle.banded.proofs.Laws.{above, placed_at}
@@ -24,7 +24,7 @@ use Rattle.ridge.specs.Ridge.{identity_at, ridge}
 -- ---- one more place repeated
 
 pub repeat_none : (w b : ℕ) (s : List Float) → Repeated w b 0 s s
-repeat_none w b s = record { kept = kept-none b 0 s; same = λ q h g. absurd (omega arith) }
+repeat_none w b s = record { kept = kept_none b 0 s; same = λ q h g. absurd (omega arith) }
 
 pub repeat-more : {w b n : ℕ} {s₀ s : List Float} → Repeated w b n s₀ s → 1 ≤ w → w ≤ b → b + n < length s → Repeated w b (n + 1) s₀ (set s (b + n) (at s (b + n - w)))
 repeat-more {w} {b} {n} {s₀} {s} r h g fits =
@@ -63,8 +63,8 @@ module _ {k r e n : ℕ} {a : Matrix} {v s s' : List Float} (w : Laid k r a v s)
       (λ (z : 0 < r - suc i). first (suc i) j (omega arith) g)
       (eq-zero-or-pos (r - suc i))
 
-  pub laid-repeat : Laid k e a v s'
-  laid-repeat = record {
+  pub laid_repeat : Laid k e a v s'
+  laid_repeat = record {
     kept = record {
       size = h.kept.size ∙ w.kept.size;
       below = λ q l. absurd (omega arith);

@@ -17,7 +17,7 @@ use Rattle.search.specs.Search.{Problem, Point, Ended, gap, start_at, enough, im
 use Rattle.search.specs.Bounds.{units, Bounded}
 use Rattle.search.specs.Reasons.{at_limit}
 use Rattle.search.specs.Demand3.{BoundedEnd, retold, SearchDemand3, clear}
-use Rattle.search.proofs.Trace.{Trace, closes, spends, stalls, loses, gains, stays, trace, traced, steps-grow, steps-within, first-stays, idle}
+use Rattle.search.proofs.Trace.{Trace, closes, spends, stalls, loses, gains, stays, trace, traced, steps_grow, steps_within, first_stays, idle}
 use Rattle.search.proofs.Falls.{Falls, here, lower, finite_of, falls_whole, few_improvements}
 use Rattle.float64.proofs.Clash.{impossible}
 use Rattle.search.proofs.Clear.{goes_on}
@@ -64,28 +64,28 @@ module _ {S : Type 0} (L : Problem S) (tol : Float) (tol-pos : T (positive tol))
   improvements : (max_iter : ℕ) (s : S) → Falls (searched L tol max_iter s).first (searched L tol max_iter s).improvements (searched L tol max_iter s).best
   improvements max_iter s =
       let t = trace L tol max_iter (start_at L s) in
-      subst (λ (a : Float). Falls a (searched L tol max_iter s).improvements (searched L tol max_iter s).best) (sym (first-stays t))
+      subst (λ (a : Float). Falls a (searched L tol max_iter s).improvements (searched L tol max_iter s).best) (sym (first_stays t))
       (falls t (inr refl) (here (sub-fits binary64 (L.primal s) (L.dual s))))
 
-  within-limit : (max_iter : ℕ) (s : S) → (searched L tol max_iter s).n_iter ≤ max_iter
-  within-limit max_iter s = let h = steps-within (trace L tol max_iter (start_at L s)) in omega arith
+  within_limit : (max_iter : ℕ) (s : S) → (searched L tol max_iter s).n_iter ≤ max_iter
+  within_limit max_iter s = let h = steps_within (trace L tol max_iter (start_at L s)) in omega arith
 
-  within-ten : (max_iter : ℕ) (s : S) → (searched L tol max_iter s).n_iter ≤ 10 * (searched L tol max_iter s).improvements + 10
-  within-ten max_iter s = idle (trace L tol max_iter (start_at L s)) zero-le zero-le
+  within_ten : (max_iter : ℕ) (s : S) → (searched L tol max_iter s).n_iter ≤ 10 * (searched L tol max_iter s).improvements + 10
+  within_ten max_iter s = idle (trace L tol max_iter (start_at L s)) zero-le zero-le
 
-  gains-few : (max_iter : ℕ) (s : S) → (searched L tol max_iter s).improvements ≤ 144763
-  gains-few max_iter s = few_improvements (improvements max_iter s)
+  gains_few : (max_iter : ℕ) (s : S) → (searched L tol max_iter s).improvements ≤ 144763
+  gains_few max_iter s = few_improvements (improvements max_iter s)
 
   pub bounded : (max_iter : ℕ) (s : S) → BoundedEnd max_iter (searched L tol max_iter s)
   bounded max_iter s = record {
-    limit = within-limit max_iter s;
-    ten = within-ten max_iter s;
-    few = gains-few max_iter s;
+    limit = within_limit max_iter s;
+    ten = within_ten max_iter s;
+    few = gains_few max_iter s;
     shrunk = λ p q. falls_whole (improvements max_iter s) (finite_of (searched L tol max_iter s).first p) (finite_of (searched L tol max_iter s).best q);
   }
 
-  steps-few : (max_iter : ℕ) (s : S) → (searched L tol max_iter s).n_iter ≤ 1447640
-  steps-few max_iter s = let h = within-ten max_iter s in let g = gains-few max_iter s in omega arith
+  steps_few : (max_iter : ℕ) (s : S) → (searched L tol max_iter s).n_iter ≤ 1447640
+  steps_few max_iter s = let h = within_ten max_iter s in let g = gains_few max_iter s in omega arith
 
 -- ---- the same search under another limit
 
@@ -125,9 +125,9 @@ module _ {S : Type 0} {L : Problem S} {tol : Float} where
   again zero j (loses r p s n m) h g = absurd (omega arith)
   again (suc k) zero (loses r p s n m) h g = loses k p s n m
   again (suc k) (suc j) (loses r p s n m) h g = loses k p s n m
-  again zero j (gains t s n m b tr) h g = let z = steps-grow tr in absurd (omega arith)
+  again zero j (gains t s n m b tr) h g = let z = steps_grow tr in absurd (omega arith)
   again (suc k) j (gains t s n m b tr) h g = gains t s n m b (again k j tr h (omega arith))
-  again zero j (stays t s n m b tr) h g = let z = steps-grow tr in absurd (omega arith)
+  again zero j (stays t s n m b tr) h g = let z = steps_grow tr in absurd (omega arith)
   again (suc k) j (stays t s n m b tr) h g = stays t s n m b (again k j tr h (omega arith))
 
 module _ {S : Type 0} (L : Problem S) (tol : Float) (s : S) where
@@ -141,8 +141,8 @@ module _ {S : Type 0} (L : Problem S) (tol : Float) (s : S) where
       → searched L tol (searched L tol max_iter s).n_iter s ≡ retold (searched L tol max_iter s) (at_limit (searched L tol max_iter s).reason)
   at_limit_lem max_iter h = traced L tol (again (searched L tol max_iter s).n_iter 0 (trace L tol max_iter (start_at L s)) h (omega arith))
 
-  pub never-closed : (max_iter : ℕ) → (searched L tol max_iter s).reason ≡ ClosedPath → ⊥
-  never-closed max_iter = not-closed (trace L tol max_iter (start_at L s))
+  pub never_closed : (max_iter : ℕ) → (searched L tol max_iter s).reason ≡ ClosedPath → ⊥
+  never_closed max_iter = not-closed (trace L tol max_iter (start_at L s))
 
 -- ---- the whole
 pub demand3 : {S : Type 0} (L : Problem S) (tol : Float) → T (positive tol) → ((s : S) → T (clear (L.primal s))) → (s : S) → SearchDemand3 L tol s
@@ -152,7 +152,7 @@ demand3 L tol p q s = record {
   alike = alike L tol s;
   at_limit = at_limit_lem L tol s;
   settled = λ max_iter other h g.
-      let k = steps-few L tol p q max_iter s in
+      let k = steps_few L tol p q max_iter s in
       alike L tol s max_iter other (λ e. let z = spent L tol s max_iter e in absurd (omega arith)) (omega arith);
 }
 

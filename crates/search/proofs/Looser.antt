@@ -17,7 +17,7 @@ use Rattle.float64.specs.Ops.{c0}
 use Rattle.search.specs.Search.{Problem, Point, Ended, start_at, enough, advance, run}
 use Rattle.search.specs.Demand3.{clear}
 use Rattle.search.specs.Looser.{finite_above0, not_below0, LooserSearch}
-use Rattle.search.proofs.Trace.{Trace, closes, spends, stalls, loses, gains, stays, trace, steps-grow, run_small, run-spent, run-stalled, run-lost, run_moved}
+use Rattle.search.proofs.Trace.{Trace, closes, spends, stalls, loses, gains, stays, trace, steps_grow, run_small, run_spent, run_stalled, run_lost, run_moved}
 use Rattle.search.proofs.Clear.{at_least0, infinite_product, scaled, awake}
 use Rattle.search.proofs.Shrink.{lt-or_eq}
 
@@ -86,15 +86,15 @@ enough_grows f a b (fin false (suc n) d) g p q h t u =
 module _ {S : Type 0} (L : Problem S) (tol looser : Float) (grows : (p : Point S) → enough L tol p ≡ true → enough L looser p ≡ true) where
   -- b says whether the gap is small enough for the looser one: then it ends at once
   tested : {r : ℕ} {p : Point S} {e : Ended S} (b : Bool) → enough L looser p ≡ b → Trace L tol r p e → (enough L looser p ≡ false → (run L looser r p).n_iter ≤ e.n_iter) → (run L looser r p).n_iter ≤ e.n_iter
-  tested {r} {p} true h w k = rw (run_small L looser r p h) (steps-grow w)
+  tested {r} {p} true h w k = rw (run_small L looser r p h) (steps_grow w)
   tested false h w k = k h
 
   -- else it goes as the other does
   follows : {r : ℕ} {p : Point S} {e : Ended S} → Trace L tol r p e → enough L looser p ≡ false → (run L looser r p).n_iter ≤ e.n_iter
   follows (closes r p s) h = absurd (true≢false (sym (grows p s) ∙ h))
-  follows (spends p s) h = le_of_eq (ap (λ (e : Ended S). e.n_iter) (run-spent L looser p h))
-  follows (stalls r p s n) h = le_of_eq (ap (λ (e : Ended S). e.n_iter) (run-stalled L looser r p h n))
-  follows (loses r p s n m) h = le_of_eq (ap (λ (e : Ended S). e.n_iter) (run-lost L looser r p h n m))
+  follows (spends p s) h = le_of_eq (ap (λ (e : Ended S). e.n_iter) (run_spent L looser p h))
+  follows (stalls r p s n) h = le_of_eq (ap (λ (e : Ended S). e.n_iter) (run_stalled L looser r p h n))
+  follows (loses r p s n m) h = le_of_eq (ap (λ (e : Ended S). e.n_iter) (run_lost L looser r p h n m))
   follows (gains {r = r} {p = p} t s n m b w) h = rw (run_moved L looser r p t true h n m b) (tested (enough L looser (advance L p t true)) refl w (λ g. follows w g))
   follows (stays {r = r} {p = p} t s n m b w) h = rw (run_moved L looser r p t false h n m b) (tested (enough L looser (advance L p t false)) refl w (λ g. follows w g))
 

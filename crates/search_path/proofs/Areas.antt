@@ -21,9 +21,9 @@ module _ (a : Asked) (w x d : List Float) (r : Finding) (fits : preparation (len
   abbrev after : List Float
   after = put_back (preparation (length a.y)) (search_area (length a.y)) w x
 
-  won-trend : trend_of a.y after r.trend ≡ (path_end a (search_of a)).trend
+  won_trend : trend_of a.y after r.trend ≡ (path_end a (search_of a)).trend
   unfolding trend_of
-  won-trend =
+  won_trend =
       let n = length a.y in
       let p = preparation n in
       let put-at = part-put p (search_area n) w x fits size nan in
@@ -32,6 +32,6 @@ module _ (a : Asked) (w x d : List Float) (r : Finding) (fits : preparation (len
       ∙ (λ i. cond h.second (put-at (candidate_trend n) n (omega arith) i) (first i))
       ∙ h.trend
 
-  pub search-says : found_of a.order a.y after d r ≡ path_end a (search_of a)
+  pub search_says : found_of a.order a.y after d r ≡ path_end a (search_of a)
   unfolding path_end
-  search-says = λ i. record { trend = won-trend i; dual = h.dual i; numbers = h.numbers i }
+  search_says = λ i. record { trend = won_trend i; dual = h.dual i; numbers = h.numbers i }

@@ -9,7 +9,7 @@ use lib.Ieee.{Float, nan, lt}
 use Rattle.float64.specs.Helpers.{is_finite}
 use Rattle.vectors.specs.Vec.{put, KeptOf}
 use Rattle.vectors.specs.Parts.{part}
-use Rattle.vectors.proofs.Laws.{kept-none}
+use Rattle.vectors.proofs.Laws.{kept_none}
 use Rattle.vectors.proofs.Texts.{put_start}
 use Rattle.certificate.specs.Certificate.{Certificate, gap_of}
 use Rattle.dual_point.specs.Lanes.{candidate_trend}
@@ -32,9 +32,9 @@ pub record Kept (a : Asked) (c : Certificate) (q : Candidate) (s d : List Float)
 
 module _ (a : Asked) (c : Certificate) (q : Candidate) (s d : List Float) (gap primal : Float) (x y : List Float)
     (eg : gap ≡ gap_of c) (ep : primal ≡ c.primal) (et : x ≡ c.trend) (ez : y ≡ c.zc) where
-  pub kept_of : (o : Option (List Float)) → q.there ≡ is_some o → ((z : List Float) → o ≡ some z → Rated a.order a.y a.lam s d z q) → Kept a c q s d gap primal x y o
+  pub kept_of_lem : (o : Option (List Float)) → q.there ≡ is_some o → ((z : List Float) → o ≡ some z → Rated a.order a.y a.lam s d z q) → Kept a c q s d gap primal x y o
   unfolding polished
-  kept_of none e h =
+  kept_of_lem none e h =
       let s' : wins q gap ≡ false = ap (λ (b : Bool). b && (is_finite q.gap && lt q.gap gap)) e in
       record {
         gap_is = ap (λ (b : Bool). cond b q.gap gap) s' ∙ eg;
@@ -42,7 +42,7 @@ module _ (a : Asked) (c : Certificate) (q : Candidate) (s d : List Float) (gap p
         trend_is = ap (λ (b : Bool). cond b (part (candidate_trend (length a.y)) (length a.y) s) x) s' ∙ et;
         dual_is = ap (λ (b : Bool). cond b (part 0 (places a) d) y) s' ∙ ez;
       }
-  kept_of (some z) e h =
+  kept_of_lem (some z) e h =
       let p = certificate_at a z in
       let k = h z refl in
       let s' : wins q gap ≡ replaces p c = rw (e, k.gap, eg) in
@@ -55,5 +55,5 @@ module _ (a : Asked) (c : Certificate) (q : Candidate) (s d : List Float) (gap p
 
 -- t at the start of d again, unless the candidate won
 pub kept_dual : (b : Bool) (m : ℕ) (t d₀ d : List Float) → d ≡ cond b d₀ (put d₀ 0 t) → length t ≡ m → m ≤ length d₀ → (part 0 m d ≡ cond b (part 0 m d₀) t) × KeptOf nan 0 m d₀ d
-kept_dual true m t d₀ d e l h = (ap (part 0 m) e, subst (KeptOf nan 0 m d₀) (sym e) (kept-none 0 m d₀))
+kept_dual true m t d₀ d e l h = (ap (part 0 m) e, subst (KeptOf nan 0 m d₀) (sym e) (kept_none 0 m d₀))
 kept_dual false m t d₀ d e l h = put_start m d₀ t d e l h

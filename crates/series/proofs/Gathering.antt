@@ -20,7 +20,7 @@ use Rattle.records.specs.Corrections.{extended, week_of, names, named_from, name
 use Rattle.records.specs.Rates.{rates, rated}
 use Rattle.records.specs.Week.{entries_in}
 use Rattle.records.specs.Inner.{Says, hour, quiet, setup, repair, framed, Found}
-use Rattle.records.proofs.Passing.{Passed, passed_none, passed-end, passed-bad, passed_more}
+use Rattle.records.proofs.Passing.{Passed, passed_none, passed_end, passed_bad, passed_more}
 use Rattle.series.specs.Inner.{slots_at, milliseconds_at, said_at, slots_once, names_at, ReadSlots}
 
 -- question 17 over entries and one more
@@ -41,17 +41,17 @@ zero_number = refl
 
 -- an entry and the record that says it make the same of the slots
 module _ (s : List ℕ) (b : ℕ) where
-  milliseconds-in : (m a : ℕ) → a + 4 ≤ m → of_int binary64 (signed32 (number_at a 4 (take m (drop b s)))) ≡ milliseconds_at s (b + a)
-  milliseconds-in m a h = ap (λ (n : ℕ). of_int binary64 (signed32 n)) (number_of_part s b m a 4 h)
+  milliseconds_in_lem : (m a : ℕ) → a + 4 ≤ m → of_int binary64 (signed32 (number_at a 4 (take m (drop b s)))) ≡ milliseconds_at s (b + a)
+  milliseconds_in_lem m a h = ap (λ (n : ℕ). of_int binary64 (signed32 n)) (number_of_part s b m a 4 h)
 
   -- what a record says is a number, but for a rate that question 22 refuses
-  said-number : {k m : ℕ} {e : Entry} → Says k m (take m (drop b s)) e → eq (said_at s k b) (said_at s k b) ≡ rates e
+  said_number : {k m : ℕ} {e : Entry} → Says k m (take m (drop b s)) e → eq (said_at s k b) (said_at s k b) ≡ rates e
   unfolding rates
-  said-number (hour k m e) = rw (e, k) (whole_number _)
-  said-number (quiet k m e) = rw (e, k) zero_number
-  said-number (setup k m e) = rw (e, k) zero_number
-  said-number (repair k m e) = rw (e, k) (whole_number _)
-  said-number (framed k m e) = rw (e, k, m) (overrun_number _)
+  said_number (hour k m e) = rw (e, k) (whole_number _)
+  said_number (quiet k m e) = rw (e, k) zero_number
+  said_number (setup k m e) = rw (e, k) zero_number
+  said_number (repair k m e) = rw (e, k) (whole_number _)
+  said_number (framed k m e) = rw (e, k, m) (overrun_number _)
 
   module _ {ws W₀ W : List Slot} {n : ℕ} (w : Wrote W₀ 0 ws W n) where
     says-names : {k m : ℕ} {e : Entry} → Says k m (take m (drop b s)) e → names ws e ≡ names_at s k b n
@@ -64,10 +64,10 @@ module _ (s : List ℕ) (b : ℕ) where
 
     says_slots : {k m : ℕ} {e : Entry} → n < length W → Says k m (take m (drop b s)) e → Wrote W₀ 0 (extended ws e) (slots_once s k b (said_at s k b) n W) (n + slots_at k)
     unfolding extended
-    says_slots {k} {m} h (hour kind size e) = rw (e, kind, milliseconds-in m 0 (omega (arith, size)), add-zero b) (wrote_then w (wrote_one W n _ h))
+    says_slots {k} {m} h (hour kind size e) = rw (e, kind, milliseconds_in_lem m 0 (omega (arith, size)), add-zero b) (wrote_then w (wrote_one W n _ h))
     says_slots h (quiet kind size e) = rw (e, kind) (wrote_then w (wrote_one W n silent h))
     says_slots h (setup kind size e) = rw (e, kind, add-zero n) w
-    says_slots {k} {m} h (repair kind size e) = rw (e, kind, milliseconds-in m 2 (omega (arith, size)), number_of_part s b m 0 2 (omega (arith, size)), add-zero b, add-zero n) (wrote_set _ _ w)
+    says_slots {k} {m} h (repair kind size e) = rw (e, kind, milliseconds_in_lem m 2 (omega (arith, size)), number_of_part s b m 0 2 (omega (arith, size)), add-zero b, add-zero n) (wrote_set _ _ w)
     says_slots h (framed kind size e) = rw (e, kind, size) (wrote_then w (wrote_one W n _ h))
 
 -- the week passed so far stands in the first of the slots W, which were W₀
@@ -85,28 +85,28 @@ unfolding named_from rated
 slotted_none s W = record { done = []; passed = passed_none s; week = wrote_none W 0 (omega arith); names = refl; rates = refl; inside = omega arith; few = omega arith }
 
 module _ {s : List ℕ} {at : ℕ} {W₀ W : List Slot} {n : ℕ} {all counts : Bool} (w : Slotted s at W₀ W n all counts) where
-  pub slotted-more : {k b next r : ℕ} {U : List Slot} {x : Float} {one : Bool} → Found s at k b next → n < length W → x ≡ said_at s k b → U ≡ slots_once s k b x n W → one ≡ names_at s k b n → (r ≡ slots_at k) × (r ≤ 1)
+  pub slotted_more : {k b next r : ℕ} {U : List Slot} {x : Float} {one : Bool} → Found s at k b next → n < length W → x ≡ said_at s k b → U ≡ slots_once s k b x n W → one ≡ names_at s k b n → (r ≡ slots_at k) × (r ≤ 1)
       → Slotted s next W₀ U (n + r) (all && one) (counts && eq x x)
-  slotted-more {k} {b} {next} {r} {U} {x} {one} f h g v a e =
+  slotted_more {k} {b} {next} {r} {U} {x} {one} f h g v a e =
       let last = f.entry ∷ [] in
       record {
         done = w.done ++ last;
         passed = passed_more w.passed f;
         week = rw (foldl-append extended [] w.done last, v, g, e.0) (says_slots s b w.week h f.says);
         names = ap₂ (λ (x y : Bool). x && y) w.names (a ∙ sym (says-names s b w.week f.says)) ∙ sym (named-append [] w.done f.entry);
-        rates = ap₂ (λ (y z : Bool). y && z) w.rates (ap (λ (y : Float). eq y y) g ∙ said-number s b f.says) ∙ sym (rated-append w.done f.entry);
+        rates = ap₂ (λ (y z : Bool). y && z) w.rates (ap (λ (y : Float). eq y y) g ∙ said_number s b f.says) ∙ sym (rated-append w.done f.entry);
         inside = f.inside;
         few = omega (arith, w.few, e.1, f.body, f.more);
       }
 
-  pub slotted-all : length s ≤ 4096 → entries_in (drop at s) ≡ some [] → (es : List Entry) → entries_in s ≡ some es → ReadSlots es W₀ W (record { n = n; named = all; rated = counts })
-  slotted-all l e es h =
-      let d : w.done ≡ es = cc (passed-end w.passed e) in
+  pub slotted_all : length s ≤ 4096 → entries_in (drop at s) ≡ some [] → (es : List Entry) → entries_in s ≡ some es → ReadSlots es W₀ W (record { n = n; named = all; rated = counts })
+  slotted_all l e es h =
+      let d : w.done ≡ es = cc (passed_end w.passed e) in
       rw (sym d) (record { week = w.week; few = omega (arith, w.few, w.inside); names = w.names; rates = w.rates })
 
-  pub slotted-bad : entries_in (drop at s) ≡ none → (es : List Entry) → entries_in s ≡ some es → ReadSlots es W₀ W (record { n = n; named = all; rated = counts })
-  slotted-bad e es h = impossible (cc (passed-bad w.passed e))
+  pub slotted_bad : entries_in (drop at s) ≡ none → (es : List Entry) → entries_in s ≡ some es → ReadSlots es W₀ W (record { n = n; named = all; rated = counts })
+  slotted_bad e es h = impossible (cc (passed_bad w.passed e))
 
   -- a slot more has its place
-  pub slotted-room : {k b next : ℕ} → Found s at k b next → length s ≤ 4096 → n < 1024
-  slotted-room f h = omega (arith, w.few, f.body, f.more, f.inside)
+  pub slotted_room : {k b next : ℕ} → Found s at k b next → length s ≤ 4096 → n < 1024
+  slotted_room f h = omega (arith, w.few, f.body, f.more, f.inside)

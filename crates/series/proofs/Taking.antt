@@ -7,7 +7,7 @@ use mathlib.Core.List.{List}
 use lib.ListN.{length, take}
 use lib.Ieee.{Float}
 use borrow.Author.Tests.{le-leb, lt-leb}
-use Rattle.vectors.proofs.Texts.{wrote-length, wrote_take}
+use Rattle.vectors.proofs.Texts.{wrote_length, wrote_take}
 use Rattle.records.specs.Entries.{Slot, Entry, hours_of}
 use Rattle.records.specs.Corrections.{week_of, named}
 use Rattle.records.specs.Rates.{rated}
@@ -52,8 +52,8 @@ held m t {r} w =
     let l = few_slots m t in
     record {
       week = take_slots r.n m t ∙ (wrote_take w.week).0;
-      ms = omega (arith, w.week.room, wrote-length w.week, l.0);
-      sounds = omega (arith, w.week.room, wrote-length w.week, l.1);
+      ms = omega (arith, w.week.room, wrote_length w.week, l.0);
+      sounds = omega (arith, w.week.room, wrote_length w.week, l.1);
       few = w.few;
       names = w.names;
       rates = w.rates;

@@ -12,8 +12,8 @@ use lib.Ieee.Fits.{down_pos}
 use lib.Ieee.Bits.{is_true}
 use Rattle.square_root.specs.Sqrt.{nearest_root, sqrt_of, isqrt}
 use Rattle.square_root.specs.Parts.{rounded_root, Bits}
-use Rattle.square_root.proofs.Root.{isqrt_root, nearestRoot-at}
-use Rattle.square_root.proofs.Rounded.{root_in, rounded-ge, rounded-lt}
+use Rattle.square_root.proofs.Root.{isqrt_root, nearest_root-at}
+use Rattle.square_root.proofs.Rounded.{root_in, rounded_ge, rounded_lt}
 use Rattle.square_root.proofs.Patterns.{no_sign, small_is, large_is, units_is, sqrt_of_odd}
 
 -- ---- the root of n = w * 2 ^ 52 * 4 ^ k
@@ -21,10 +21,10 @@ use Rattle.square_root.proofs.Patterns.{no_sign, small_is, large_is, units_is, s
 pub joined : (n w k : ℕ) → 2 ^ 52 ≤ w → w + 2 ≤ 2 ^ 54 → k < 2046 → n ≡ w * 2 ^ 52 * (2 ^ k * 2 ^ k) → Bits (nearest_root n) (k * 2 ^ 52 + rounded_root (w * 2 ^ 52))
 joined n w k a b K e =
     let r = rounded_root (w * 2 ^ 52) in
-    let l : 2 ^ 52 ≤ r = rounded-ge w a b in
-    let g : r < 2 ^ 53 = rounded-lt w a b in
+    let l : 2 ^ 52 ≤ r = rounded_ge w a b in
+    let g : r < 2 ^ 53 = rounded_lt w a b in
     record {
-      value = units_is k r K l g ∙ sym (nearestRoot-at (w * 2 ^ 52) k (isqrt (w * 2 ^ 52)) (isqrt_root (w * 2 ^ 52)) (root_in w a b).0 (root_in w a b).1) ∙ ap nearest_root (sym e);
+      value = units_is k r K l g ∙ sym (nearest_root-at (w * 2 ^ 52) k (isqrt (w * 2 ^ 52)) (isqrt_root (w * 2 ^ 52)) (root_in w a b).0 (root_in w a b).1) ∙ ap nearest_root (sym e);
       finite = omega arith;
     }
 

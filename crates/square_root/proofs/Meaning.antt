@@ -17,7 +17,7 @@ use Rattle.square_root.specs.Nearest.{Further, NearestRoot, SquareRoot}
 use Rattle.float64.specs.Units.{in_units, has_minus}
 use Rattle.float64.proofs.Doubles.{Fit, fit_of, double_grid, squares_grid, same_double}
 use Rattle.float64.proofs.Spacing.{Cmp, cmp, value_finite, value_sign}
-use Rattle.square_root.proofs.Nearest.{Nearer, digits, kept, root-value, root_fits, root-nearer, squares-ge, squares-lt}
+use Rattle.square_root.proofs.Nearest.{Nearer, digits, kept, root_value, root_fits, root_nearer, squares_ge, squares_lt}
 
 -- ---- a number other than r is further
 
@@ -45,10 +45,10 @@ module _ (m : ℕ) (e : ℤ) (f : T (fits binary64 (fin false (suc m) e))) where
   h = fit_of binary64 false (suc m) e f
 
   value : HasValue (nearest_root n) false (digits n * 2 ^ kept n) (2 ^ 1074)
-  value = root-value n (squares-ge m e h) (squares-lt m e h)
+  value = root_value n (squares_ge m e h) (squares_lt m e h)
 
   fit : T (fits binary64 (nearest_root n))
-  fit = root_fits n (squares-ge m e h) (squares-lt m e h)
+  fit = root_fits n (squares_ge m e h) (squares_lt m e h)
 
   finite : is_finite (nearest_root n) ≡ true
   finite = value_finite (nearest_root n) false (digits n * 2 ^ kept n) (2 ^ 1074) value
@@ -57,17 +57,17 @@ module _ (m : ℕ) (e : ℤ) (f : T (fits binary64 (fin false (suc m) e))) where
   plus = value_sign (nearest_root n) false (digits n * 2 ^ kept n) (2 ^ 1074) value
 
   near : (z : Float) → T (fits binary64 z) → Nearer n (in_units (nearest_root n)) (in_units z)
-  near z g = root-nearer n (squares-ge m e h) (squares-lt m e h) (in_units z) (squares_grid false (suc m) e h) (double_grid z g)
+  near z g = root_nearer n (squares_ge m e h) (squares_lt m e h) (in_units z) (squares_grid false (suc m) e h) (double_grid z g)
 
-  than-zero : Nearer n (in_units (nearest_root n)) 0
-  than-zero = root-nearer n (squares-ge m e h) (squares-lt m e h) 0 (squares_grid false (suc m) e h) (0, 0, lit< tt, refl)
+  than_zero : Nearer n (in_units (nearest_root n)) 0
+  than_zero = root_nearer n (squares_ge m e h) (squares_lt m e h) 0 (squares_grid false (suc m) e h) (0, 0, lit< tt, refl)
 
-  nearest-of : NearestRoot (fin false (suc m) e) (nearest_root n)
-  nearest-of = record {
+  nearest_of_lem : NearestRoot (fin false (suc m) e) (nearest_root n)
+  nearest_of_lem = record {
     double = fit;
     finite = finite;
     no_minus = plus;
-    others = λ z g q d. further (has_minus z) n (in_units (nearest_root n)) (in_units z) (lt_of_lt_of_le (lit< tt) (squares-ge m e h)) than-zero (near z g)
+    others = λ z g q d. further (has_minus z) n (in_units (nearest_root n)) (in_units z) (lt_of_lt_of_le (lit< tt) (squares_ge m e h)) than_zero (near z g)
         (λ s u. d (same_double z (nearest_root n) g fit q finite (s ∙ sym plus) (sym u)));
   }
 
@@ -77,7 +77,7 @@ above nan f p q = absurd p
 above (inf s) f p q = absurd (true≢false (sym q))
 above (fin true m e) f p q = absurd p
 above (fin false zero e) f p q = absurd (omega (arith, zero-mul (up e), zero-mul (down e), ltb→lt (0 * 1 * down e) (0 * up e * 1) p))
-above (fin false (suc m) e) f p q = nearest-of m e f
+above (fin false (suc m) e) f p q = nearest_of_lem m e f
 
 below : (x : Float) → T (lt x c0) → sqrt_of x ≡ nan
 unfolding sqrt_of lt of_bits

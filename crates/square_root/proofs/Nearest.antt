@@ -107,52 +107,52 @@ module _ (n : ℕ) (a : 2 ^ 104 ≤ n) (b : n < 2 ^ 3172) where
       let g : size n ≤ 3172 = size-le n 3172 b in
       omega arith
 
-  kept-le : kept n ≤ 1533
-  kept-le = size_in.2
+  kept_le : kept n ≤ 1533
+  kept_le = size_in.2
 
-  pow-two : 0 < 2 ^ kept n * 2 ^ kept n
-  pow-two = mul-pos (pow_pos (kept n)) (pow_pos (kept n))
+  pow_two : 0 < 2 ^ kept n * 2 ^ kept n
+  pow_two = mul-pos (pow_pos (kept n)) (pow_pos (kept n))
 
   power : (c : ℕ) → 2 ^ (c + (kept n + kept n)) ≡ 2 ^ c * (2 ^ kept n * 2 ^ kept n)
   power c = pow-add 2 c (kept n + kept n) ∙ ap (λ (x : ℕ). 2 ^ c * x) (pow-add 2 (kept n) (kept n))
 
-  is-lead : Root (n / (2 ^ kept n * 2 ^ kept n)) (lead n)
+  is_lead : Root (n / (2 ^ kept n * 2 ^ kept n)) (lead n)
   unfolding lead
-  is-lead = isqrt_root (n / (2 ^ kept n * 2 ^ kept n))
+  is_lead = isqrt_root (n / (2 ^ kept n * 2 ^ kept n))
 
   lead_ge : 2 ^ 52 ≤ lead n
   lead_ge =
       le_of_suc-le-suc (sq_back (2 ^ 52) (suc (lead n))
-      (lt_of_le_of_lt ((le-div_iff_mul-le pow-two).1 (le_trans (le_of_eq (sym (power 104))) (size_reaches n (104 + (kept n + kept n)) size_in.0))) is-lead.1))
+      (lt_of_le_of_lt ((le-div_iff_mul-le pow_two).1 (le_trans (le_of_eq (sym (power 104))) (size_reaches n (104 + (kept n + kept n)) size_in.0))) is_lead.1))
 
   lead_lt : lead n < 2 ^ 53
   lead_lt =
       sq_back (lead n) (2 ^ 53)
-      (lt_of_le_of_lt is-lead.0 ((div-lt_iff_lt-mul pow-two).1 (lt_of_lt_of_le (size-lt n) (le_trans (pow_mono size_in.1) (le_of_eq (power 106))))))
+      (lt_of_le_of_lt is_lead.0 ((div-lt_iff_lt-mul pow_two).1 (lt_of_lt_of_le (size-lt n) (le_trans (pow_mono size_in.1) (le_of_eq (power 106))))))
 
   above_lead : lead n * 2 ^ kept n * (lead n * 2 ^ kept n) ≤ n
-  above_lead = le_trans (le_of_eq (mul-mul-mul_comm (lead n) (2 ^ kept n) (lead n) (2 ^ kept n))) ((le-div_iff_mul-le pow-two).0 is-lead.0)
+  above_lead = le_trans (le_of_eq (mul-mul-mul_comm (lead n) (2 ^ kept n) (lead n) (2 ^ kept n))) ((le-div_iff_mul-le pow_two).0 is_lead.0)
 
   below_next : n < suc (lead n) * 2 ^ kept n * (suc (lead n) * 2 ^ kept n)
-  below_next = lt_of_lt_of_le ((div-lt_iff_lt-mul pow-two).0 is-lead.1) (le_of_eq (sym (mul-mul-mul_comm (suc (lead n)) (2 ^ kept n) (suc (lead n)) (2 ^ kept n))))
+  below_next = lt_of_lt_of_le ((div-lt_iff_lt-mul pow_two).0 is_lead.1) (le_of_eq (sym (mul-mul-mul_comm (suc (lead n)) (2 ^ kept n) (suc (lead n)) (2 ^ kept n))))
 
   digits_le : digits n ≤ 2 ^ 53
   unfolding digits
   digits_le = le_trans (nearest-le (lead n) (compare (4 * n) ((2 * lead n + 1) * 2 ^ kept n * ((2 * lead n + 1) * 2 ^ kept n)))) lead_lt
 
   in_range : digits n * 2 ^ kept n < 2 ^ 2098
-  in_range = lt_of_le_of_lt (mul-le-mul digits_le (pow_mono {j = 1533} kept-le)) (lit< tt)
+  in_range = lt_of_le_of_lt (mul-le-mul digits_le (pow_mono {j = 1533} kept_le)) (lit< tt)
 
-  pub root-value : HasValue (nearest_root n) false (digits n * 2 ^ kept n) (2 ^ 1074)
-  root-value = subst (λ (x : Float). HasValue x false (digits n * 2 ^ kept n) (2 ^ 1074)) (sym (nearest_root_is n)) (units_val binary64 false (digits n) (kept n) in_range)
+  pub root_value : HasValue (nearest_root n) false (digits n * 2 ^ kept n) (2 ^ 1074)
+  root_value = subst (λ (x : Float). HasValue x false (digits n * 2 ^ kept n) (2 ^ 1074)) (sym (nearest_root_is n)) (units_val binary64 false (digits n) (kept n) in_range)
 
-  root-units : in_units (nearest_root n) ≡ digits n * 2 ^ kept n
-  root-units = value_units (nearest_root n) false (digits n * 2 ^ kept n) root-value
+  root_units : in_units (nearest_root n) ≡ digits n * 2 ^ kept n
+  root_units = value_units (nearest_root n) false (digits n * 2 ^ kept n) root_value
 
-  pub root-nearer : (z : ℕ) → Grid n → Grid z → Nearer n (in_units (nearest_root n)) z
+  pub root_nearer : (z : ℕ) → Grid n → Grid z → Nearer n (in_units (nearest_root n)) z
   unfolding digits
-  root-nearer z g w =
-      subst (λ (r : ℕ). Nearer n r z) (sym root-units)
+  root_nearer z g w =
+      subst (λ (r : ℕ). Nearer n r z) (sym root_units)
       (nearer n (lead n) (kept n) above_lead below_next lead_ge (compare (4 * n) ((2 * lead n + 1) * 2 ^ kept n * ((2 * lead n + 1) * 2 ^ kept n))) z g w (cmp (4 * n) ((2 * lead n + 1) * 2 ^ kept n * ((2 * lead n + 1) * 2 ^ kept n))))
 
 units-fit : (q k : ℕ) → q ≤ 2 ^ 53 → q * 2 ^ k < 2 ^ 2098 → T (fits binary64 (units binary64 false q k))
@@ -165,13 +165,13 @@ root_fits n a b = subst (λ (y : Float). T (fits binary64 y)) (sym (nearest_root
 -- ---- a double above zero
 
 module _ (m : ℕ) (e : ℤ) (h : Fit binary64 (suc m) e) where
-  pub squares-ge : 2 ^ 104 ≤ suc m * up e * 2 ^ 2148 / down e
-  squares-ge =
+  pub squares_ge : 2 ^ 104 ≤ suc m * up e * 2 ^ 2148 / down e
+  squares_ge =
       le_trans (lit≤ {m = 2 ^ 104} {n = 2 ^ 1074} tt)
       ((le-div_iff_mul-le (down_pos e)).1
       (le_trans (mul-le-mul_left (2 ^ 1074) h.fine) (mul-le-mul_right (2 ^ 2148) (mul-pos (zero-lt-suc m) (up_pos e)))))
 
-  pub squares-lt : suc m * up e * 2 ^ 2148 / down e < 2 ^ 3172
-  squares-lt =
+  pub squares_lt : suc m * up e * 2 ^ 2148 / down e < 2 ^ 3172
+  squares_lt =
       (div-lt_iff_lt-mul (down_pos e)).1
       (lt_of_lt_of_le (mul-lt-mul_of_pos_right h.under (pow_pos 2148)) (le_of_eq (mul_right_comm (2 ^ 1024) (down e) (2 ^ 2148))))

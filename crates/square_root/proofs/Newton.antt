@@ -9,7 +9,7 @@ use lib.Pow.{pow_mono}
 use Rattle.square_root.specs.Sqrt.{isqrt}
 use Rattle.square_root.specs.Parts.{rounded_root}
 use Rattle.square_root.proofs.Root.{Root, sq_back, isqrt_root, isqrt_is}
-use Rattle.square_root.proofs.Rounded.{rounded-up, rounded-down}
+use Rattle.square_root.proofs.Rounded.{rounded_up, rounded_down}
 
 -- ---- digit by digit
 
@@ -30,8 +30,8 @@ module _ (h root j : ℕ) (d : Digits h root (suc j)) where
   same : root + 2 ^ suc j ≡ root + 2 ^ j + 2 ^ j
   same = omega (arith, doubled)
 
-  pub tried-le : root + 2 ^ j ≤ 2 ^ 14
-  tried-le = omega (arith, same, d.room)
+  pub tried_le : root + 2 ^ j ≤ 2 ^ 14
+  tried_le = omega (arith, same, d.room)
 
   pub one : (root + 2 ^ j) * (root + 2 ^ j) ≤ h → Digits h (root + 2 ^ j) j
   one g = record { below = g; above = subst (λ (x : ℕ). h < x * x) same d.above; room = omega (arith, same, d.room) }
@@ -89,44 +89,44 @@ module _ (h x : ℕ) (lo : x * x ≤ h) (hi : h < (x + 2 ^ 13) * (x + 2 ^ 13)) (
 
 -- the whole root of h from the root s of its leading digits
 module _ (h s : ℕ) (r : s ≡ isqrt (h / 2 ^ 26)) (l : 2 ^ 52 ≤ h) (g : h < 2 ^ 54) where
-  is-root : Root (h / 2 ^ 26) s
-  is-root = subst (Root (h / 2 ^ 26)) (sym r) (isqrt_root (h / 2 ^ 26))
+  is_root : Root (h / 2 ^ 26) s
+  is_root = subst (Root (h / 2 ^ 26)) (sym r) (isqrt_root (h / 2 ^ 26))
 
-  short-ge : 2 ^ 13 ≤ s
-  short-ge = le_of_suc-le-suc (sq_back (2 ^ 13) (suc s) (lt_of_le_of_lt (omega arith) is-root.1))
+  short_ge : 2 ^ 13 ≤ s
+  short_ge = le_of_suc-le-suc (sq_back (2 ^ 13) (suc s) (lt_of_le_of_lt (omega arith) is_root.1))
 
-  short-lt : s < 2 ^ 14
-  short-lt = sq_back s (2 ^ 14) (lt_of_le_of_lt is-root.0 (omega arith))
+  short_lt : s < 2 ^ 14
+  short_lt = sq_back s (2 ^ 14) (lt_of_le_of_lt is_root.0 (omega arith))
 
   abbrev x : ℕ
   x = s * 2 ^ 13
 
   lo : x * x ≤ h
-  lo = omega (arith, is-root.0)
+  lo = omega (arith, is_root.0)
 
   hi : h < (x + 2 ^ 13) * (x + 2 ^ 13)
-  hi = omega (arith, is-root.1)
+  hi = omega (arith, is_root.1)
 
-  pub from-ge : 2 ^ 26 ≤ x
-  from-ge = omega (arith, short-ge)
+  pub from_ge : 2 ^ 26 ≤ x
+  from_ge = omega (arith, short_ge)
 
-  pub from-lt : x < 2 ^ 27
-  from-lt = omega (arith, short-lt)
+  pub from_lt : x < 2 ^ 27
+  from_lt = omega (arith, short_lt)
 
   pub step-lt : (x + h / x) / 2 < 2 ^ 28
-  step-lt = omega (arith, quotient h x lo hi from-ge, short h x lo hi from-ge, from-lt)
+  step-lt = omega (arith, quotient h x lo hi from_ge, short h x lo hi from_ge, from_lt)
 
   pub step-pos : 1 ≤ (x + h / x) / 2
-  step-pos = omega (arith, from-ge)
+  step-pos = omega (arith, from_ge)
 
-  pub too-high : h < (x + h / x) / 2 * ((x + h / x) / 2) → (x + h / x) / 2 - 1 ≡ isqrt h
-  too-high k =
+  pub too_high : h < (x + h / x) / 2 * ((x + h / x) / 2) → (x + h / x) / 2 - 1 ≡ isqrt h
+  too_high k =
       let y = (x + h / x) / 2 in
       let n : y ≡ suc (y - 1) = omega (arith, step-pos) in
-      sym (isqrt_is h (y - 1) (newton_below h x lo hi from-ge, subst (λ (z : ℕ). h < z * z) n k))
+      sym (isqrt_is h (y - 1) (newton_below h x lo hi from_ge, subst (λ (z : ℕ). h < z * z) n k))
 
-  pub just-right : (x + h / x) / 2 * ((x + h / x) / 2) ≤ h → (x + h / x) / 2 ≡ isqrt h
-  just-right k = sym (isqrt_is h ((x + h / x) / 2) (k, newton_above h x lo hi from-ge))
+  pub just_right : (x + h / x) / 2 * ((x + h / x) / 2) ≤ h → (x + h / x) / 2 ≡ isqrt h
+  just_right k = sym (isqrt_is h ((x + h / x) / 2) (k, newton_above h x lo hi from_ge))
 
 -- ---- the nearest whole number
 
@@ -134,14 +134,14 @@ pub rounded_is : (n r : ℕ) → r * r < n + r → n ≤ r * r + r → rounded_r
 rounded_is n r a b = go (dec_le (r * r) n)
   where
     before : (q : ℕ) → suc q * suc q < n + suc q → n < suc q * suc q → rounded_root n ≡ suc q
-    before q k l = rounded-up n q (n - q * q) (omega arith) (omega arith) (omega arith) ∙ add-one q
+    before q k l = rounded_up n q (n - q * q) (omega arith) (omega arith) (omega arith) ∙ add-one q
 
     less : (r : ℕ) → r * r < n + r → n < r * r → rounded_root n ≡ r
     less zero k l = absurd (omega arith)
     less (suc q) k l = before q k l
 
     go : Dec (r * r ≤ n) → rounded_root n ≡ r
-    go (yes k) = rounded-down n r (n - r * r) (omega arith) (omega arith) (omega arith)
+    go (yes k) = rounded_down n r (n - r * r) (omega arith) (omega arith) (omega arith)
     go (no f) = less r a (lt_of_not-le f)
 
 -- ---- the last 26 digits, from the root s of w
@@ -163,8 +163,8 @@ module _ (w s : ℕ) (h : Root w s) (l : 2 ^ 52 ≤ w) (g : w < 2 ^ 54) where
   lead_lt : s < 2 ^ 27
   lead_lt = sq_back s (2 ^ 27) (lt_of_le_of_lt h.0 g)
 
-  pos-lead : 0 < s * 2
-  pos-lead = omega (arith, lead_ge)
+  pos_lead : 0 < s * 2
+  pos_lead = omega (arith, lead_ge)
 
   abbrev t : ℕ
   t = (w - s * s) * 2 ^ 26
@@ -185,16 +185,16 @@ module _ (w s : ℕ) (h : Root w s) (l : 2 ^ 52 ≤ w) (g : w < 2 ^ 54) where
   split = div-add-mod' t (s * 2)
 
   left_lt : t % (s * 2) < s * 2
-  left_lt = mod-lt t {m = s * 2} pos-lead
+  left_lt = mod-lt t {m = s * 2} pos_lead
 
-  last-le : q ≤ 2 ^ 26
-  last-le = le_of_mul-le-mul_right {k = s * 2} (omega (arith, split, rest_le)) pos-lead
+  last_le : q ≤ 2 ^ 26
+  last_le = le_of_mul-le-mul_right {k = s * 2} (omega (arith, split, rest_le)) pos_lead
 
   square_le : q * q ≤ 2 ^ 52
-  square_le = mul-le-mul last-le last-le
+  square_le = mul-le-mul last_le last_le
 
   pub ranges : Ranges w s
-  ranges = record { square = h.0; lead_ge = lead_ge; lead_lt = lead_lt; rest = rest_le; digits = last-le; left = left_lt; squared = square_le }
+  ranges = record { square = h.0; lead_ge = lead_ge; lead_lt = lead_lt; rest = rest_le; digits = last_le; left = left_lt; squared = square_le }
 
   total : w * 2 ^ 52 + q * q ≡ root * root + v
   total = omega (arith, split, h.0)
@@ -202,8 +202,8 @@ module _ (w s : ℕ) (h : Root w s) (l : 2 ^ 52 ≤ w) (g : w < 2 ^ 54) where
   pub last_up : root + q * q < v → root + 1 ≡ rounded_root (w * 2 ^ 52)
   last_up k = sym (rounded_is (w * 2 ^ 52) (root + 1) (omega (arith, total)) (omega (arith, total, left_lt)))
 
-  pub last-stays : v ≤ root + q * q → root ≡ rounded_root (w * 2 ^ 52)
-  last-stays k = sym (rounded_is (w * 2 ^ 52) root (omega (arith, total, lead_ge, square_le, mul-le-mul_left q last-le)) (omega (arith, total)))
+  pub last_stays : v ≤ root + q * q → root ≡ rounded_root (w * 2 ^ 52)
+  last_stays k = sym (rounded_is (w * 2 ^ 52) root (omega (arith, total, lead_ge, square_le, mul-le-mul_left q last_le)) (omega (arith, total)))
 
 -- a number below 2 ^ j that has s zeros at its end has s below j
 pub zeros-lt : (t m s j : ℕ) → 0 < t → m ≡ t * 2 ^ s → m < 2 ^ j → s < j

@@ -86,9 +86,9 @@ module _ (n k q : ℕ) (h : Root n q) (l : 2 ^ 52 ≤ q) (g : q < 2 ^ 53) where
       let full : 104 + (k + k) < size z = lt_of_not-le (λ (y : size z ≤ 104 + (k + k)). not-le_of_lt (size-lt z) (le_trans (pow_mono y) above)) in
       omega arith
 
-  pub nearestRoot-at : nearest_root (n * (2 ^ k * 2 ^ k)) ≡ units binary64 false (rounded_root n) k
+  pub nearest_root-at : nearest_root (n * (2 ^ k * 2 ^ k)) ≡ units binary64 false (rounded_root n) k
   unfolding nearest_root rounded_root
-  nearestRoot-at =
+  nearest_root-at =
       rw digits
       (rw cut
       (rw (isqrt_is n q h)

@@ -14,16 +14,16 @@ use Rattle.square_root.proofs.Root.{cmp_is, Root, sq_back, isqrt_root, isqrt_is}
 -- ---- with n = q * q + rest
 
 module _ (n q rest : ℕ) (e : n ≡ q * q + rest) (r : rest ≤ 2 * q) where
-  is-root : Root n q
-  is-root = (omega arith, omega arith)
+  is_root : Root n q
+  is_root = (omega arith, omega arith)
 
-  pub rounded-up : q < rest → rounded_root n ≡ q + 1
+  pub rounded_up : q < rest → rounded_root n ≡ q + 1
   unfolding rounded_root
-  rounded-up h = rw (isqrt_is n q is-root) (ap (nearest q) (cmp_is (compare (4 * n) ((2 * q + 1) * (2 * q + 1))) Ordering.gt (4 * n) ((2 * q + 1) * (2 * q + 1)) (cmp (4 * n) ((2 * q + 1) * (2 * q + 1))) (omega arith)) ∙ sym (add-one q))
+  rounded_up h = rw (isqrt_is n q is_root) (ap (nearest q) (cmp_is (compare (4 * n) ((2 * q + 1) * (2 * q + 1))) Ordering.gt (4 * n) ((2 * q + 1) * (2 * q + 1)) (cmp (4 * n) ((2 * q + 1) * (2 * q + 1))) (omega arith)) ∙ sym (add-one q))
 
-  pub rounded-down : rest ≤ q → rounded_root n ≡ q
+  pub rounded_down : rest ≤ q → rounded_root n ≡ q
   unfolding rounded_root
-  rounded-down h = rw (isqrt_is n q is-root) (ap (nearest q) (cmp_is (compare (4 * n) ((2 * q + 1) * (2 * q + 1))) Ordering.lt (4 * n) ((2 * q + 1) * (2 * q + 1)) (cmp (4 * n) ((2 * q + 1) * (2 * q + 1))) (omega arith)))
+  rounded_down h = rw (isqrt_is n q is_root) (ap (nearest q) (cmp_is (compare (4 * n) ((2 * q + 1) * (2 * q + 1))) Ordering.lt (4 * n) ((2 * q + 1) * (2 * q + 1)) (cmp (4 * n) ((2 * q + 1) * (2 * q + 1))) (omega arith)))
 
 -- ---- how large it is
 
@@ -35,15 +35,15 @@ module _ (w : ℕ) (a : 2 ^ 52 ≤ w) (b : w + 2 ≤ 2 ^ 54) where
         sq_back (isqrt (w * 2 ^ 52)) (2 ^ 53) (lt_of_le_of_lt r.0 (omega arith)),
       )
 
-  near-lt : (q : ℕ) (o : Ordering) → q < 2 ^ 53 → Cmp o (4 * (w * 2 ^ 52)) ((2 * q + 1) * (2 * q + 1)) → nearest q o < 2 ^ 53
-  near-lt q Ordering.lt h c = h
-  near-lt q Ordering.eq h c = let s : 2 * q + 1 < 2 ^ 54 - 1 = sq_back (2 * q + 1) (2 ^ 54 - 1) (lt_of_le_of_lt (le_of_eq (sym c)) (omega arith)) in omega arith
-  near-lt q Ordering.gt h c = let s : 2 * q + 1 < 2 ^ 54 - 1 = sq_back (2 * q + 1) (2 ^ 54 - 1) (lt_of_le_of_lt (le_of_lt c) (omega arith)) in omega arith
+  near_lt : (q : ℕ) (o : Ordering) → q < 2 ^ 53 → Cmp o (4 * (w * 2 ^ 52)) ((2 * q + 1) * (2 * q + 1)) → nearest q o < 2 ^ 53
+  near_lt q Ordering.lt h c = h
+  near_lt q Ordering.eq h c = let s : 2 * q + 1 < 2 ^ 54 - 1 = sq_back (2 * q + 1) (2 ^ 54 - 1) (lt_of_le_of_lt (le_of_eq (sym c)) (omega arith)) in omega arith
+  near_lt q Ordering.gt h c = let s : 2 * q + 1 < 2 ^ 54 - 1 = sq_back (2 * q + 1) (2 ^ 54 - 1) (lt_of_le_of_lt (le_of_lt c) (omega arith)) in omega arith
 
-  pub rounded-ge : 2 ^ 52 ≤ rounded_root (w * 2 ^ 52)
+  pub rounded_ge : 2 ^ 52 ≤ rounded_root (w * 2 ^ 52)
   unfolding rounded_root
-  rounded-ge = let q = isqrt (w * 2 ^ 52) in le_trans root_in.0 (nearest-ge q (compare (4 * (w * 2 ^ 52)) ((2 * q + 1) * (2 * q + 1))))
+  rounded_ge = let q = isqrt (w * 2 ^ 52) in le_trans root_in.0 (nearest-ge q (compare (4 * (w * 2 ^ 52)) ((2 * q + 1) * (2 * q + 1))))
 
-  pub rounded-lt : rounded_root (w * 2 ^ 52) < 2 ^ 53
+  pub rounded_lt : rounded_root (w * 2 ^ 52) < 2 ^ 53
   unfolding rounded_root
-  rounded-lt = let q = isqrt (w * 2 ^ 52) in near-lt q (compare (4 * (w * 2 ^ 52)) ((2 * q + 1) * (2 * q + 1))) root_in.1 (cmp (4 * (w * 2 ^ 52)) ((2 * q + 1) * (2 * q + 1)))
+  rounded_lt = let q = isqrt (w * 2 ^ 52) in near_lt q (compare (4 * (w * 2 ^ 52)) ((2 * q + 1) * (2 * q + 1))) root_in.1 (cmp (4 * (w * 2 ^ 52)) ((2 * q + 1) * (2 * q + 1)))

@@ -1,5 +1,5 @@
--- What is known of reading an input: no contract can say which bytes the C library moves.
-use Rattle.std.specs.Prelude.{ℕ, zero, suc, ◌≤◌, List, Bool, true, false, ℤ, pos, negsuc}
+-- What is known of reading an input: no contract can say which bytes the system moves.
+use Rattle.std.specs.Prelude.{ℕ, zero, suc, ◌≤◌, List, Bool, true, false, Result, Ok, Err}
 use Rattle.io.specs.Counts.{IsPrefixLen}
 use Rattle.streams.specs.declared.Got.{Got}
 use Rattle.streams.specs.declared.Got.TheVariants.{Bytes, End, Failed}
@@ -11,10 +11,10 @@ abbrev pub came : ℕ → Got
 came zero = End
 came (suc k) = Bytes (suc k)
 
--- what an answer of read says: below 0 that it failed, else how many bytes came
-abbrev pub answered : ℤ → Got
-answered (pos k) = came k
-answered (negsuc k) = Failed
+-- what an answer of read says: that it failed, or how many bytes came
+abbrev pub answered : {E : Type 0} → Result ℕ E → Got
+answered (Ok k) = came k
+answered (Err e) = Failed
 
 -- whether it failed
 abbrev pub failed : Got → Bool

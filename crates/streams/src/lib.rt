@@ -1,24 +1,20 @@
-// Reading an input whole and writing an output whole, over the C library's read and write. A call that fails is told apart from the
-// end of the input, and is first tried again.
+// Reading an input whole and writing an output whole, over std's read and write. A call that fails is told apart from the end of the
+// input, and is first tried again.
 #![tactic(auto)]
 
 ghost use Rattle.std.specs.Prelude.{◌≡◌, ◌≤◌, length};
 ghost use Rattle.streams.specs.Streams.{came, answered, failed, bytes_of, goes_on, input_of, Within, Held};
 
+use std::io::{Read, Write};
+use std::time::{Clock, Duration};
+use std::{io, thread};
+
 // How often a call that fails is tried again.
 const TRIES: u32 = 200;
 
-// Waits a hundredth of a second, or less where a signal ends the wait.
-fn pause() {
-    let asked = libc::types::timespec {
-        tv_sec: 0,
-        tv_nsec: 10000000,
-    };
-    let mut left = libc::types::timespec {
-        tv_sec: 0,
-        tv_nsec: 0,
-    };
-    libc::nanosleep(&asked, &mut left);
+// Waits a hundredth of a second.
+fn pause<C: Clock>(clock: &C) {
+    thread::sleep(clock, Duration::from_millis(10));
 }
 
 // What a call answered: how many bytes it moved, at least one, that the input is at its end, or that it failed.
@@ -43,14 +39,14 @@ fn counted(n: usize) -> Got
     if n == 0 { Got::End } else { Got::Bytes(n) }
 }
 
-// What a call's answer says: below 0 that it failed, else how many bytes it moved.
-fn told(answer: isize) -> Got
+// What a call's answer says: that it failed, or how many bytes it moved.
+fn told(answer: io::Result<usize>) -> Got
     ensures { result ≡ answered answer }
 {
-    if answer < 0 {
-        return Got::Failed;
+    match answer {
+        Ok(n) => counted(n),
+        Err(_) => Got::Failed,
     }
-    counted(answer as usize)
 }
 
 // Whether the call is to be tried again.
@@ -65,21 +61,21 @@ fn is_failed(g: Got) -> bool
 }
 
 // One read.
-fn read_once(fd: i32, buf: &mut [u8]) -> Got
+fn read_once<R: Read>(input: &mut R, buf: &mut [u8]) -> Got
     ensures { Within (length buf.new) result }
 {
-    told(libc::read(fd, buf))
+    told(input.read(buf))
 }
 
 // One read, tried again where it fails.
-fn read_some(fd: i32, buf: &mut [u8]) -> Got
+fn read_some<C: Clock, R: Read>(clock: &C, input: &mut R, buf: &mut [u8]) -> Got
     ensures { Within (length buf.new) result }
 {
-    let mut g = read_once(fd, buf);
+    let mut g = read_once(input, buf);
     let mut tries = TRIES;
     while tries > 0 && is_failed(g) {
-        pause();
-        g = read_once(fd, buf);
+        pause(clock);
+        g = read_once(input, buf);
         tries -= 1;
     }
     g
@@ -119,39 +115,46 @@ fn input_of(n: usize, g: Got) -> Input
 }
 
 // Reads until the input ends, buf is full or a read fails for good.
-pub fn read_whole(fd: i32, buf: &mut [u8]) -> Input
+pub fn read_whole<C: Clock, R: Read>(clock: &C, input: &mut R, buf: &mut [u8]) -> Input
     ensures { Held buf.new result }
 {
     let mut done = 0;
     let mut g = Got::Bytes(0);
     while done < buf.len() && goes_on(g) {
-        g = read_some(fd, &mut buf[done..]);
+        g = read_some(clock, input, &mut buf[done..]);
         done += bytes_of(g);
     }
     input_of(done, g)
 }
 
-// One write, tried again where it fails or takes nothing: how many of buf's bytes it took.
-fn write_some(fd: i32, buf: &[u8]) -> usize
+// One write: how many of buf's bytes it took, none where it failed.
+fn write_once<W: Write>(output: &mut W, buf: &[u8]) -> usize
     ensures { result ≤ length buf.now }
 {
-    let mut put = io::count(libc::write(fd, buf), buf);
+    output.write(buf).unwrap_or(0)
+}
+
+// One write, tried again where it fails or takes nothing: how many of buf's bytes it took.
+fn write_some<C: Clock, W: Write>(clock: &C, output: &mut W, buf: &[u8]) -> usize
+    ensures { result ≤ length buf.now }
+{
+    let mut put = write_once(output, buf);
     let mut tries = TRIES;
     while tries > 0 && put == 0 {
-        pause();
-        put = io::count(libc::write(fd, buf), buf);
+        pause(clock);
+        put = write_once(output, buf);
         tries -= 1;
     }
     put
 }
 
 // Writes buf from its start on: how many bytes were taken, fewer than all of them only where a write failed.
-pub fn write_whole(fd: i32, buf: &[u8]) -> usize
+pub fn write_whole<C: Clock, W: Write>(clock: &C, output: &mut W, buf: &[u8]) -> usize
     ensures { result ≤ length buf.now }
 {
     let mut done = 0;
     while done < buf.len() {
-        let put = write_some(fd, &buf[done..]);
+        let put = write_some(clock, output, &buf[done..]);
         if put == 0 {
             return done;
         }

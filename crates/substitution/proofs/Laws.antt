@@ -14,12 +14,12 @@ use Rattle.float64.specs.Ops.{◌⊘◌}
 use Rattle.float64.proofs.Clash.{clash}
 use Rattle.vectors.specs.Vec.{at}
 use Rattle.vectors.specs.Parts.{Kept, part}
-use Rattle.vectors.proofs.Laws.{length-list, at-list, kept-none, kept_then}
-use Rattle.vectors.proofs.Parts.{length_part, part-below, put_back, mid-put, length-put, kept_put, part-put, part-size}
+use Rattle.vectors.proofs.Laws.{length-list, at-list, kept_none, kept_then}
+use Rattle.vectors.proofs.Parts.{length_part, part_below, put_back, mid_put, length-put, kept_put, part-put, part-size}
 use Rattle.banded.specs.Rows.{of_rows, rows}
 use Rattle.banded.specs.Solve.{back_at, forward, divided, back, solve}
 use Rattle.banded.specs.Run.{of_run, Holds, Stands}
-use Rattle.banded.proofs.Laws.{above, less_from_ext, holds_of, shape_rows, keeps-part, side-part, part_stands, stands_part}
+use Rattle.banded.proofs.Laws.{above, less_from_ext, holds_of, shape_rows, keeps_part, side_part, part_stands, stands_part}
 use Rattle.banded.proofs.Forward.{length-forward}
 use Rattle.elimination.specs.Decomposed.{Decomposed}
 use Rattle.substitution.specs.Solved.{Backed, Carried, Substituted, Solved}
@@ -54,7 +54,7 @@ length_back k f w (suc n) = ap suc (length_back k f w n)
 
 pub backed_none : (k m : ℕ) (s : List Float) → Backed k m 0 s s
 unfolding back
-backed_none k m s = record { kept = kept-none (m * (k + 1) + (m - 0)) 0 s; made = λ f u h l st j b. absurd (omega arith) }
+backed_none k m s = record { kept = kept_none (m * (k + 1) + (m - 0)) 0 s; made = λ f u h l st j b. absurd (omega arith) }
 
 module _ {k m t : ℕ} {s₀ s : List Float} {x : Float} (i q : ℕ) (w : Backed k m t s₀ s) (c : t < m) (is : i ≡ m - (t + 1)) (at-q : q ≡ m * (k + 1) + i) (room : m * (k + 1) + m ≤ length s)
     (x-is : x ≡ back_at k (of_run k s) (λ r. at s (m * (k + 1) + r)) (at s (m * (k + 1) + i) ⊘ of_run k s i i) i m) where
@@ -86,8 +86,8 @@ module _ {k m t : ℕ} {s₀ s : List Float} {x : Float} (i q : ℕ) (w : Backed
       let g : b + r ≡ b + (m - t) + (r - (i + 1)) = omega arith in
       rw (hs.same r (i + k - r) d (omega arith), g, w.made f u h l st (r - (i + 1)) (omega (arith, length_back k f y t))))))
 
-  pub backed-more : {t' : ℕ} → t' ≡ t + 1 → Backed k m t' s₀ (set s q x)
-  backed-more z =
+  pub backed_more : {t' : ℕ} → t' ≡ t + 1 → Backed k m t' s₀ (set s q x)
+  backed_more z =
       let p : m * (k + 1) + (m - (t + 1)) ≡ q = omega arith in
       rw z (record { kept = rw p kept_more; made = λ f u h l st. rw (p, add-one t) (made_more f u h l st) })
 
@@ -98,7 +98,7 @@ carried_none k m t s = record { size = refl; done = λ v h. h }
 
 pub carried_more : {k m from t t' : ℕ} {s₀ s : List Float} {x : Float} (i q : ℕ) → Carried k m from t s₀ s → t < m → i ≡ m - (t + 1) → q ≡ m * (k + 1) + i → m * (k + 1) + m ≤ length s
     → x ≡ back_at k (of_run k s) (λ r. at s (m * (k + 1) + r)) (at s (m * (k + 1) + i) ⊘ of_run k s i i) i m → t' ≡ t + 1 → Carried k m from t' s₀ (set s q x)
-carried_more {s = s} {x = x} i q w c is at-q room x-is z = record { size = length-set s q x ∙ w.size; done = λ v h. backed-more i q (w.done v h) c is at-q room x-is z }
+carried_more {s = s} {x = x} i q w c is at-q room x-is z = record { size = length-set s q x ∙ w.size; done = λ v h. backed_more i q (w.done v h) c is at-q room x-is z }
 
 pub carried_then : {k m a b c : ℕ} {s₀ s s' : List Float} → Carried k m a b s₀ s → Carried k m b c s s' → Carried k m a c s₀ s'
 carried_then v w = record { size = w.size ∙ v.size; done = λ u h. w.done u (v.done u h) }
@@ -136,10 +136,10 @@ module _ (p : ℕ) (s : List Float) {k m : ℕ} {x : List Float} {ok : Bool} (ro
   places : length x ≡ m * (k + 1) + m
   places = part-size p (m * (k + 1) + m) s x room d.kept.size
 
-  pub solved-bad : ok ≡ false → Solved p k m s (put_back p (m * (k + 1) + m) s x) false
-  solved-bad bad = record {
+  pub solved_bad : ok ≡ false → Solved p k m s (put_back p (m * (k + 1) + m) s x) false
+  solved_bad bad = record {
     kept = kept_put p (m * (k + 1) + m) s x room places nan;
-    answer = λ a g. sym bad ∙ d.answer a (keeps-part k p m s room g);
+    answer = λ a g. sym bad ∙ d.answer a (keeps_part k p m s room g);
     factor = λ a g y. absurd (clash y refl);
     solution = λ a g y. absurd (clash y refl);
   }
@@ -149,20 +149,20 @@ module _ (p : ℕ) (s : List Float) {k m : ℕ} {x : List Float} {ok : Bool} (ro
   solved-good {x'} good w =
       let n = m * (k + 1) in
       let s₁ = put_back p (n + m) s x in
-      let same = mid-put p (n + m) s x room places in
+      let same = mid_put p (n + m) s x room places in
       let v : Substituted k m x x' = rw same at w in
       let room₁ : p + (n + m) ≤ length s₁ = omega (arith, length-put p (n + m) s x room places) in
       let places' : length x' ≡ n + m = v.kept.size ∙ places in
       let z : p + 0 ≡ p = omega arith in
       record {
         kept = kept_then p (n + m) (kept_put p (n + m) s x room places nan) (kept_put p (n + m) s₁ x' room₁ places' nan) (omega arith) (omega arith) (omega arith) (omega arith);
-        answer = λ a g. sym good ∙ d.answer a (keeps-part k p m s room g);
-        factor = λ a g y. rw z at (part-put p (n + m) s₁ x' room₁ places' nan 0 n (omega arith)) ∙ part-below nan 0 n v.kept (omega arith) ∙ d.factor a (keeps-part k p m s room g) good;
+        answer = λ a g. sym good ∙ d.answer a (keeps_part k p m s room g);
+        factor = λ a g y. rw z at (part-put p (n + m) s₁ x' room₁ places' nan 0 n (omega arith)) ∙ part_below nan 0 n v.kept (omega arith) ∙ d.factor a (keeps_part k p m s room g) good;
         solution = λ a g y.
             let f = rows k a m in
             let b = part (p + n) m s in
             part-put p (n + m) s₁ x' room₁ places' nan n m (omega arith)
-            ∙ v.made f (shape_rows k a m) (d.factor a (keeps-part k p m s room g) good)
-            ∙ ap (λ (u : List Float). back k f (divided k f u) m) (d.side a (keeps-part k p m s room g) good ∙ ap (λ (u : List Float). forward k f u m) (side-part k p m s room))
+            ∙ v.made f (shape_rows k a m) (d.factor a (keeps_part k p m s room g) good)
+            ∙ ap (λ (u : List Float). back k f (divided k f u) m) (d.side a (keeps_part k p m s room g) good ∙ ap (λ (u : List Float). forward k f u m) (side_part k p m s room))
             ∙ sym (solve_is k m f b (length_part (p + n) m s));
       }

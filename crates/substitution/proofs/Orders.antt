@@ -20,18 +20,18 @@ back_far k l x v i m h = rw (min-eq_left {n = i + k + 1} {m = m} (omega arith))
 -- ---- a place of the solution of either order, from the one or two after it
 
 module _ (s : List Float) (m i : ℕ) where
-  pub step-1 : {x : Float} → i + 1 < m → x ≡ at s (m * 2 + (i + 1))
+  pub step_1 : {x : Float} → i + 1 < m → x ≡ at s (m * 2 + (i + 1))
       → at s (m * 2 + i) ⊘ at s (i * 2 + 1) ⊖ at s (i * 2 + 2) ⊗ x ≡ back_at 1 (of_run 1 s) (λ r. at s (m * 2 + r)) (at s (m * 2 + i) ⊘ of_run 1 s i i) i m
-  step-1 {x} g e =
+  step_1 {x} g e =
       let d : of_run 1 s i i ≡ at s (i * 2 + 1) = ap (at s) (omega arith) in
       let l : of_run 1 s (i + 1) i ≡ at s (i * 2 + 2) = ap (at s) (omega arith) in
       let v = at s (m * 2 + i) ⊘ of_run 1 s i i in
       sym (back_far 1 (of_run 1 s) (λ r. at s (m * 2 + r)) v i m g ∙ less_from_1 v _ (i + 1) (i + 1 + 1) refl ∙ rw (d, l, e))
 
-  pub step-2 : {x1 x2 : Float} → i + 2 < m → x1 ≡ at s (m * 3 + (i + 1)) → x2 ≡ at s (m * 3 + (i + 2))
+  pub step_2 : {x1 x2 : Float} → i + 2 < m → x1 ≡ at s (m * 3 + (i + 1)) → x2 ≡ at s (m * 3 + (i + 2))
       → at s (m * 3 + i) ⊘ at s (i * 3 + 2) ⊖ at s (i * 3 + 4) ⊗ x1 ⊖ at s (i * 3 + 6) ⊗ x2
       ≡ back_at 2 (of_run 2 s) (λ r. at s (m * 3 + r)) (at s (m * 3 + i) ⊘ of_run 2 s i i) i m
-  step-2 {x1} {x2} g e1 e2 =
+  step_2 {x1} {x2} g e1 e2 =
       let d : of_run 2 s i i ≡ at s (i * 3 + 2) = ap (at s) (omega arith) in
       let l1 : of_run 2 s (i + 1) i ≡ at s (i * 3 + 4) = ap (at s) (omega arith) in
       let l2 : of_run 2 s (i + 2) i ≡ at s (i * 3 + 6) = ap (at s) (omega arith) in

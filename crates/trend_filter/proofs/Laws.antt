@@ -8,7 +8,7 @@ use native.Mathlib.Omega.{arith}
 use borrow.Author.Tests.{ltb-true, eqb-false}
 use lib.Ieee.{Float}
 use Rattle.float64.proofs.Clash.{clash}
-use Rattle.vectors.proofs.Laws.{kept-none, kept_then}
+use Rattle.vectors.proofs.Laws.{kept_none, kept_then}
 use Rattle.questions.specs.Questions.{Asked, Lent, needs_for, question}
 use Rattle.questions.proofs.Laws.{passed}
 use Rattle.fit.specs.Outputs.{Outputs}
@@ -60,12 +60,12 @@ same_told a (some f) = refl
 
 module _ (a : Asked) (b : Buffers) (w : List Float) where
   -- a refusal: trend, cycle, knots and dual are as found
-  pub answered-refused : (q : ℕ) → Stops a (lent b) b.work w q → Answered a (Refused q) b (record { out = b.out; work = w; marks = b.marks })
+  pub answered_refused : (q : ℕ) → Stops a (lent b) b.work w q → Answered a (Refused q) b (record { out = b.out; work = w; marks = b.marks })
   unfolding answer_of after early
-  answered-refused q s = record {
+  answered_refused q s = record {
     gives = subst (λ (o : Outcome). Gives o (Refused q) b.out b.out) (sym s.refuses) (record { answer = refl; out = refl });
     unused = λ e. (s.unused (sym (ap early s.refuses) ∙ e), refl);
-    scratch = record { work = kept_wide 0 (needs_for a).work s.kept (omega arith) (omega (arith, work_fits a)); marks = kept-none 0 (needs_for a).marks b.marks };
+    scratch = record { work = kept_wide 0 (needs_for a).work s.kept (omega arith) (omega (arith, work_fits a)); marks = kept_none 0 (needs_for a).marks b.marks };
     sizes = lengths a (lent b);
     bounds = bounds a (lent b);
   }

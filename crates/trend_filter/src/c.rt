@@ -37,8 +37,7 @@ fn tell(numbers: &mut [f64; 5], counts: &mut [u64; 5], a: Answer) -> u32
 }
 
 // numbers are lam_max, gap, first gap, best gap and objective; counts are knots, n_iter, improvements, converged (0 or 1) and the reason (0 to 4).
-#[unsafe(no_mangle)]
-pub extern "C" fn trend_filter_fit(
+pub fn trend_filter_fit(
     y: &[f64],
     lam: f64,
     tol: f64,
@@ -70,8 +69,7 @@ pub extern "C" fn trend_filter_fit(
 }
 
 // What a fit of n places needs: work places, marks places and the most steps.
-#[unsafe(no_mangle)]
-pub extern "C" fn trend_filter_needs(
+pub fn trend_filter_needs(
     n: u64,
     max_iter: u64,
     order: u32,
@@ -90,8 +88,7 @@ pub extern "C" fn trend_filter_needs(
 }
 
 // The first places of list become the places at which the trend passes the level; found is how many there are.
-#[unsafe(no_mangle)]
-pub extern "C" fn trend_filter_crossings(
+pub fn trend_filter_crossings(
     level: f64,
     trend: &[f64],
     list: &mut [u32],
@@ -109,8 +106,7 @@ pub extern "C" fn trend_filter_crossings(
 }
 
 // The knot nearest a place of the trend: found is 1 and the knot, or 0 and 0 where there is none.
-#[unsafe(no_mangle)]
-pub extern "C" fn trend_filter_nearest_knot(
+pub fn trend_filter_nearest_knot(
     place: u64,
     trend: &[f64],
     knots: &[u32],

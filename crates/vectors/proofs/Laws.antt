@@ -84,11 +84,11 @@ module _ {A : Type 0} {z : A} where
       (λ i l. let m : i < n = omega (arith, length-take-le n v h) in get_or-take n v i z m ∙ w.inside i (omega arith) m ∙ sym (get_d_list z n f i m))
 
   -- what is left alone
-  pub written-kept : {lo n : ℕ} {f : ℕ → A} {s₀ s : List A} → WrittenOf z lo (lo + n) f s₀ s → KeptOf z lo n s₀ s
-  written-kept w = record { size = w.size; below = w.below; above = w.above }
+  pub written_kept : {lo n : ℕ} {f : ℕ → A} {s₀ s : List A} → WrittenOf z lo (lo + n) f s₀ s → KeptOf z lo n s₀ s
+  written_kept w = record { size = w.size; below = w.below; above = w.above }
 
-  pub kept-none : (a n : ℕ) (s : List A) → KeptOf z a n s s
-  kept-none a n s = record { size = refl; below = λ j h. refl; above = λ j h. refl }
+  pub kept_none : (a n : ℕ) (s : List A) → KeptOf z a n s s
+  kept_none a n s = record { size = refl; below = λ j h. refl; above = λ j h. refl }
 
   -- one change after another, both within the n places from b on
   pub kept_then : {a n a' n' : ℕ} {s₀ s s' : List A} (b k : ℕ) → KeptOf z a n s₀ s → KeptOf z a' n' s s' → b ≤ a → b ≤ a' → a + n ≤ b + k → a' + n' ≤ b + k → KeptOf z b k s₀ s'

@@ -13,7 +13,7 @@ use Rattle.vectors.specs.Vec.{places_to}
 use Rattle.vectors.specs.Parts.{Wrote}
 use Rattle.vectors.specs.Rising.{Rising, Among}
 use Rattle.vectors.proofs.Texts.{wrote_then}
-use Rattle.vectors.proofs.Rising.{rising_none, rising_within, rising-more}
+use Rattle.vectors.proofs.Rising.{rising_none, rising_within, rising_more}
 
 one_length : (b : Bool) (n : ℕ) → length (cond b (n ∷ []) []) ≡ cond b 1 0
 one_length true n = refl
@@ -24,7 +24,7 @@ one_le true = omega arith
 one_le false = omega arith
 
 rising_if : (l : List ℕ) (n : ℕ) → Rising n l → (b : Bool) → Rising (suc n) (l ++ cond b (n ∷ []) [])
-rising_if l n r true = rising-more n l r
+rising_if l n r true = rising_more n l r
 rising_if l n r false = rw (append-nil l) (rising_within r (omega arith))
 
 -- a number of the list, or the last one
@@ -52,31 +52,31 @@ module _ (p : ℕ → Bool) where
   unfolding places_to
   places_count n = length-append (places_to p n) (cond (p n) (n ∷ []) []) ∙ ap (λ (x : ℕ). length (places_to p n) + x) (one_length (p n) n)
 
-  pub places-few : (n : ℕ) → length (places_to p n) ≤ n
+  pub places_few : (n : ℕ) → length (places_to p n) ≤ n
   unfolding places_to
-  places-few zero = omega arith
-  places-few (suc n) = omega (arith, places_count n, places-few n, one_le (p n))
+  places_few zero = omega arith
+  places_few (suc n) = omega (arith, places_count n, places_few n, one_le (p n))
 
   -- they rise strictly
-  pub places-rising : (n : ℕ) → Rising n (places_to p n)
+  pub places_rising : (n : ℕ) → Rising n (places_to p n)
   unfolding places_to
-  places-rising zero = rising_none 0
-  places-rising (suc n) = rising_if (places_to p n) n (places-rising n) (p n)
+  places_rising zero = rising_none 0
+  places_rising (suc n) = rising_if (places_to p n) n (places_rising n) (p n)
 
   -- of each of them it holds
-  pub places-hold : (n j : ℕ) → j < length (places_to p n) → p (get_or (places_to p n) j 0) ≡ true
+  pub places_hold : (n j : ℕ) → j < length (places_to p n) → p (get_or (places_to p n) j 0) ≡ true
   unfolding places_to
-  places-hold zero j h = absurd (omega arith)
-  places-hold (suc n) j h = holds_if p (places_to p n) n (p n) refl (places-hold n) j h
+  places_hold zero j h = absurd (omega arith)
+  places_hold (suc n) j h = holds_if p (places_to p n) n (p n) refl (places_hold n) j h
 
   -- each of which it holds is one of them
-  pub places-all : (n i : ℕ) → i < n → p i ≡ true → Among i (places_to p n)
+  pub places_all : (n i : ℕ) → i < n → p i ≡ true → Among i (places_to p n)
   unfolding places_to
-  places-all zero i h e = absurd (omega arith)
-  places-all (suc n) i h e =
+  places_all zero i h e = absurd (omega arith)
+  places_all (suc n) i h e =
       ⊎_elim
       (λ (q : i ≡ n). rw (q, rw q at e) (among_last (places_to p n) n))
-      (λ (q : i < n). among_old (places_to p n) (cond (p n) (n ∷ []) []) (places-all n i q e))
+      (λ (q : i < n). among_old (places_to p n) (cond (p n) (n ∷ []) []) (places_all n i q e))
       (eq-or-lt_of_le (le_of_suc-le-suc h))
 
   -- one more place looked at: x, written where b holds

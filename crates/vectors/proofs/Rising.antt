@@ -40,15 +40,15 @@ module _ (n : ℕ) (l : List ℕ) where
   new : (i : ℕ) → i ≡ length l → get_or (l ++ (n ∷ [])) i 0 ≡ n
   new i e = get_or_at l n [] 0 i (sym e)
 
-  last-or-old : (i : ℕ) → i < length (l ++ (n ∷ [])) → (i ≡ length l) ⊎ (i < length l)
-  last-or-old i h = eq-or-lt_of_le (omega (arith, size))
+  last_or_old : (i : ℕ) → i < length (l ++ (n ∷ [])) → (i ≡ length l) ⊎ (i < length l)
+  last_or_old i h = eq-or-lt_of_le (omega (arith, size))
 
-  pub rising-more : Rising n l → Rising (suc n) (l ++ (n ∷ []))
-  rising-more r = record {
-    below = λ i h. ⊎_elim (λ e. omega (arith, new i e)) (λ g. omega (arith, old i g, r.below i g)) (last-or-old i h);
+  pub rising_more : Rising n l → Rising (suc n) (l ++ (n ∷ []))
+  rising_more r = record {
+    below = λ i h. ⊎_elim (λ e. omega (arith, new i e)) (λ g. omega (arith, old i g, r.below i g)) (last_or_old i h);
     strictly = λ i j h g.
         let f : i < length l = omega (arith, size) in
-        ⊎_elim (λ e. omega (arith, new j e, old i f, r.below i f)) (λ q. omega (arith, old j q, old i f, r.strictly i j h q)) (last-or-old j g);
+        ⊎_elim (λ e. omega (arith, new j e, old i f, r.below i f)) (λ q. omega (arith, old j q, old i f, r.strictly i j h q)) (last_or_old j g);
   }
 
 -- the places ks of ps

@@ -25,24 +25,24 @@ module _ {A : Type 0} where
     text = sym (ap (λ (k : ℕ). take at d ++ [] ++ drop k d) (add-zero at) ∙ ap (λ (r : List A). r ++ drop at d) (append-nil (take at d)) ∙ take-append-drop at d);
   }
 
-  head-length : (d : List A) (at : ℕ) (t : List A) → at ≤ length d → length (take at d ++ t) ≡ at + length t
-  head-length d at t h = length-append (take at d) t ∙ ap (λ (k : ℕ). k + length t) (length-take-le at d h)
+  head_length : (d : List A) (at : ℕ) (t : List A) → at ≤ length d → length (take at d ++ t) ≡ at + length t
+  head_length d at t h = length-append (take at d) t ∙ ap (λ (k : ℕ). k + length t) (length-take-le at d h)
 
-  pub wrote-length : {d : List A} {at : ℕ} {t e : List A} {r : ℕ} → Wrote d at t e r → length e ≡ length d
-  wrote-length {d} {at} {t} {e} {r} w =
+  pub wrote_length : {d : List A} {at : ℕ} {t e : List A} {r : ℕ} → Wrote d at t e r → length e ≡ length d
+  wrote_length {d} {at} {t} {e} {r} w =
       let h : at + length t ≤ length d = omega (arith, w.next, w.room) in
       ap length w.text
       ∙ length-append (take at d ++ t) (drop (at + length t) d)
-      ∙ ap₂ (λ (x y : ℕ). x + y) (head-length d at t (omega arith)) (length-drop (at + length t) d)
+      ∙ ap₂ (λ (x y : ℕ). x + y) (head_length d at t (omega arith)) (length-drop (at + length t) d)
       ∙ omega arith
 
   pub wrote_then : {d : List A} {at : ℕ} {t e : List A} {m : ℕ} {u f : List A} {r : ℕ} → Wrote d at t e m → Wrote e m u f r → Wrote d at (t ++ u) f r
   wrote_then {d} {at} {t} {e} {m} {u} {f} {r} v w =
-      let le : length e ≡ length d = wrote-length v in
+      let le : length e ≡ length d = wrote_length v in
       let lt : length (t ++ u) ≡ length t + length u = length-append t u in
       let hd : at ≤ length d = omega (arith, v.next, v.room) in
       let nx : r ≡ at + length (t ++ u) = omega (arith, v.next, w.next) in
-      let hm : length (take at d ++ t) ≡ m = head-length d at t hd ∙ sym v.next in
+      let hm : length (take at d ++ t) ≡ m = head_length d at t hd ∙ sym v.next in
       let fr : take m e ≡ take at d ++ t = ap (take m) v.text ∙ take_at (take at d ++ t) (drop (at + length t) d) m hm in
       let bk : drop m e ≡ drop m d = ap (drop m) v.text ∙ drop_at (take at d ++ t) (drop (at + length t) d) m hm ∙ ap (λ (k : ℕ). drop k d) (sym v.next) in
       let en : drop (m + length u) e ≡ drop (at + length (t ++ u)) d =
@@ -105,7 +105,7 @@ put-fits v₀ t p = omega (arith, ap length p, length-append t (drop (0 + length
 pub put_start : (n : ℕ) (v₀ t v : List Float) → v ≡ put v₀ 0 t → length t ≡ n → n ≤ length v₀ → (part 0 n v ≡ t) × Kept 0 n v₀ v
 put_start n v₀ t v e size fits =
     let w : Wrote v₀ 0 t v n = record { next = omega arith; room = fits; text = e } in
-    let l = wrote-length w in
+    let l = wrote_length w in
     (sym (first_part n v (omega arith)) ∙ (wrote_take w).0, kept_drop nan n v₀ v l (wrote_take w).1)
 
 pub start_put : (n : ℕ) (v₀ t v : List Float) → part 0 n v ≡ t → Kept 0 n v₀ v → n ≤ length v₀ → v ≡ put v₀ 0 t

@@ -14,7 +14,7 @@ use Rattle.float64.proofs.Clash.{impossible}
 use Rattle.io.specs.Counts.{IsPrefixLen}
 use Rattle.vectors.specs.Vec.{put}
 use Rattle.vectors.specs.Parts.{Wrote}
-use Rattle.vectors.proofs.Texts.{wrote-length, take_put, put-fits}
+use Rattle.vectors.proofs.Texts.{wrote_length, take_put, put-fits}
 use Rattle.records.specs.Entries.{Slot, Entry, slot, frames, settings, correction, count_settings, hours_of}
 use Rattle.records.specs.Corrections.{week_of, named}
 use Rattle.records.specs.Rates.{rated}
@@ -41,7 +41,7 @@ use Rattle.week.specs.Week.{asked_by, week_lent, listing_of, outcome_text, fit_t
 -- what lending the written part asks
 pub wrote_counts : {d t e : List ℕ} {at r : ℕ} → Wrote d at t e r → IsPrefixLen r e
 wrote_counts {d} {t} {e} {at} {r} w =
-    let h : r ≤ length e = omega (arith, wrote-length w, w.room) in
+    let h : r ≤ length e = omega (arith, wrote_length w, w.room) in
     (h, sym (length-take-le r e h))
 
 -- a week that is taken has at most 168 hours
@@ -161,12 +161,9 @@ pub fits-lent : (st : Settings) (y : List Float) (l : Lent) {r : Answer} {b : Ou
 fits-lent st y l {r} {b} {t} {c} {d} {k} h g = record { before = b; dual = d; gives = subst (λ (x : Lent). Gives (fit (asked_by st y) x) r b (outputs t c k d)) (sym g) h }
 
 module _ {st : Settings} {y : List Float} {r : Answer} {t c : List Float} {k : List ℕ} (f : Fitted st y r t c k) where
-  pub fit-listed : {s : Summary} (ps : List ℕ) → length ps ≡ length y → r ≡ fits.Fit s → Listed st y ps s t c k
-  fit-listed {s} ps n e = was_fit st y ps (fit (asked_by st y) week_lent) f.before n refl e f.gives
+  pub fit_listed : {s : Summary} (ps : List ℕ) → length ps ≡ length y → r ≡ fits.Fit s → Listed st y ps s t c k
+  fit_listed {s} ps n e = was_fit st y ps (fit (asked_by st y) week_lent) f.before n refl e f.gives
 
   pub fit_refused : {j : ℕ} (ps : List ℕ) → r ≡ fits.Refused j → fit_text st y ps ≡ refused_line j
   unfolding fit_text
   fit_refused ps e = was_no_fit (asked_by st y) ps (fit (asked_by st y) week_lent) (sym e ∙ f.gives.answer)
-
-pub lent_is : {t c k d w m : ℕ} → 168 ≡ t → 168 ≡ c → 168 ≡ k → 168 ≡ d → 6720 ≡ w → 336 ≡ m → week_lent ≡ record { trend = t; cycle = c; knots = k; dual = d; work = w; marks = m }
-lent_is et ec ek ed ew em = rw (sym et, sym ec, sym ek, sym ed, sym ew, sym em)

@@ -3,8 +3,8 @@ use mathlib.Core.Path.{◌≡◌}
 use native.Mathlib.Omega.{arith}
 use lib.ListN.{length, length-set}
 use Rattle.vectors.proofs.Places.{one_le}
-use Rattle.active_set.proofs.Laws.{marks_none, marks-more, marks-kept}
-use Rattle.vectors.proofs.Laws.{kept-none}
+use Rattle.active_set.proofs.Laws.{marks_none, marks_more, marks_kept}
+use Rattle.vectors.proofs.Laws.{kept_none}
 use Rattle.dual_point.specs.Places.{point}
 use Rattle.vectors.specs.Vec.{KeptOf}
 use Rattle.active_set.specs.Marks.{hold_of, Marks}
@@ -13,34 +13,34 @@ use Prim.Native.Nat.{◌≤◌, ◌<◌, ◌-◌, ◌+◌}
 use Rattle.active_set.proofs.mark.Statement.{statement}
 use Rattle.active_set.proofs.mark.Tie as tie
 
-abbrev invariant-loop : tie.invariant-loop
+abbrev invariant-loop : tie.invariant-loop-i
 invariant-loop s marks₀ lam n m q₀ i₀ marks q i = (i ≤ m) × (q ≤ i) × Marks (hold_at lam (point n m s)) n i marks q × KeptOf 0 0 (n + i) marks₀ marks
 
-abbrev decreases-loop : tie.decreases-loop
+abbrev decreases-loop : tie.decreases-loop-i
 decreases-loop s marks₀ lam n m q₀ i₀ marks q i = m - i
 
-loop-holds : tie.Need-loop-init invariant-loop decreases-loop
-loop-holds c = (search rules, search rules, marks_none _ _ _, kept-none _ _ _)
+loop-holds : tie.Need-loop-i-init invariant-loop decreases-loop
+loop-holds c = (search rules, search rules, marks_none _ _ _, kept_none _ _ _)
 
-slice-write-marks-2 : tie.Need-slice-write-marks-2 invariant-loop decreases-loop
-slice-write-marks-2 c = let l = c.before.before.loop in
+slice-write-marks-2 : tie.Need-bounds-marks-q invariant-loop decreases-loop
+slice-write-marks-2 c = let l = c.before.before.loop-i in
     let e : l.q < length l.marks = omega arith in
     simp length-set e
 
-add-q : tie.Need-overflow-add-q invariant-loop decreases-loop
-add-q c = omega (arith, c.one-if-free.ensures, one_le (is_free (hold_of c.before.mark-at.result)))
+add-q : tie.Need-overflow_add-q invariant-loop decreases-loop
+add-q c = omega (arith, c.one_if_free-q.ensures, one_le (is_free (hold_of c.before.mark_at-h.result)))
 
-loop-again : tie.Need-loop-preserved invariant-loop decreases-loop
-loop-again c = let l = c.before.before.before.loop in
+loop-again : tie.Need-loop-i-preserved invariant-loop decreases-loop
+loop-again c = let l = c.before.before.before.loop-i in
     let w = l.invariant.2 in (
       search rules,
-      omega (arith, c.one-if-free.ensures, one_le (is_free (hold_of c.before.mark-at.result))),
-      marks-more w (omega arith) (omega arith) c.before.mark-at.ensures _ c.one-if-free.ensures,
-      marks-kept w (omega arith) (omega arith) c.before.mark-at.ensures l.invariant.3,
+      omega (arith, c.one_if_free-q.ensures, one_le (is_free (hold_of c.before.mark_at-h.result))),
+      marks_more w (omega arith) (omega arith) c.before.mark_at-h.ensures _ c.one_if_free-q.ensures,
+      marks_kept w (omega arith) (omega arith) c.before.mark_at-h.ensures l.invariant.3,
     )
 
 returns : tie.Need-returns invariant-loop decreases-loop
-returns c = let l = c.before.loop in
+returns c = let l = c.before.loop-i in
     let e : l.i ≡ c.before.before.before.before.args.m = omega arith in
     (rw e at l.invariant.2, rw e at l.invariant.3)
 

@@ -5,5 +5,7 @@ use Rattle.certify.proofs.primal_of.Tie as tie
 returns : tie.Need-returns
 returns c = refl
 
-pub primal-of-spec : {M : Type 1} → statement M
-primal-of-spec = tie.close (tie.spec returns)
+pub primal_of_spec : {M : Type 1} → statement M
+primal_of_spec =
+    tie.close
+    (tie.spec returns)

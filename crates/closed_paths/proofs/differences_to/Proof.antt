@@ -29,8 +29,8 @@ returns c = let cp = c.before.before in
     let h = put_start m c₀ (diff_k a.k y) _ put-at (length-diff_k a.k y) (omega arith) in
     record { known = first_part m _ (omega (arith, h.1.size)) ∙ h.0; kept = kept_wide 0 n h.1 (omega arith) (omega arith) }
 
-pub differences-to-spec : {M : Type 1} → statement M
-differences-to-spec =
+pub differences_to_spec : {M : Type 1} → statement M
+differences_to_spec =
     tie.close
     (tie.spec (λ c. search rules) (λ c. search rules) (λ c. search rules) (λ c. search rules) (λ c. search rules)
     (λ c. search rules) (λ c. search rules) (λ c κs. search rules) (λ c. search rules) returns)

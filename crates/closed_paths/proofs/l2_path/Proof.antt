@@ -8,7 +8,7 @@ use Prim.Native.Nat.{ℕ, ◌+◌, ◌-◌, ◌*◌}
 use native.Mathlib.Omega.{arith}
 use lib.ListN.{length, take, drop}
 use lib.Ieee.{Float, nan}
-use Rattle.vectors.proofs.Laws.{kept-none}
+use Rattle.vectors.proofs.Laws.{kept_none}
 use Rattle.vectors.proofs.Parts.{put_back, length_part, range_part, part-size, kept_put}
 use Rattle.vectors.proofs.Texts.{put_start}
 use Rattle.differences.specs.Diff.{diff_k}
@@ -19,20 +19,20 @@ use Rattle.l2.proofs.Scaled.{length-scaled}
 use Rattle.questions.specs.Asking.{asking}
 use Rattle.fit.specs.Fit.{closed}
 use Rattle.closed_paths.specs.Trends.{ridge_area, trend_of, reach, said, reached}
-use Rattle.closed_paths.proofs.Areas.{kept_wide, rows_fit, solution-stands, good_l2, l2_sound, l2_unsound, some_none}
+use Rattle.closed_paths.proofs.Areas.{kept_wide, rows_fit, solution_stands, good_l2, l2_sound, l2_unsound, some_none}
 use Rattle.closed_paths.proofs.l2_path.Statement.{statement}
 use Rattle.closed_paths.proofs.l2_path.Tie as tie
 
-mul-a : tie.Need-overflow-mul-a
+mul-a : tie.Need-overflow_mul-a
 mul-a c = let st = c.before.before.before in
     let p = st.requires.0.series in
     omega (arith, rows_fit st.args.k (length st.args.y.now) p.order.high, p.short)
 
-sub-a : tie.Need-overflow-sub-a
+sub-a : tie.Need-overflow_sub-a
 sub-a c = let st = c.before.before.before in
     omega (arith, rows_fit st.args.k (length st.args.y.now) st.requires.0.series.order.high)
 
-solve-l2-requires : tie.Need-solve-l2-requires
+solve-l2-requires : tie.Need-solve_l2-requires
 solve-l2-requires c κs = let st = c.before.before.before.before in
     let n = length st.args.y.now in
     let w = st.args.work.now in
@@ -43,7 +43,7 @@ solve-l2-requires c κs = let st = c.before.before.before.before in
     let q : length (take (9 * n - a) (drop a w)) ≡ 9 * n - a = part-size a (9 * n - a) w (take (9 * n - a) (drop a w)) (omega arith) refl in
     (p, omega arith)
 
-returns : tie.Need-returns
+returns : tie.Need-returns-then-not-solve_l2
 unfolding said reached
 returns c = let sl = c.before.before.before in
     let st = sl.before.before.before.before.before in
@@ -52,23 +52,23 @@ returns c = let sl = c.before.before.before in
     let k = g.k in
     let n = length y in
     let w = g.work.now in
-    let x = sl.solve-l2.new.0 in
+    let x = sl.solve_l2.new.s in
     let f = rows_fit k n st.requires.0.series.order.high in
     let r = st.requires.0.work in
     let a = 8 * n - n * (k + 1) in
-    let size : length x ≡ 9 * n - a = part-size a (9 * n - a) w x (omega arith) sl.solve-l2.auto.0 in
+    let size : length x ≡ 9 * n - a = part-size a (9 * n - a) w x (omega arith) sl.solve_l2.auto.s in
     let made = kept_put a (9 * n - a) w x (omega arith) size nan in
     λ tol m p c'. record {
-      says = l2_unsound (asking y g.lam tol m k p) (sym sl.solve-l2.ensures.sound ∙ not-true _ c.if1.true);
+      says = l2_unsound (asking y g.lam tol m k p) (sym sl.solve_l2.ensures.sound ∙ c.if-not-solve_l2.true);
       stands = omega arith;
       lost = λ e. (refl, refl);
-      changed = record { work = kept_wide (preparation n) (ridge_area n) made (omega arith) (omega arith); cycle = kept-none 0 n c'; dual = kept-none 0 (n - k) g.dual.now };
+      changed = record { work = kept_wide (preparation n) (ridge_area n) made (omega arith) (omega arith); cycle = kept_none 0 n c'; dual = kept_none 0 (n - k) g.dual.now };
     }
 
-returns-2 : tie.Need-returns-2
+returns-2 : tie.Need-returns
 unfolding said reached reach trend_of
 returns-2 c = let ob = c.before.before.before in
-    let el = ob.before.before.before.before in
+    let el = ob.before.before.before in
     let sl = el.before.before.before in
     let st = sl.before.before.before.before.before in
     let g = st.args in
@@ -76,36 +76,36 @@ returns-2 c = let ob = c.before.before.before in
     let k = g.k in
     let n = length y in
     let w₀ = g.work.now in
-    let x = sl.solve-l2.new.0 in
+    let x = sl.solve_l2.new.s in
     let h = rows_fit k n st.requires.0.series.order.high in
     let r = st.requires.0.work in
     let a = 8 * n - n * (k + 1) in
     let b = 8 * n in
     let e = 9 * n in
-    let yes : sl.solve-l2.result ≡ true = not-false _ el.if1.false in
-    let size : length x ≡ e - a = part-size a (e - a) w₀ x (omega arith) sl.solve-l2.auto.0 in
+    let yes : sl.solve_l2.result ≡ true = el.if-not-solve_l2.false in
+    let size : length x ≡ e - a = part-size a (e - a) w₀ x (omega arith) sl.solve_l2.auto.s in
     let made = kept_put a (e - a) w₀ x (omega arith) size nan in
-    let held = solution-stands k y g.lam w₀ x sl.solve-l2.result a e (omega arith) (omega arith) (omega arith) size sl.solve-l2.ensures yes in
+    let held = solution_stands k y g.lam w₀ x sl.solve_l2.result a e (omega arith) (omega arith) (omega arith) size sl.solve_l2.ensures yes in
     let w = put_back a (e - a) w₀ x in
     let t = trend_l2 k y g.lam in
     let d₀ = g.dual.now in
-    let d = ob.objectives.new.0 in
+    let d = ob.objectives-o.new.dual in
     let long : length t ≡ n = sym (ap length held) ∙ length_part b n w in
-    let ended = subst (λ (v : List Float). Ended k y g.lam v d₀ d ob.objectives.result) (range_part b e n w (omega arith) (omega (arith, made.size)) ∙ held) ob.objectives.ensures in
+    let ended = subst (λ (v : List Float). Ended k y g.lam v d₀ d ob.objectives-o.result) (range_part b e n w (omega arith) (omega (arith, made.size)) ∙ held) ob.objectives-o.ensures in
     let dual = put_start (n - k) d₀ (scaled g.lam (diff_k k t)) d ended.dual (length-scaled g.lam k t ∙ ap (λ (q : ℕ). q - k) long) st.requires.1 in
-    rw c.closed.ensures
+    rw c.closed-s.ensures
     (λ tol m p c'.
     let a = asking y g.lam tol m k p in
-    let q = l2_sound a (sym sl.solve-l2.ensures.sound ∙ yes) in
+    let q = l2_sound a (sym sl.solve_l2.ensures.sound ∙ yes) in
     record {
       says = (λ i. some (record { trend = held i; dual = dual.0 i; numbers = closed (ended.gap i) (ended.objective i) })) ∙ q;
       stands = omega (arith, made.size);
       lost = λ z. absurd (some_none (good_l2 a) (q ∙ z));
-      changed = record { work = kept_wide (preparation n) (ridge_area n) made (omega arith) (omega arith); cycle = kept-none 0 n c'; dual = dual.1 };
+      changed = record { work = kept_wide (preparation n) (ridge_area n) made (omega arith) (omega arith); cycle = kept_none 0 n c'; dual = dual.1 };
     })
 
-pub l2-path-spec : {M : Type 1} → statement M
-l2-path-spec =
+pub l2_path_spec : {M : Type 1} → statement M
+l2_path_spec =
     tie.close
     (tie.spec (λ c. search rules) (λ c. search rules) mul-a sub-a (λ c. search rules) (λ c. search rules)
     (λ c. search rules) (λ c. search rules) (λ c. search rules) solve-l2-requires (λ c. search rules) returns

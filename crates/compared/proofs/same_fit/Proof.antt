@@ -8,10 +8,10 @@ unfolding same_fit
 returns c = let b = c.before in
     let p = b.before in
     let n = p.before in
-    rw (c.both2.ensures, b.both.ensures, p.same-places.ensures, n.same-summary.ensures, n.before.word.ensures)
+    rw (c.both-2.ensures, b.both.ensures, p.same_places-p.ensures, n.same_summary-n.ensures, n.before.word-w.ensures)
 
-pub same-fit-spec : {M : Type 1} → statement M
-same-fit-spec =
+pub same_fit_spec : {M : Type 1} → statement M
+same_fit_spec =
     tie.close
     (tie.spec (λ c κs. search rules) (λ c. search rules) (λ c κs. search rules) (λ c. search rules) (λ c κs. search rules)
     (λ c κs. search rules) (λ c κs. search rules) returns)

@@ -9,10 +9,10 @@ unfolding same_summary same_to
 returns c = let k = c.before in
     let d = k.before.before in
     let b = d.before.before in
-    rw (c.both.ensures, k.same-counts.ensures, d.same-doubles.ensures, b.one-if.ensures, b.before.number.ensures)
+    rw (c.both.ensures, k.same_counts-c.ensures, d.same_doubles-d.ensures, b.one_if-b.ensures, b.before.number-r.ensures)
 
-pub same-summary-spec : {M : Type 1} → statement M
-same-summary-spec =
+pub same_summary_spec : {M : Type 1} → statement M
+same_summary_spec =
     tie.close
-    (tie.spec (λ c κs. search rules) (λ c κs. search rules) (λ c. search rules) (λ c κs. search rules) (λ c. search rules) (λ c. search rules)
-    (λ c κs. search rules) (λ c κs. search rules) returns)
+    (tie.spec (λ c κs. search rules) (λ c κs. search rules) (λ c. search rules) (λ c κs. search rules) (λ c. search rules)
+    (λ c. search rules) (λ c κs. search rules) (λ c κs. search rules) returns)

@@ -12,24 +12,24 @@ use borrow.Author.Rules.{rules}
 use Rattle.decomposition.proofs.greatest.Statement.{statement}
 use Rattle.decomposition.proofs.greatest.Tie as tie
 
-abbrev invariant-loop : tie.invariant-loop
+abbrev invariant-loop : tie.invariant-loop-i
 invariant-loop y k m a₀ b₀ i₀ a b i = (i ≤ m) × ((a ≡ max_to (λ j. abs_of (at (diff_k k y) j)) i) × (b ≡ max_to (λ j. abs_of (at y j)) i))
 
-abbrev decreases-loop : tie.decreases-loop
+abbrev decreases-loop : tie.decreases-loop-i
 decreases-loop y k m a₀ b₀ i₀ a b i = m - i
 
-loop-holds : tie.Need-loop-init invariant-loop decreases-loop
+loop-holds : tie.Need-loop-i-init invariant-loop decreases-loop
 unfolding max_to
 loop-holds c = (search rules, (refl, refl))
 
-loop-again : tie.Need-loop-preserved invariant-loop decreases-loop
+loop-again : tie.Need-loop-i-preserved invariant-loop decreases-loop
 loop-again c = let first = c.before.before.before in
     let made = first.before.before in
     let lp = made.before.before in (
       search rules,
       (
-        first.max.ensures ∙ max-more _ _ _ _ lp.loop.invariant.1.0 (first.before.abs.ensures ∙ ap abs_of made.diff-at.ensures),
-        c.max2.ensures ∙ max-more _ _ _ _ lp.loop.invariant.1.1 c.before.abs2.ensures,
+        first.max-a.ensures ∙ max-more _ _ _ _ lp.loop-i.invariant.1.0 (first.before.abs-x.ensures ∙ ap abs_of made.diff_at-d.ensures),
+        c.max-b.ensures ∙ max-more _ _ _ _ lp.loop-i.invariant.1.1 c.before.abs-z.ensures,
       ),
     )
 
@@ -37,12 +37,12 @@ returns : tie.Need-returns invariant-loop decreases-loop
 unfolding max_abs
 returns c = let lp = c.before.before in
     let a = lp.before.before.args in
-    let t : lp.loop.i ≡ length a.y.now - a.k = omega arith in
-    let e : lp.loop.i ≡ length (diff_k a.k a.y.now) = omega (arith, length-diff_k a.k a.y.now) in
-    (rw e at lp.loop.invariant.1.0, c.max-rest.ensures (rw t at lp.loop.invariant.1.1))
+    let t : lp.loop-i.i ≡ length a.y.now - a.k = omega arith in
+    let e : lp.loop-i.i ≡ length (diff_k a.k a.y.now) = omega (arith, length-diff_k a.k a.y.now) in
+    (rw e at lp.loop-i.invariant.1.0, c.max_rest-c.ensures (rw t at lp.loop-i.invariant.1.1))
 
-pub greatest-spec : {M : Type 1} → statement M
-greatest-spec =
+pub greatest_spec : {M : Type 1} → statement M
+greatest_spec =
     tie.close
     (tie.spec invariant-loop decreases-loop (λ c. search rules) loop-holds (λ c κs. search rules) (λ c κs. search rules)
     (λ c κs. search rules) (λ c. search rules) (λ c. search rules) (λ c κs. search rules) (λ c κs. search rules)

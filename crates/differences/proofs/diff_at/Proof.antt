@@ -5,22 +5,22 @@ use borrow.Author.Rules.{rules}
 use Rattle.differences.proofs.diff_at.Statement.{statement}
 use Rattle.differences.proofs.diff_at.Tie as tie
 
-returns : tie.Need-returns
+returns : tie.Need-returns-then-k-eq1
 returns c = let first = c.before.before in
     let a = first.before.args in
-    let e : a.k ≡ 1 = first.if1.true in
+    let e : a.k ≡ 1 = first.if-k-eq1.true in
     rw e (sym (at-diff_1 a.y.now a.i (omega arith)))
 
-returns-2 : tie.Need-returns-2
+returns-2 : tie.Need-returns
 returns-2 c = let second = c.before.before.before.before in
     let a = second.before.args in
     let e : a.k ≡ 2 = omega arith in
     rw e (sym (at-diff_2 a.y.now a.i (omega arith)))
 
-pub diff-at-spec : {M : Type 1} → statement M
-diff-at-spec =
+pub diff_at_spec : {M : Type 1} → statement M
+diff_at_spec =
     tie.close
-    (tie.spec (λ c. search rules) (λ c. search rules) (λ c. search rules) (λ c. search rules) (λ c. search rules)
-    returns (λ c. search rules) (λ c. search rules) (λ c. search rules) (λ c. search rules) (λ c. search rules)
+    (tie.spec (λ c. search rules) (λ c. search rules) (λ c. search rules) (λ c. search rules) (λ c. search rules) returns
+    (λ c. search rules) (λ c. search rules) (λ c. search rules) (λ c. search rules) (λ c. search rules)
     (λ c. search rules) (λ c. search rules) (λ c. search rules) (λ c. search rules) (λ c. search rules)
     (λ c. search rules) returns-2)

@@ -3,11 +3,13 @@ use borrow.Author.Rules.{rules}
 use Rattle.differences.proofs.here.Statement.{statement}
 use Rattle.differences.proofs.here.Tie as tie
 
-returns : tie.Need-returns
-returns c = simp (lt-ltb _ _ c.before.if1.true)
+returns : tie.Need-returns-then-j-m
+returns c = simp (lt-ltb _ _ c.before.if-j-m.true)
 
-returns-2 : tie.Need-returns-2
-returns-2 c = simp (le-ltb _ _ c.if1.false)
+returns-2 : tie.Need-returns-else-j-m
+returns-2 c = simp (le-ltb _ _ c.if-j-m.false)
 
-pub here-spec : {M : Type 1} → statement M
-here-spec = tie.close (tie.spec (λ c. search rules) (λ c. search rules) returns returns-2)
+pub here_spec : {M : Type 1} → statement M
+here_spec =
+    tie.close
+    (tie.spec (λ c. search rules) (λ c. search rules) returns returns-2)

@@ -4,18 +4,20 @@ use Rattle.direction.proofs.Laws.{less_number}
 use Rattle.direction.proofs.cap_of.Statement.{statement}
 use Rattle.direction.proofs.cap_of.Tie as tie
 
-returns : tie.Need-returns
+returns : tie.Need-returns-then-q-step
 unfolding step_cap_by min_of
-returns c = (rw (c.before.if1.true, c.before.before.requires, c.if2.true), less_number _ _ c.if2.true)
+returns c = (rw (c.before.if-dmu.true, c.before.before.requires, c.if-q-step.true), less_number _ _ c.if-q-step.true)
 
-returns-2 : tie.Need-returns-2
+returns-2 : tie.Need-returns-then-dmu
 unfolding step_cap_by min_of
 returns-2 c = let p = c.before.before.requires in
-    (rw (c.before.if1.true, p, c.if2.false), p)
+    (rw (c.before.if-dmu.true, p, c.if-q-step.false), p)
 
-returns-3 : tie.Need-returns-3
+returns-3 : tie.Need-returns
 unfolding step_cap_by
-returns-3 c = (rw c.if1.false, c.before.requires)
+returns-3 c = (rw c.if-dmu.false, c.before.requires)
 
-pub cap-of-spec : {M : Type 1} → statement M
-cap-of-spec = tie.close (tie.spec returns returns-2 returns-3)
+pub cap_of_spec : {M : Type 1} → statement M
+cap_of_spec =
+    tie.close
+    (tie.spec returns returns-2 returns-3)

@@ -7,13 +7,15 @@ use Rattle.elimination.proofs.is_good.Tie as tie
 
 -- what owning an `f64` tells: the format holds it
 held : (c : tie.Start) → T (fits binary64 c.args.x)
-held c = subst T (sym c.well-formed.0.1) tt
+held c = subst T (sym c.well_formed.0.1) tt
 
-returns : tie.Need-returns
-returns c = above_0 c.before.args.x (held c.before) c.if1.true
+returns : tie.Need-returns-then-x
+returns c = above_0 c.before.args.x (held c.before) c.if-x.true
 
-returns-2 : tie.Need-returns-2
-returns-2 c = c.if1.false ∙ sym (not_above_0 c.before.args.x c.if1.false)
+returns-2 : tie.Need-returns-else-x
+returns-2 c = c.if-x.false ∙ sym (not_above_0 c.before.args.x c.if-x.false)
 
-pub is-good-spec : {M : Type 1} → statement M
-is-good-spec = tie.close (tie.spec returns returns-2)
+pub is_good_spec : {M : Type 1} → statement M
+is_good_spec =
+    tie.close
+    (tie.spec returns returns-2)

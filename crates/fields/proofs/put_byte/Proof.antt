@@ -8,5 +8,7 @@ use Rattle.fields.proofs.put_byte.Tie as tie
 returns : tie.Need-returns
 returns c = puts (wrote_one _ _ _ c.requires) (omega arith)
 
-pub put-byte-spec : {M : Type 1} → statement M
-put-byte-spec = tie.close (tie.spec (λ c. search rules) (λ c. search rules) (λ c. search rules) returns)
+pub put_byte_spec : {M : Type 1} → statement M
+put_byte_spec =
+    tie.close
+    (tie.spec (λ c. search rules) (λ c. search rules) (λ c. search rules) returns)

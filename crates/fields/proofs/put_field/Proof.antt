@@ -8,7 +8,9 @@ returns : tie.Need-returns
 unfolding field
 returns c = let b = c.before.before in
     let a = b.before.before.before.before in
-    puts_then a.put_byte.ensures b.put-decimal.ensures
+    puts_then a.put_byte-a.ensures b.put_decimal.ensures
 
-pub put-field-spec : {M : Type 1} → statement M
-put-field-spec = tie.close (tie.spec (λ c κs. search rules) (λ c κs. search rules) (λ c. search rules) returns)
+pub put_field_spec : {M : Type 1} → statement M
+put_field_spec =
+    tie.close
+    (tie.spec (λ c κs. search rules) (λ c κs. search rules) (λ c. search rules) returns)

@@ -8,13 +8,15 @@ use Rattle.float64.proofs.abs.Tie as tie
 
 -- what owning an `f64` tells: the format holds it
 held : (c : tie.Start) → T (fits binary64 c.args.x)
-held c = subst T (sym c.well-formed.0.1) tt
+held c = subst T (sym c.well_formed.0.1) tt
 
-returns : tie.Need-returns
-returns c = abs_kept c.before.args.x (held c.before) c.if1.true
+returns : tie.Need-returns-then-n-x
+returns c = abs_kept c.before.args.x (held c.before) c.if-n-x.true
 
-returns-2 : tie.Need-returns-2
-returns-2 c = abs_turned c.before.args.x (held c.before) c.if1.false
+returns-2 : tie.Need-returns-else-n-x
+returns-2 c = abs_turned c.before.args.x (held c.before) c.if-n-x.false
 
-pub abs-spec : {M : Type 1} → statement M
-abs-spec = tie.close (tie.spec returns returns-2)
+pub abs_spec : {M : Type 1} → statement M
+abs_spec =
+    tie.close
+    (tie.spec returns returns-2)

@@ -3,17 +3,19 @@ use Rattle.float64.specs.Helpers.{clamp_of}
 use Rattle.float64.proofs.clamp.Statement.{statement}
 use Rattle.float64.proofs.clamp.Tie as tie
 
-returns : tie.Need-returns
+returns : tie.Need-returns-then-z-lam
 unfolding clamp_of
-returns c = rw c.if1.true
+returns c = rw c.if-z-lam.true
 
-returns-2 : tie.Need-returns-2
+returns-2 : tie.Need-returns-then-z-lam-2
 unfolding clamp_of
-returns-2 c = rw (c.before.if1.false, c.if2.true)
+returns-2 c = rw (c.before.if-z-lam.false, c.if-z-lam-2.true)
 
-returns-3 : tie.Need-returns-3
+returns-3 : tie.Need-returns-else-z-lam-2
 unfolding clamp_of
-returns-3 c = rw (c.before.if1.false, c.if2.false)
+returns-3 c = rw (c.before.if-z-lam.false, c.if-z-lam-2.false)
 
 pub clamp_spec : {M : Type 1} → statement M
-clamp_spec = tie.close (tie.spec returns returns-2 returns-3)
+clamp_spec =
+    tie.close
+    (tie.spec returns returns-2 returns-3)

@@ -4,14 +4,16 @@ use Rattle.float64.proofs.Helpers.{not_above, above_then, top_no_nan}
 use Rattle.float64.proofs.is_finite.Statement.{statement}
 use Rattle.float64.proofs.is_finite.Tie as tie
 
-float-from-bits-top : tie.Need-float-from-bits-top
+float-from-bits-top : tie.Need-float_from_bits-top
 float-from-bits-top c = top_no_nan
 
-returns : tie.Need-returns
-returns c = above_then c.before.args.x c.if1.true
+returns : tie.Need-returns-then-top-x
+returns c = above_then c.before.args.x c.if-top-x.true
 
-returns-2 : tie.Need-returns-2
-returns-2 c = c.if1.false ∙ sym (not_above c.before.args.x c.if1.false)
+returns-2 : tie.Need-returns-else-top-x
+returns-2 c = c.if-top-x.false ∙ sym (not_above c.before.args.x c.if-top-x.false)
 
-pub is-finite-spec : {M : Type 1} → statement M
-is-finite-spec = tie.close (tie.spec float-from-bits-top returns returns-2)
+pub is_finite_spec : {M : Type 1} → statement M
+is_finite_spec =
+    tie.close
+    (tie.spec float-from-bits-top returns returns-2)

@@ -4,17 +4,19 @@ use Rattle.float64.specs.Helpers.{min_of}
 use Rattle.float64.proofs.min.Statement.{statement}
 use Rattle.float64.proofs.min.Tie as tie
 
-returns : tie.Need-returns
+returns : tie.Need-returns-then-a
 unfolding min_of
-returns c = rw (nan_true c.before.args.a c.if1.true)
+returns c = rw (nan_true c.before.args.a c.if-a.true)
 
-returns-2 : tie.Need-returns-2
+returns-2 : tie.Need-returns-then-b-a
 unfolding min_of
-returns-2 c = rw (nan_false c.before.before.args.a c.before.if1.false, c.if2.true)
+returns-2 c = rw (nan_false c.before.before.args.a c.before.if-a.false, c.if-b-a.true)
 
-returns-3 : tie.Need-returns-3
+returns-3 : tie.Need-returns-else-b-a
 unfolding min_of
-returns-3 c = rw (nan_false c.before.before.args.a c.before.if1.false, c.if2.false)
+returns-3 c = rw (nan_false c.before.before.args.a c.before.if-a.false, c.if-b-a.false)
 
-pub min-spec : {M : Type 1} → statement M
-min-spec = tie.close (tie.spec returns returns-2 returns-3)
+pub min_spec : {M : Type 1} → statement M
+min_spec =
+    tie.close
+    (tie.spec returns returns-2 returns-3)

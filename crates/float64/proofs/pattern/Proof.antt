@@ -10,11 +10,13 @@ nan-shown : to_bits binary64 nan ≡ 0x7ff8_0000_0000_0000
 unfolding to_bits
 nan-shown = refl
 
-float-to-bits-result : tie.Need-float-to-bits-result
-float-to-bits-result c = no_nan c.before.args.x c.if1.false
+float-to-bits-result : tie.Need-float_to_bits-result
+float-to-bits-result c = no_nan c.before.args.x c.if-x.false
 
-returns : tie.Need-returns
-returns c = sym (ap (to_bits binary64) (is_nan_lem c.before.args.x c.if1.true) ∙ nan-shown)
+returns : tie.Need-returns-then-x
+returns c = sym (ap (to_bits binary64) (is_nan_lem c.before.args.x c.if-x.true) ∙ nan-shown)
 
-pub pattern-spec : {M : Type 1} → statement M
-pattern-spec = tie.close (tie.spec float-to-bits-result returns (λ c. search rules))
+pub pattern_spec : {M : Type 1} → statement M
+pattern_spec =
+    tie.close
+    (tie.spec float-to-bits-result returns (λ c. search rules))

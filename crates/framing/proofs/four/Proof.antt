@@ -8,8 +8,8 @@ returns : tie.Need-returns
 returns c = let a = c.before.before.before.args in
     (omega (arith, four_is a.s.now a.at (omega arith)), search rules)
 
-pub four-spec : {M : Type 1} → statement M
-four-spec =
+pub four_spec : {M : Type 1} → statement M
+four_spec =
     tie.close
-    (tie.spec (λ c κs. search rules) (λ c. search rules) (λ c κs. search rules) (λ c. search rules)
-    (λ c. search rules) returns)
+    (tie.spec (λ c κs. search rules) (λ c. search rules) (λ c κs. search rules) (λ c. search rules) (λ c. search rules)
+    returns)

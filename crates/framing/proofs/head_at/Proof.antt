@@ -4,37 +4,37 @@ use borrow.Author.Rules.{rules}
 use Rattle.framing.proofs.head_at.Statement.{statement}
 use Rattle.framing.proofs.head_at.Tie as tie
 
-returns : tie.Need-returns
+returns : tie.Need-returns-then-s-at
 unfolding head_at
-returns c = simp (le-leb _ _ c.if1.true)
+returns c = simp (le-leb _ _ c.if-s-at.true)
 
-returns-2 : tie.Need-returns-2
+returns-2 : tie.Need-returns-then-left-lt4
 unfolding head_at
-returns-2 c = simp (lt-leb _ _ c.before.if1.false, lt-ltb _ _ c.if2.true)
+returns-2 c = simp (lt-leb _ _ c.before.if-s-at.false, lt-ltb _ _ c.if-left-lt4.true)
 
-returns-3 : tie.Need-returns-3
+returns-3 : tie.Need-returns-then-len-lt2
 unfolding head_at
 returns-3 c = let w = c.before in
     let e = w.before in
-    simp (lt-leb _ _ e.before.if1.false, le-ltb _ _ e.if2.false, lt-ltb _ _ (rw w.two.ensures.0 at c.if3.true))
+    simp (lt-leb _ _ e.before.if-s-at.false, le-ltb _ _ e.if-left-lt4.false, lt-ltb _ _ (rw w.two-len.ensures.0 at c.if-len-lt2.true))
 
-returns-4 : tie.Need-returns-4
+returns-4 : tie.Need-returns-then-left-size
 unfolding head_at
 returns-4 c = let w = c.before.before in
     let e = w.before in
-    let l = w.two.ensures.0 in
-    simp (lt-leb _ _ e.before.if1.false, le-ltb _ _ e.if2.false, le-ltb _ _ (rw l at c.before.if3.false), lt-ltb _ _ (rw l at c.if4.true))
+    let l = w.two-len.ensures.0 in
+    simp (lt-leb _ _ e.before.if-s-at.false, le-ltb _ _ e.if-left-lt4.false, le-ltb _ _ (rw l at c.before.if-len-lt2.false), lt-ltb _ _ (rw l at c.if-left-size.true))
 
-returns-5 : tie.Need-returns-5
+returns-5 : tie.Need-returns
 unfolding head_at
 returns-5 c = let f = c.before in
     let w = f.before.before in
     let e = w.before in
-    let l = w.two.ensures.0 in
-    rw (c.two2.ensures.0, l) (simp (lt-leb _ _ e.before.if1.false, le-ltb _ _ e.if2.false, le-ltb _ _ (rw l at f.before.if3.false), le-ltb _ _ (rw l at f.if4.false)))
+    let l = w.two-len.ensures.0 in
+    rw (c.two.ensures.0, l) (simp (lt-leb _ _ e.before.if-s-at.false, le-ltb _ _ e.if-left-lt4.false, le-ltb _ _ (rw l at f.before.if-len-lt2.false), le-ltb _ _ (rw l at f.if-left-size.false)))
 
-pub head-at-spec : {M : Type 1} → statement M
-head-at-spec =
+pub head_at_spec : {M : Type 1} → statement M
+head_at_spec =
     tie.close
     (tie.spec returns (λ c. search rules) returns-2 (λ c κs. search rules) returns-3 (λ c. search rules) returns-4
     (λ c. search rules) (λ c κs. search rules) (λ c. search rules) (λ c. search rules) returns-5)

@@ -10,4 +10,6 @@ returns c = let a = c.before.before.before.args in
     c.small.ensures ∙ one_is a.s.now a.at (omega arith)
 
 pub one_spec : {M : Type 1} → statement M
-one_spec = tie.close (tie.spec (λ c. search rules) (λ c κs. search rules) returns)
+one_spec =
+    tie.close
+    (tie.spec (λ c. search rules) (λ c κs. search rules) returns)

@@ -8,18 +8,18 @@ use borrow.Author.Rules.{rules}
 use Rattle.gram.proofs.gram_at.Statement.{statement}
 use Rattle.gram.proofs.gram_at.Tie as tie
 
-returns : tie.Need-returns
+returns : tie.Need-returns-then-r-k
 unfolding placed
 returns c = let st = c.before in
     rw (lt-ltb (st.args.r + st.args.c) st.args.k (omega arith))
 
-returns-2 : tie.Need-returns-2
+returns-2 : tie.Need-returns
 unfolding placed gram
 returns-2 c = let a = c.before.args in
     let d : a.r - (a.r + a.c - a.k) ≡ a.k - a.c = omega arith in
     rw (le-ltb (a.r + a.c) a.k (omega arith), d, le-leb (a.k - a.c) a.k (omega arith))
 
-pub gram-at-spec : {M : Type 1} → statement M
-gram-at-spec =
+pub gram_at_spec : {M : Type 1} → statement M
+gram_at_spec =
     tie.close
     (tie.spec (λ c. search rules) returns (λ c. search rules) (λ c. search rules) (λ c. search rules) returns-2)

@@ -6,18 +6,18 @@ use native.Mathlib.Omega.{arith}
 use lib.ListN.{length}
 use Rattle.vectors.proofs.Parts.{part-size}
 use Rattle.gram.specs.Prepared.{diff_lane, preparation}
-use Rattle.gram.proofs.System.{system-fits, system-laid}
+use Rattle.gram.proofs.System.{system-fits, system_laid}
 use Rattle.gram.proofs.lay_system.Statement.{statement}
 use Rattle.gram.proofs.lay_system.Tie as tie
 
-mul-b : tie.Need-overflow-mul-b
+mul-b : tie.Need-overflow_mul-b
 mul-b c = omega (arith, system-fits c.before.before.requires.0)
 
-fill-gram-requires : tie.Need-fill-gram-requires
+fill-gram-requires : tie.Need-fill_gram-requires
 fill-gram-requires c κs = let st = c.before.before.before.before in
     (search rules, omega (arith, system-fits st.requires.0, st.requires.1))
 
-copy-within-requires : tie.Need-copy-within-requires
+copy-within-requires : tie.Need-copy_within-requires
 copy-within-requires c κs = let di = c.before.before.before in
     let fi = di.before.before.before.before in
     let st = fi.before.before.before.before.before in
@@ -34,18 +34,18 @@ returns c = let co = c.before.before in
     let y = st.args.y.now in
     let n = length y in
     let m = n - k in
-    let s = fi.fill-gram.new.0 in
-    let x = di.diff-k.new.0 in
+    let s = fi.fill_gram.new.s in
+    let x = di.diff_k.new.d in
     let e : diff_lane n + m - diff_lane n ≡ m = omega arith in
-    let size = fi.fill-gram.ensures.kept.size in
+    let size = fi.fill_gram.ensures.kept.size in
     let room : preparation n ≤ length s = omega (arith, st.requires.1) in
-    let l = part-size (diff_lane n) m s x (omega arith) (rw e at di.diff-k.auto.0) in
+    let l = part-size (diff_lane n) m s x (omega arith) (rw e at di.diff_k.auto.d) in
     let w = rw e at co.copy_within.ensures in
-    system-laid k y s x st.requires.0 room l (rw e at di.diff-k.ensures) (rw of.gram-offsets.ensures at fi.fill-gram.ensures) w.0 w.1
+    system_laid k y s x st.requires.0 room l (rw e at di.diff_k.ensures) (rw of.gram_offsets-g.ensures at fi.fill_gram.ensures) w.0 w.1
 
-pub lay-system-spec : {M : Type 1} → statement M
-lay-system-spec =
+pub lay_system_spec : {M : Type 1} → statement M
+lay_system_spec =
     tie.close
-    (tie.spec (λ c. search rules) (λ c. search rules) mul-b (λ c κs. search rules) fill-gram-requires (λ c. search rules) (λ c. search rules)
-    (λ c. search rules) (λ c. search rules) (λ c. search rules) (λ c. search rules) (λ c κs. search rules)
-    copy-within-requires (λ c. search rules) returns)
+    (tie.spec (λ c. search rules) (λ c. search rules) mul-b (λ c κs. search rules) fill-gram-requires (λ c. search rules)
+    (λ c. search rules) (λ c. search rules) (λ c. search rules) (λ c. search rules) (λ c. search rules)
+    (λ c κs. search rules) copy-within-requires (λ c. search rules) returns)

@@ -11,20 +11,20 @@ use Rattle.gram.proofs.prepare.Statement.{statement}
 use Rattle.gram.proofs.prepare.Tie as tie
 
 returns : tie.Need-returns
-returns c = let so = c.before.before.before.before.before in
+returns c = let so = c.before.before.before.before in
     let la = so.before.before.before.before in
     let a = la.before.before.before.before.args in
     let k = a.k in
     let n = length a.y.now in
-    let s = so.factor-solve-at.new.0 in
-    let h = la.lay-system.ensures in
-    let q = so.factor-solve-at.ensures in
+    let s = so.factor_solve_at-ok.new.s in
+    let h = la.lay_system.ensures in
+    let q = so.factor_solve_at-ok.ensures in
     let t = range_part (star_lane k n) (star_lane k n + (n - k)) (n - k) s refl (omega (arith, h.ends, h.kept.size, q.kept.size)) in
-    system-solved k a.y.now a.s.now la.lay-system.new.0 s _ h q (c.max-abs.ensures ∙ ap max_abs t)
+    system-solved k a.y.now a.s.now la.lay_system.new.s s _ h q (c.max_abs-top.ensures ∙ ap max_abs t)
 
-pub prepare-spec : {M : Type 1} → statement M
-prepare-spec =
+pub prepare_spec : {M : Type 1} → statement M
+prepare_spec =
     tie.close
-    (tie.spec (λ c κs. search rules) (λ c. search rules) (λ c κs. search rules) (λ c. search rules) (λ c. search rules) (λ c. search rules)
-    (λ c. search rules) (λ c. search rules) (λ c. search rules) (λ c. search rules) (λ c κs. search rules) (λ c. search rules)
-    returns)
+    (tie.spec (λ c κs. search rules) (λ c. search rules) (λ c κs. search rules) (λ c. search rules) (λ c. search rules)
+    (λ c. search rules) (λ c. search rules) (λ c. search rules) (λ c. search rules) (λ c. search rules)
+    (λ c κs. search rules) (λ c. search rules) returns)

@@ -8,8 +8,8 @@ returns : tie.Need-returns
 returns c = let a = c.before.before.before.args in
     product_1 _ a.z.now a.i (omega arith) (omega arith)
 
-pub product1-spec : {M : Type 1} → statement M
-product1-spec =
+pub product1_spec : {M : Type 1} → statement M
+product1_spec =
     tie.close
     (tie.spec (λ c. search rules) (λ c. search rules) (λ c. search rules) (λ c. search rules) (λ c. search rules)
     (λ c. search rules) (λ c. search rules) (λ c. search rules) (λ c. search rules) (λ c. search rules)

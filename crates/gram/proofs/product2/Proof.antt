@@ -8,8 +8,8 @@ returns : tie.Need-returns
 returns c = let a = c.before.before.before.before.before.args in
     product_2 _ a.z.now a.i (omega arith) (omega arith)
 
-pub product2-spec : {M : Type 1} → statement M
-product2-spec =
+pub product2_spec : {M : Type 1} → statement M
+product2_spec =
     tie.close
     (tie.spec (λ c. search rules) (λ c. search rules) (λ c. search rules) (λ c. search rules) (λ c. search rules)
     (λ c. search rules) (λ c. search rules) (λ c. search rules) (λ c. search rules) (λ c. search rules)

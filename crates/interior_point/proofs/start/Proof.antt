@@ -6,19 +6,19 @@ use Rattle.interior_point.proofs.start.Statement.{statement}
 use Rattle.interior_point.proofs.start.Tie as tie
 
 -- the steps back: from the second fill to the first and the call
-abbrev zeroed : tie.After-fill2 → tie.After-fill
+abbrev zeroed : tie.After-fill-2 → tie.After-fill
 zeroed f = f.before.before.before.before
 
 abbrev called : tie.After-fill → tie.Start
 called f = f.before.before.before.before.before.before
 
-certify-l1-requires : tie.Need-certify-l1-requires
+certify-l1-requires : tie.Need-certify_l1-p-requires
 certify-l1-requires c κs = let two = c.before.before.before.before in
     let one = zeroed two in
-    let p = (called one).pre.0 in
-    (record { series = p.series; room = omega (arith, p.room, one.fill.ensures.size, two.fill2.ensures.size); known = p.known }, (called one).pre.1)
+    let p = (called one).requires.0 in
+    (record { series = p.series; room = omega (arith, p.room, one.fill.ensures.size, two.fill-2.ensures.size); known = p.known }, (called one).requires.1)
 
-float-from-bits-t24 : tie.Need-float-from-bits-t24
+float-from-bits-t24 : tie.Need-float_from_bits-result
 unfolding nan_bits
 float-from-bits-t24 c = tt
 
@@ -27,7 +27,7 @@ returns c = let f = c.before.before.before.before.before in
     let two = f.before.before.before.before.before in
     let one = zeroed two in
     let a = (called one).args in
-    started a.k a.y.now a.lam one.fill.ensures two.fill2.ensures f.certify-l1.ensures
+    started a.k a.y.now a.lam one.fill.ensures two.fill-2.ensures f.certify_l1-p.ensures
 
 pub start_spec : {M : Type 1} → statement M
 start_spec =

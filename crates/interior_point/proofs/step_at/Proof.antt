@@ -9,11 +9,11 @@ use Rattle.interior_point.proofs.Places.{step_small, first_places, stepped-at}
 use Rattle.interior_point.proofs.step_at.Statement.{statement}
 use Rattle.interior_point.proofs.step_at.Tie as tie
 
-part-newton-step-end-2 : tie.Need-slice-bounds-newton-step-end-2
+part-newton-step-end-2 : tie.Need-slice_bounds-newton_step-end-2
 part-newton-step-end-2 c = let st = c.before.before.before.before in
     omega (arith, dy_long st.args.k st.args.y.now st.args.dy.now st.requires.known)
 
-newton-step-requires : tie.Need-newton-step-requires
+newton-step-requires : tie.Need-newton_step-requires
 newton-step-requires c κs = let st = c.before.before.before.before.before in
     let a = st.args in
     let n = length a.y.now in
@@ -37,13 +37,14 @@ returns c = let ns = c.before.before in
     let n = length a.y.now in
     let m = n - a.k in
     let s = a.work.now in
-    let w = ns.newton-step in
+    let w = ns.newton_step in
     let small = step_small a.k m n st.requires.series.order.high (omega arith) in
-    stepped-at a.k a.g _ a.lam a.inv_t n (length s) m s w.new.0 w.result (omega arith) (omega arith) (part-size n (length s - n) s w.new.0 (omega arith) w.auto.0)
+    stepped-at a.k a.g _ a.lam a.inv_t n (length s) m s w.new.s w.result (omega arith) (omega arith) (part-size n (length s - n) s w.new.s (omega arith) w.auto.s)
     (rw (first_places m a.dy.now ∙ st.requires.known) at w.ensures)
 
-pub step-at-spec : {M : Type 1} → statement M
-step-at-spec =
+pub step_at_spec : {M : Type 1} → statement M
+step_at_spec =
     tie.close
     (tie.spec (λ c. search rules) (λ c. search rules) (λ c. search rules) (λ c. search rules) (λ c. search rules)
-    (λ c. search rules) (λ c. search rules) part-newton-step-end-2 newton-step-requires (λ c. search rules) returns)
+    (λ c. search rules) (λ c. search rules) part-newton-step-end-2 newton-step-requires (λ c. search rules)
+    returns)

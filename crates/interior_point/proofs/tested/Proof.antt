@@ -3,29 +3,31 @@ use Rattle.interior_point.proofs.tested.Statement.{statement}
 use Rattle.interior_point.proofs.tested.Tie as tie
 
 -- from one test back to the one before it
-abbrev one : tie.Else2 → tie.Else1
+abbrev one : tie.Else-r-tol → tie.Else-r
 one e = e.before.before.before
 
-abbrev two : tie.Else3 → tie.Else2
+abbrev two : tie.Else-max_iter-r → tie.Else-r-tol
 two e = e.before.before
 
-returns : tie.Need-returns
-returns c = rw c.if1.true
+returns : tie.Need-returns-then-r
+returns c = rw c.if-r.true
 
-returns-2 : tie.Need-returns-2
-returns-2 c = rw (c.before.before.before.if1.false, c.if2.true)
+returns-2 : tie.Need-returns-then-r-tol
+returns-2 c = rw (c.before.before.before.if-r.false, c.if-r-tol.true)
 
-returns-3 : tie.Need-returns-3
+returns-3 : tie.Need-returns-then-max_iter-r
 returns-3 c = let e = c.before.before in
-    rw ((one e).if1.false, e.if2.false, le-ltb _ _ c.if3.true)
+    rw ((one e).if-r.false, e.if-r-tol.false, le-ltb _ _ c.if-max_iter-r.true)
 
-returns-4 : tie.Need-returns-4
+returns-4 : tie.Need-returns-then-r-eq10
 returns-4 c = let t = c.before.before in
-    rw ((one (two t)).if1.false, (two t).if2.false, lt-ltb _ _ t.if3.false, eq-eqb _ _ c.if4.true)
+    rw ((one (two t)).if-r.false, (two t).if-r-tol.false, lt-ltb _ _ t.if-max_iter-r.false, eq-eqb _ _ c.if-r-eq10.true)
 
-returns-5 : tie.Need-returns-5
+returns-5 : tie.Need-returns
 returns-5 c = let t = c.before.before in
-    rw ((one (two t)).if1.false, (two t).if2.false, lt-ltb _ _ t.if3.false, ne_eqb _ _ c.if4.false)
+    rw ((one (two t)).if-r.false, (two t).if-r-tol.false, lt-ltb _ _ t.if-max_iter-r.false, ne_eqb _ _ c.if-r-eq10.false)
 
-pub tested-spec : {M : Type 1} → statement M
-tested-spec = tie.close (tie.spec returns returns-2 returns-3 returns-4 returns-5)
+pub tested_spec : {M : Type 1} → statement M
+tested_spec =
+    tie.close
+    (tie.spec returns returns-2 returns-3 returns-4 returns-5)

@@ -5,7 +5,9 @@ use Rattle.l2.proofs.dual_l2.Tie as tie
 
 returns : tie.Need-returns
 unfolding dual_l2
-returns c = rw (c.before.before.before.fall-squares.ensures, c.before.before.products.ensures.0, c.before.before.products.ensures.1)
+returns c = rw (c.before.before.before.fall_squares-a.ensures, c.before.before.products-p.ensures.0, c.before.before.products-p.ensures.1)
 
-pub dual-l2-spec : {M : Type 1} → statement M
-dual-l2-spec = tie.close (tie.spec (λ c κs. search rules) (λ c κs. search rules) returns)
+pub dual_l2_spec : {M : Type 1} → statement M
+dual_l2_spec =
+    tie.close
+    (tie.spec (λ c κs. search rules) (λ c κs. search rules) returns)

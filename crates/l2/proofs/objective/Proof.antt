@@ -5,7 +5,9 @@ use Rattle.l2.proofs.objective.Tie as tie
 
 returns : tie.Need-returns
 unfolding objective_l2
-returns c = rw (c.before.before.squares.ensures.0, c.before.before.squares.ensures.1)
+returns c = rw (c.before.before.squares-s.ensures.0, c.before.before.squares-s.ensures.1)
 
-pub objective-spec : {M : Type 1} → statement M
-objective-spec = tie.close (tie.spec (λ c κs. search rules) returns)
+pub objective_spec : {M : Type 1} → statement M
+objective_spec =
+    tie.close
+    (tie.spec (λ c κs. search rules) returns)

@@ -14,39 +14,40 @@ use Rattle.l2.proofs.Scaled.{length-scaled}
 use Rattle.l2.proofs.objectives.Statement.{statement}
 use Rattle.l2.proofs.objectives.Tie as tie
 
-returns : tie.Need-returns
+returns : tie.Need-returns-then-not-lam
 unfolding gap_l2
 returns c = let sc = c.before.before.before in
     let ob = sc.before.before in
     let a = ob.before.before.before.before.args in
     record {
-      objective = ob.objective.ensures;
-      gap = rw (not-true (lt c0 a.lam) c.if1.true);
-      dual = sc.scale-diff.ensures;
+      objective = ob.objective-p.ensures;
+      gap = rw c.if-not-lam.true;
+      dual = sc.scale_diff.ensures;
     }
 
-returns-2 : tie.Need-returns-2
+returns-2 : tie.Need-returns
 unfolding gap_l2
-returns-2 c = let el = c.before.before.before in
+returns-2 c = let el = c.before.before in
     let sc = el.before.before.before in
     let ob = sc.before.before in
     let st = ob.before.before.before.before in
     let a = st.args in
     let m = length a.y.now - a.k in
     let t = scaled a.lam (diff_k a.k a.x.now) in
-    let w = sc.scale-diff.ensures in
+    let w = sc.scale_diff.ensures in
     let l = length-scaled a.lam a.k a.x.now in
-    let p = put_start m a.dual.now t sc.scale-diff.new.0 w (omega (arith, l, st.requires.1)) st.requires.2 in
-    let h = range_part 0 m m sc.scale-diff.new.0 (omega arith) (omega (arith, st.requires.2, p.1.size)) in
-    let d = c.dual-l2.ensures ∙ ap (dual_l2 a.k a.y.now a.lam) (h ∙ p.0) in
+    let p = put_start m a.dual.now t sc.scale_diff.new.v w (omega (arith, l, st.requires.1)) st.requires.2 in
+    let h = range_part 0 m m sc.scale_diff.new.v (omega arith) (omega (arith, st.requires.2, p.1.size)) in
+    let d = c.dual_l2-d.ensures ∙ ap (dual_l2 a.k a.y.now a.lam) (h ∙ p.0) in
     record {
-      objective = ob.objective.ensures;
-      gap = rw (not-false (lt c0 a.lam) el.if1.false, d, ob.objective.ensures);
+      objective = ob.objective-p.ensures;
+      gap = rw (el.if-not-lam.false, d, ob.objective-p.ensures);
       dual = w;
     }
 
-pub objectives-spec : {M : Type 1} → statement M
-objectives-spec =
+pub objectives_spec : {M : Type 1} → statement M
+objectives_spec =
     tie.close
-    (tie.spec (λ c κs. search rules) (λ c κs. search rules) (λ c. search rules) returns (λ c. search rules) (λ c. search rules)
-    (λ c. search rules) (λ c. search rules) (λ c κs. search rules) (λ c. search rules) returns-2)
+    (tie.spec (λ c κs. search rules) (λ c κs. search rules) (λ c. search rules) returns (λ c. search rules)
+    (λ c. search rules) (λ c. search rules) (λ c. search rules) (λ c κs. search rules) (λ c. search rules)
+    returns-2)

@@ -9,14 +9,15 @@ use Rattle.line_search.proofs.low_enough.Tie as tie
 returns : tie.Need-returns
 unfolding residual_norm
 returns c = let added = c.before in
-    let each = added.before.before.before.before.before in
+    let each = added.before.before.before.before in
     let a = each.before.before.before.before.args in
     let d = data_of a.k a.g a.dy.now a.lam a.inv_t in
-    let w = each.squares-into.ensures in
-    (simp (c.sqrt.ensures, squares_sum d w (omega (arith, w.each.size)) added.sum.ensures), squares_kept d w)
+    let w = each.squares_into.ensures in
+    (simp (c.sqrt.ensures, squares_sum d w (omega (arith, w.each.size)) added.sum-a.ensures), squares_kept d w)
 
-pub low-enough-spec : {M : Type 1} → statement M
-low-enough-spec =
+pub low_enough_spec : {M : Type 1} → statement M
+low_enough_spec =
     tie.close
     (tie.spec (λ c. search rules) (λ c. search rules) (λ c κs. search rules) (λ c. search rules) (λ c. search rules)
-    (λ c. search rules) (λ c. search rules) (λ c κs. search rules) (λ c κs. search rules) (λ c. search rules) returns)
+    (λ c. search rules) (λ c. search rules) (λ c κs. search rules) (λ c κs. search rules) (λ c. search rules)
+    returns)

@@ -14,16 +14,17 @@ squares-requires-2 c κs = (search rules, near (omega arith) (omega arith))
 squares-requires-4 : tie.Need-squares-requires-4
 squares-requires-4 c κs = (search rules, near (omega arith) (omega arith))
 
-returns-2 : tie.Need-returns-2
+returns-2 : tie.Need-returns
 returns-2 c = let after = c.before.before in
     let mid = after.before.before.before.before in
     let first = mid.before.before.before.before in
     let a = first.before.before.before.before.before.args in
     let d = data_of a.k a.g a.dy.now a.lam a.inv_t in
-    squares_then d (squares_then d first.squares2.ensures mid.squares3.ensures (omega arith) (omega arith)) after.squares4.ensures (omega arith) (omega arith)
+    squares_then d (squares_then d first.squares-2.ensures mid.squares-3.ensures (omega arith) (omega arith)) after.squares-4.ensures (omega arith) (omega arith)
 
-pub squares-into-spec : {M : Type 1} → statement M
-squares-into-spec =
+pub squares_into_spec : {M : Type 1} → statement M
+squares_into_spec =
     tie.close
     (tie.spec (λ c. search rules) squares-requires (λ c. search rules) (λ c. search rules) squares-requires-2
-    (λ c. search rules) (λ c κs. search rules) (λ c. search rules) squares-requires-4 (λ c. search rules) returns-2)
+    (λ c. search rules) (λ c κs. search rules) (λ c. search rules) squares-requires-4 (λ c. search rules)
+    returns-2)

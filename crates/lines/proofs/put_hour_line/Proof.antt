@@ -11,10 +11,10 @@ returns c = let w5 = c.before.before in
     let w3 = w4.before.before.before.before in
     let w2 = w3.before.before.before.before in
     let w1 = w2.before.before.before.before in
-    puts_then (puts_then (puts_then (puts_then w1.put_byte.ensures w2.put-field.ensures) w3.put-hex-field.ensures) w4.put-hex-field2.ensures) w5.put-byte2.ensures
+    puts_then (puts_then (puts_then (puts_then w1.put_byte-a1.ensures w2.put_field-a2.ensures) w3.put_hex_field-a3.ensures) w4.put_hex_field-a4.ensures) w5.put_byte.ensures
 
-pub put-hour-line-spec : {M : Type 1} → statement M
-put-hour-line-spec =
+pub put_hour_line_spec : {M : Type 1} → statement M
+put_hour_line_spec =
     tie.close
     (tie.spec (λ c κs. search rules) (λ c κs. search rules) (λ c κs. search rules) (λ c κs. search rules)
     (λ c κs. search rules) (λ c. search rules) returns)

@@ -10,10 +10,10 @@ returns c = let w4 = c.before.before in
     let w3 = w4.before.before.before.before in
     let w2 = w3.before.before.before.before in
     let w1 = w2.before.before.before.before in
-    puts_then (puts_then (puts_then w1.put-hex.ensures w2.put-hex-field.ensures) w3.put-hex-field2.ensures) w4.put_byte.ensures
+    puts_then (puts_then (puts_then w1.put_hex-a1.ensures w2.put_hex_field-a2.ensures) w3.put_hex_field-a3.ensures) w4.put_byte.ensures
 
-pub put-numbers-line-spec : {M : Type 1} → statement M
-put-numbers-line-spec =
+pub put_numbers_line_spec : {M : Type 1} → statement M
+put_numbers_line_spec =
     tie.close
     (tie.spec (λ c κs. search rules) (λ c κs. search rules) (λ c κs. search rules) (λ c κs. search rules)
     (λ c. search rules) returns)

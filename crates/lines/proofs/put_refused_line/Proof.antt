@@ -9,9 +9,9 @@ unfolding refused_line
 returns c = let w3 = c.before.before in
     let w2 = w3.before.before.before.before in
     let w1 = w2.before.before.before.before in
-    puts_then (puts_then w1.put_all_lem.ensures w2.put-field.ensures) w3.put_byte.ensures
+    puts_then (puts_then w1.put_all-a1.ensures w2.put_field-a2.ensures) w3.put_byte.ensures
 
-pub put-refused-line-spec : {M : Type 1} → statement M
-put-refused-line-spec =
+pub put_refused_line_spec : {M : Type 1} → statement M
+put_refused_line_spec =
     tie.close
-    (tie.spec (λ c. search rules) (λ c κs. search rules) (λ c κs. search rules) (λ c κs. search rules) (λ c. search rules) returns)
+    (tie.spec (λ c κs. search rules) (λ c κs. search rules) (λ c κs. search rules) (λ c. search rules) returns)

@@ -9,9 +9,9 @@ unfolding three
 returns c = let w3 = c.before.before in
     let w2 = w3.before.before.before.before in
     let w1 = w2.before.before.before.before in
-    puts_then (puts_then w1.put-field.ensures w2.put-field2.ensures) w3.put-field3.ensures
+    puts_then (puts_then w1.put_field-a1.ensures w2.put_field-a2.ensures) w3.put_field.ensures
 
-pub put-three-spec : {M : Type 1} → statement M
-put-three-spec =
+pub put_three_spec : {M : Type 1} → statement M
+put_three_spec =
     tie.close
     (tie.spec (λ c κs. search rules) (λ c κs. search rules) (λ c κs. search rules) (λ c. search rules) returns)

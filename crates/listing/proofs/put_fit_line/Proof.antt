@@ -12,13 +12,13 @@ returns c = let w5 = c.before.before in
     let w3 = w4.before.before.before.before in
     let w2 = w3.before.before.before.before in
     let w1 = w2.before.before.before.before.before.before in
-    let b = w1.before.before.before in
-    rw (b.bit.ensures, b.before.number.ensures) at
-    (puts_then (puts_then w1.put_all_lem.ensures (puts_then (puts_then w2.put_three.ensures w3.put-three2.ensures) w4.put-field.ensures)) w5.put_byte.ensures)
+    let b = w1.before.before.before.before in
+    rw (b.bit-converged.ensures, b.before.number-reason.ensures) at
+    (puts_then (puts_then w1.put_all-a1.ensures (puts_then (puts_then w2.put_three-a2.ensures w3.put_three-a3.ensures) w4.put_field-a4.ensures)) w5.put_byte.ensures)
 
-pub put-fit-line-spec : {M : Type 1} → statement M
-put-fit-line-spec =
+pub put_fit_line_spec : {M : Type 1} → statement M
+put_fit_line_spec =
     tie.close
-    (tie.spec (λ c κs. search rules) (λ c κs. search rules) (λ c. search rules) (λ c κs. search rules)
-    (λ c. search rules) (λ c. search rules) (λ c κs. search rules) (λ c κs. search rules)
-    (λ c κs. search rules) (λ c κs. search rules) (λ c. search rules) returns)
+    (tie.spec (λ c κs. search rules) (λ c κs. search rules) (λ c κs. search rules) (λ c. search rules) (λ c. search rules)
+    (λ c κs. search rules) (λ c κs. search rules) (λ c κs. search rules) (λ c κs. search rules)
+    (λ c. search rules) returns)

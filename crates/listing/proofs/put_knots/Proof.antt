@@ -5,37 +5,37 @@ use Prim.Native.Nat.{◌≤◌, ◌-◌, ◌*◌}
 use lib.ListN.{length}
 use Rattle.fields.specs.Puts.{Puts}
 use Rattle.listing.specs.Shown.{first_knots}
-use Rattle.vectors.proofs.Texts.{wrote-length}
+use Rattle.vectors.proofs.Texts.{wrote_length}
 use Rattle.lines.proofs.More.{knots_none, knots-more}
 use Rattle.listing.proofs.put_knots.Statement.{statement}
 use Rattle.listing.proofs.put_knots.Tie as tie
 
-abbrev invariant-loop : tie.invariant-loop
+abbrev invariant-loop : tie.invariant-loop-i
 invariant-loop out₀ at positions knots n i₀ pos₀ out i pos = (i ≤ n) × (length out ≡ length out₀) × Puts out₀ at (first_knots positions knots i) out pos (26 * i)
 
-abbrev decreases-loop : tie.decreases-loop
+abbrev decreases-loop : tie.decreases-loop-i
 decreases-loop out₀ at positions knots n i₀ pos₀ out i pos = n - i
 
-loop-holds : tie.Need-loop-init invariant-loop decreases-loop
+loop-holds : tie.Need-loop-i-init invariant-loop decreases-loop
 loop-holds c = (search rules, search rules, let a = c.before.before.before.args in knots_none a.positions.now a.knots.now _ _ (omega arith))
 
-knot-position-requires : tie.Need-knot-position-requires invariant-loop decreases-loop
+knot-position-requires : tie.Need-knot_position-p-requires invariant-loop decreases-loop
 knot-position-requires c κs = c.before.before.before.before.before.before.requires.0.1 _ (omega arith)
 
-loop-again : tie.Need-loop-preserved invariant-loop decreases-loop
+loop-again : tie.Need-loop-i-preserved invariant-loop decreases-loop
 loop-again c = let p = c.before.before in
     let v = p.before.before in
     let l = v.before.before.before in
     let a = l.before.before.before.before.args in
-    let w = knots-more a.positions.now a.knots.now l.loop.i (omega arith) l.loop.invariant.2 p.put-knot-line.ensures v.knot-position.ensures in
-    (search rules, wrote-length w.wrote, w)
+    let w = knots-more a.positions.now a.knots.now l.loop-i.i (omega arith) l.loop-i.invariant.2 p.put_knot_line-pos.ensures v.knot_position-p.ensures in
+    (search rules, wrote_length w.wrote, w)
 
 returns : tie.Need-returns invariant-loop decreases-loop
-returns c = let e : c.before.loop.i ≡ c.before.before.before.before.before.args.n = omega arith in
-    rw e at c.before.loop.invariant.2
+returns c = let e : c.before.loop-i.i ≡ c.before.before.before.before.before.args.n = omega arith in
+    rw e at c.before.loop-i.invariant.2
 
-pub put-knots-spec : {M : Type 1} → statement M
-put-knots-spec =
+pub put_knots_spec : {M : Type 1} → statement M
+put_knots_spec =
     tie.close
     (tie.spec invariant-loop decreases-loop loop-holds (λ c. search rules) (λ c. search rules) knot-position-requires
     (λ c κs. search rules) (λ c. search rules) (λ c. search rules) loop-again (λ c. search rules) returns)

@@ -7,5 +7,7 @@ returns : tie.Need-returns
 unfolding diagonal_shift
 returns c = refl
 
-pub diagonal-of-spec : {M : Type 1} → statement M
-diagonal-of-spec = tie.close (tie.spec returns)
+pub diagonal_of_spec : {M : Type 1} → statement M
+diagonal_of_spec =
+    tie.close
+    (tie.spec returns)

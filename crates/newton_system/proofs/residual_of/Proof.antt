@@ -7,5 +7,7 @@ returns : tie.Need-returns
 unfolding residual_square_at
 returns c = refl
 
-pub residual-of-spec : {M : Type 1} → statement M
-residual-of-spec = tie.close (tie.spec returns)
+pub residual_of_spec : {M : Type 1} → statement M
+residual_of_spec =
+    tie.close
+    (tie.spec returns)

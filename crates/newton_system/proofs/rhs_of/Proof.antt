@@ -7,5 +7,7 @@ returns : tie.Need-returns
 unfolding rhs_at
 returns c = λ mu1 mu2. refl
 
-pub rhs-of-spec : {M : Type 1} → statement M
-rhs-of-spec = tie.close (tie.spec returns)
+pub rhs_of_spec : {M : Type 1} → statement M
+rhs_of_spec =
+    tie.close
+    (tie.spec returns)

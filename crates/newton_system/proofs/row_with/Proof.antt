@@ -14,13 +14,13 @@ returns c = let side = c.before in
     let h = st.requires.0.row in
     let q-is = st.requires.1 in
     record {
-      diagonal = diagonal.diagonal-of.ensures ∙ system_diagonal a.k a.t5 a.lam a.m s a.r _ h refl;
-      side = side.rhs_of.ensures _ _ ∙ rhs_place a.k a.t5 a.dy.now a.lam a.inv_t a.m s a.r a.q h q-is;
-      square = c.residual-of.ensures ∙ square_place a.k a.t5 a.dy.now a.lam a.inv_t 0 a.m s a.r a.r _ _ a.q h (omega arith) (omega arith) (omega arith) q-is;
+      diagonal = diagonal.diagonal_of-diagonal.ensures ∙ system_diagonal a.k a.g a.lam a.m s a.r _ h refl;
+      side = side.rhs_of-right.ensures _ _ ∙ rhs_place a.k a.g a.dy.now a.lam a.inv_t a.m s a.r a.q h q-is;
+      square = c.residual_of-square.ensures ∙ square_place a.k a.g a.dy.now a.lam a.inv_t 0 a.m s a.r a.r _ _ a.q h (omega arith) (omega arith) (omega arith) q-is;
     }
 
-pub row-with-spec : {M : Type 1} → statement M
-row-with-spec =
+pub row_with_spec : {M : Type 1} → statement M
+row_with_spec =
     tie.close
     (tie.spec (λ c. search rules) (λ c. search rules) (λ c. search rules) (λ c. search rules) (λ c. search rules)
     (λ c. search rules) (λ c. search rules) (λ c. search rules) (λ c. search rules) (λ c. search rules)

@@ -16,43 +16,43 @@ use Prim.Native.Nat.{◌≤◌, ◌-◌, ◌+◌}
 use Rattle.polish.proofs.fill_candidate.Statement.{statement}
 use Rattle.polish.proofs.fill_candidate.Tie as tie
 
-abbrev invariant-loop : tie.invariant-loop
+abbrev invariant-loop : tie.invariant-loop-i
 invariant-loop s₀ marks lam b a n m q₀ i₀ s q i = (i ≤ m) × (q ≤ i) × (q ≡ length (free_to (held_by n marks) i)) × Written a (a + i) (λ j. candidate_at lam (held_by n marks) (part b m s₀) (j - a)) s₀ s
 
-abbrev decreases-loop : tie.decreases-loop
+abbrev decreases-loop : tie.decreases-loop-i
 decreases-loop s₀ marks lam b a n m q₀ i₀ s q i = m - i
 
-loop-holds : tie.Need-loop-init invariant-loop decreases-loop
+loop-holds : tie.Need-loop-i-init invariant-loop decreases-loop
 unfolding free_to places_to
 loop-holds c = (search rules, search rules, refl, rw add-zero none)
 
-add-q : tie.Need-overflow-add-q invariant-loop decreases-loop
-add-q c = let l = c.before.before.before.before.before in
+add-q : tie.Need-overflow_add-q invariant-loop decreases-loop
+add-q c = let l = c.before.before.before.before in
     let a = l.before.before.before.args in
-    omega (arith, c.one-if-free.ensures, one_le (is_free (held_by a.n a.marks.now l.loop.i)))
+    omega (arith, c.one_if_free-q.ensures, one_le (is_free (held_by a.n a.marks.now l.loop-i.i)))
 
-loop-again : tie.Need-loop-preserved invariant-loop decreases-loop
-loop-again c = let l = c.before.before.before.before.before in
+loop-again : tie.Need-loop-i-preserved invariant-loop decreases-loop
+loop-again c = let l = c.before.before.before.before in
     let a = l.before.before.before.args in
     let h = held_by a.n a.marks.now in
-    let i = l.loop.i in
-    let q = l.loop.q in
-    let w = l.loop.invariant.3 in
-    let x = c.before.candidate-at.result in (
+    let i = l.loop-i.i in
+    let q = l.loop-i.q in
+    let w = l.loop-i.invariant.3 in
+    let x = c.before.candidate_at-x.result in (
       search rules,
-      omega (arith, c.one-if-free.ensures, one_le (is_free (h i))),
-      count_more h i l.loop.invariant.2 c.one-if-free.ensures,
-      store_more a.a i (candidate_at a.lam h (part a.b a.m a.s.now)) a.s.now l.loop.s x w (omega arith)
-          (place_is a.lam h a.b a.m i q a.s.now l.loop.s x l.loop.invariant.2 (omega arith) (w.below (a.b + q) (omega arith)) c.before.candidate-at.ensures),
+      omega (arith, c.one_if_free-q.ensures, one_le (is_free (h i))),
+      count_more h i l.loop-i.invariant.2 c.one_if_free-q.ensures,
+      store_more a.a i (candidate_at a.lam h (part a.b a.m a.s.now)) a.s.now l.loop-i.s x w (omega arith)
+          (place_is a.lam h a.b a.m i q a.s.now l.loop-i.s x l.loop-i.invariant.2 (omega arith) (w.below (a.b + q) (omega arith)) c.before.candidate_at-x.ensures),
     )
 
 returns : tie.Need-returns invariant-loop decreases-loop
-returns c = let l = c.before.loop in
+returns c = let l = c.before.loop-i in
     let e : l.i ≡ c.before.before.before.before.args.m = omega arith in
     rw e at l.invariant.3
 
-pub fill-candidate-spec : {M : Type 1} → statement M
-fill-candidate-spec =
+pub fill_candidate_spec : {M : Type 1} → statement M
+fill_candidate_spec =
     tie.close
     (tie.spec invariant-loop decreases-loop loop-holds (λ c. search rules) (λ c. search rules) (λ c. search rules)
     (λ c. search rules) (λ c κs. search rules) (λ c. search rules) (λ c. search rules) (λ c. search rules)

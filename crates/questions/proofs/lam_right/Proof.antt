@@ -5,5 +5,7 @@ use Rattle.questions.proofs.lam_right.Tie as tie
 returns : tie.Need-returns
 returns c = rw (← c.before.is_finite.ensures) c.both.ensures
 
-pub lam-right-spec : {M : Type 1} → statement M
-lam-right-spec = tie.close (tie.spec (λ c κs. search rules) (λ c κs. search rules) returns)
+pub lam_right_spec : {M : Type 1} → statement M
+lam_right_spec =
+    tie.close
+    (tie.spec (λ c κs. search rules) (λ c κs. search rules) returns)

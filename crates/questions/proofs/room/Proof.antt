@@ -5,23 +5,25 @@ use borrow.Author.Rules.{rules}
 use Rattle.questions.proofs.room.Statement.{statement}
 use Rattle.questions.proofs.room.Tie as tie
 
-returns : tie.Need-returns
+returns : tie.Need-returns-then-not-answer_room
 unfolding room
-returns c = simp (sym c.before.answer-room.ensures ∙ not-true _ c.if1.true)
+returns c = simp (sym c.before.answer_room.ensures ∙ c.if-not-answer_room.true)
 
-returns-2 : tie.Need-returns-2
+returns-2 : tie.Need-returns-then-not-scratch_room
 unfolding room
 returns-2 c =
     let cs = c.before in
     let ca = cs.before in
-    simp (sym ca.before.answer-room.ensures ∙ not-false _ ca.if1.false, sym cs.scratch-room.ensures ∙ not-true _ c.if2.true)
+    simp (sym ca.before.answer_room.ensures ∙ ca.if-not-answer_room.false, sym cs.scratch_room.ensures ∙ c.if-not-scratch_room.true)
 
-returns-3 : tie.Need-returns-3
+returns-3 : tie.Need-returns
 unfolding room
 returns-3 c =
     let cs = c.before in
     let ca = cs.before in
-    simp (sym ca.before.answer-room.ensures ∙ not-false _ ca.if1.false, sym cs.scratch-room.ensures ∙ not-false _ c.if2.false)
+    simp (sym ca.before.answer_room.ensures ∙ ca.if-not-answer_room.false, sym cs.scratch_room.ensures ∙ c.if-not-scratch_room.false)
 
-pub room-spec : {M : Type 1} → statement M
-room-spec = tie.close (tie.spec (λ c κs. search rules) returns (λ c κs. search rules) returns-2 returns-3)
+pub room_spec : {M : Type 1} → statement M
+room_spec =
+    tie.close
+    (tie.spec (λ c κs. search rules) returns (λ c κs. search rules) returns-2 returns-3)

@@ -5,5 +5,7 @@ use Rattle.questions.proofs.tol_right.Tie as tie
 returns : tie.Need-returns
 returns c = rw (← c.before.is_finite.ensures) c.both.ensures
 
-pub tol-right-spec : {M : Type 1} → statement M
-tol-right-spec = tie.close (tie.spec (λ c κs. search rules) (λ c κs. search rules) returns)
+pub tol_right_spec : {M : Type 1} → statement M
+tol_right_spec =
+    tie.close
+    (tie.spec (λ c κs. search rules) (λ c κs. search rules) returns)

@@ -11,10 +11,10 @@ returns c = let o = c.before in
     let d1 = e2.before in
     let e1 = d1.before in
     let a = e1.before.before.args in
-    simp (d1.double.ensures, d2.double2.ensures, e1.eight.ensures, e2.eight2.ensures, e3.eight3.ensures, o.one.ensures, c.one2.ensures) (settings_in_lem a.s.now a.body)
+    simp (d1.double.ensures, d2.double-2.ensures, e1.eight.ensures, e2.eight-2.ensures, e3.eight-3.ensures, o.one.ensures, c.one-2.ensures) (settings_in_lem a.s.now a.body)
 
-pub settings-at-spec : {M : Type 1} → statement M
-settings-at-spec =
+pub settings_at_spec : {M : Type 1} → statement M
+settings_at_spec =
     tie.close
     (tie.spec (λ c κs. search rules) (λ c κs. search rules) (λ c. search rules) (λ c κs. search rules)
     (λ c κs. search rules) (λ c. search rules) (λ c κs. search rules) (λ c. search rules) (λ c κs. search rules)

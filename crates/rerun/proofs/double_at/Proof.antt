@@ -7,5 +7,7 @@ use Rattle.rerun.proofs.double_at.Tie as tie
 returns : tie.Need-returns
 returns c = c.double.ensures ∙ ap (of_bits binary64) c.before.word.ensures
 
-pub double-at-spec : {M : Type 1} → statement M
-double-at-spec = tie.close (tie.spec (λ c κs. search rules) (λ c κs. search rules) returns)
+pub double_at_spec : {M : Type 1} → statement M
+double_at_spec =
+    tie.close
+    (tie.spec (λ c κs. search rules) (λ c κs. search rules) returns)

@@ -5,14 +5,14 @@ use Rattle.rerun.proofs.Cases.{loaded, loaded_long, case_is}
 use Rattle.rerun.proofs.equal_at.Statement.{statement}
 use Rattle.rerun.proofs.equal_at.Tie as tie
 
-slice-aggregate-fit-at : tie.Need-slice-aggregate-fit-at
+slice-aggregate-fit-at : tie.Need-slice_bounds-fit_at-end
 slice-aggregate-fit-at c = let d = c.before.before.before.before.before.before.before in
     let a = d.before.before.before.args in
     loaded_long a.s.now (a.a + 13) _ _ _ d.load.ensures
 
-fit-at-requires : tie.Need-fit-at-requires
+fit-at-requires : tie.Need-fit_at-requires
 fit-at-requires c κs = let l = c.before.before.before.before.before.before.before.before.before in
-    let w = l.lent_at_lem.ensures.1 in
+    let w = l.lent_at-l.ensures.1 in
     (w, (omega (arith, w.n_in, slice-aggregate-fit-at c), omega (arith, w.n_in)))
 
 returns : tie.Need-returns
@@ -24,10 +24,10 @@ returns c = let d2 = c.before.before in
     let y = o1.before.before in
     let l = y.before.before in
     let a = l.before.args in
-    case_is a.s.now a.a l.lent_at_lem.ensures.0 (loaded a.s.now (a.a + 13) _ _ _ y.load.ensures) d2.double-at2.ensures d1.double-at.ensures w.word.ensures o1.option-at.ensures o2.option-at2.ensures c.fit_at.ensures
+    case_is a.s.now a.a l.lent_at-l.ensures.0 (loaded a.s.now (a.a + 13) _ _ _ y.load.ensures) d2.double_at-lam.ensures d1.double_at.ensures w.word.ensures o1.option_at.ensures o2.option_at-2.ensures c.fit_at.ensures
 
-pub equal-at-spec : {M : Type 1} → statement M
-equal-at-spec =
+pub equal_at_spec : {M : Type 1} → statement M
+equal_at_spec =
     tie.close
     (tie.spec (λ c κs. search rules) (λ c. search rules) (λ c. search rules) (λ c κs. search rules) (λ c. search rules)
     (λ c κs. search rules) (λ c. search rules) (λ c κs. search rules) (λ c. search rules) (λ c κs. search rules)

@@ -19,10 +19,10 @@ returns c = let f = c.before.before.before.before.before.before in
     f.same_outcome.ensures.same
     ∙ ap (λ (x : Lent). same_outcome (fit (asking a.y.now a.lam o.tol o.max_iter o.order o.penalty) x) a.s.now a.a) (lending_is a.l (first_long (of_bits binary64 0) 168 a.l.trend w.trend_in) (first_long (of_bits binary64 0) 168 a.l.cycle w.cycle_in) (first_long {A = ℕ} 0 168 a.l.knots w.knots_in) (first_long (of_bits binary64 0) 168 a.l.dual w.dual_in) (first_long (of_bits binary64 0) 6720 a.l.work w.work_in) (first_long {A = ℕ} 0 336 a.l.marks w.marks_in))
 
-pub fit-at-spec : {M : Type 1} → statement M
-fit-at-spec =
+pub fit_at_spec : {M : Type 1} → statement M
+fit_at_spec =
     tie.close
     (tie.spec (λ c. search rules) (λ c. search rules) (λ c. search rules) (λ c. search rules) (λ c. search rules)
-    (λ c. search rules) (λ c. search rules) (λ c. search rules) (λ c. search rules) (λ c. search rules) (λ c. search rules)
-    (λ c. search rules) (λ c. search rules) (λ c. search rules) (λ c. search rules) (λ c. search rules) (λ c. search rules)
-    (λ c. search rules) (λ c κs. search rules) returns)
+    (λ c. search rules) (λ c. search rules) (λ c. search rules) (λ c. search rules) (λ c. search rules)
+    (λ c. search rules) (λ c. search rules) (λ c. search rules) (λ c. search rules) (λ c. search rules)
+    (λ c. search rules) (λ c. search rules) (λ c. search rules) (λ c κs. search rules) returns)

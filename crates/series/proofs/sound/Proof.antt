@@ -6,7 +6,7 @@ use Rattle.series.proofs.sound.Tie as tie
 returns : tie.Need-returns
 returns c = set_slots _ _ _ _ _
 
-pub sound-spec : {M : Type 1} → statement M
-sound-spec =
+pub sound_spec : {M : Type 1} → statement M
+sound_spec =
     tie.close
     (tie.spec (λ c. search rules) (λ c. search rules) (λ c. search rules) (λ c. search rules) (λ c. search rules) returns)

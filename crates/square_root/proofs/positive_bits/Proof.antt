@@ -11,23 +11,23 @@ use Rattle.square_root.proofs.Joined.{small_root, large_root}
 use Rattle.square_root.proofs.positive_bits.Statement.{statement}
 use Rattle.square_root.proofs.positive_bits.Tie as tie
 
-returns : tie.Need-returns
+returns : tie.Need-returns-then-x-eq0
 returns c =
     let b = c.before.before.before.args.b in
-    let s = c.before.places.result in
+    let s = c.before.places-s.result in
     let whole : b % 2 ^ 52 ≡ b = omega arith in
     let room : b % 2 ^ 52 * 2 ^ s < 2 ^ 64 = omega arith in
     let shl : b % 2 ^ 52 * 2 ^ s % 2 ^ 64 ≡ b * 2 ^ s = mod-eq_of_lt room ∙ ap (λ (t : ℕ). t * 2 ^ s) whole in
-    subst (λ (x : Float). Bits x c.root-bits.result) (sym (small_root b s (omega arith) (omega arith) (omega arith)))
-    (subst (λ (m : ℕ). Bits (nearest_root (m * 2 ^ (1074 - s))) c.root-bits.result) shl c.root-bits.ensures)
+    subst (λ (x : Float). Bits x c.root_bits.result) (sym (small_root b s (omega arith) (omega arith) (omega arith)))
+    (subst (λ (m : ℕ). Bits (nearest_root (m * 2 ^ (1074 - s))) c.root_bits.result) shl c.root_bits.ensures)
 
-returns-2 : tie.Need-returns-2
+returns-2 : tie.Need-returns-else-x-eq0
 returns-2 c =
     let b = c.before.before.args.b in
-    subst (λ (x : Float). Bits x c.root-bits2.result) (sym (large_root b (omega arith) (omega arith))) c.root-bits2.ensures
+    subst (λ (x : Float). Bits x c.root_bits-else-x-eq0.result) (sym (large_root b (omega arith) (omega arith))) c.root_bits-else-x-eq0.ensures
 
-pub positive-bits-spec : {M : Type 1} → statement M
-positive-bits-spec =
+pub positive_bits_spec : {M : Type 1} → statement M
+positive_bits_spec =
     tie.close
-    (tie.spec (λ c κs. search rules) (λ c. search rules) (λ c. search rules) (λ c κs. search rules)
-    (λ c. search rules) (λ c. search rules) (λ c κs. search rules) returns returns-2)
+    (tie.spec (λ c κs. search rules) (λ c. search rules) (λ c. search rules) (λ c κs. search rules) (λ c. search rules)
+    (λ c. search rules) (λ c κs. search rules) returns returns-2)

@@ -12,28 +12,29 @@ use Rattle.stored.proofs.same_counts.Tie as tie
 abbrev place : List ℕ → ℕ → ℕ
 place x i = get_or x i 0
 
-abbrev invariant-loop : tie.invariant-loop
+abbrev invariant-loop : tie.invariant-loop-i
 invariant-loop x s a all₀ i₀ all i = (i ≤ length x) × (all ≡ same_to (place x) s a i)
 
-abbrev decreases-loop : tie.decreases-loop
+abbrev decreases-loop : tie.decreases-loop-i
 decreases-loop x s a all₀ i₀ all i = length x - i
 
-loop-holds : tie.Need-loop-init invariant-loop decreases-loop
+loop-holds : tie.Need-loop-i-init invariant-loop decreases-loop
 unfolding same_to
 loop-holds c = (search rules, refl)
 
-loop-again : tie.Need-loop-preserved invariant-loop decreases-loop
+loop-again : tie.Need-loop-i-preserved invariant-loop decreases-loop
 loop-again c = let w = c.before in
     let l = w.before.before.before in
     let a = l.before.before.args in
-    (search rules, same_more (place a.x.now) a.s.now a.a l.loop.i l.loop.invariant.1 c.both.ensures (refl) w.word.ensures)
+    (search rules, same_more (place a.x.now) a.s.now a.a l.loop-i.i l.loop-i.invariant.1 c.both-all.ensures (refl) w.word.ensures)
 
 returns : tie.Need-returns invariant-loop decreases-loop
 returns c = let l = c.before in
-    let e : l.loop.i ≡ length l.before.before.args.x.now = omega arith in
-    l.loop.invariant.1 ∙ rw e
+    let e : l.loop-i.i ≡ length l.before.before.args.x.now = omega arith in
+    l.loop-i.invariant.1 ∙ rw e
 
-pub same-counts-spec : {M : Type 1} → statement M
-same-counts-spec =
+pub same_counts_spec : {M : Type 1} → statement M
+same_counts_spec =
     tie.close
-    (tie.spec invariant-loop decreases-loop loop-holds (λ c. search rules) (λ c. search rules) (λ c. search rules) (λ c κs. search rules) (λ c κs. search rules) (λ c. search rules) (λ c. search rules) loop-again returns)
+    (tie.spec invariant-loop decreases-loop loop-holds (λ c. search rules) (λ c. search rules) (λ c. search rules)
+    (λ c κs. search rules) (λ c κs. search rules) (λ c. search rules) (λ c. search rules) loop-again returns)

@@ -11,17 +11,17 @@ returns c = let b₂ = c.before in
     let k = d.before in
     let y = k.before in
     rw (
-      c.both3.ensures,
-      b₂.both2.ensures,
+      c.both-3.ensures,
+      b₂.both-2.ensures,
       b₁.both.ensures,
-      d.same-doubles3.ensures,
-      k.same-knots.ensures,
-      y.same-doubles2.ensures,
-      y.before.same-doubles.ensures,
+      d.same_doubles-d.ensures,
+      k.same_knots-k.ensures,
+      y.same_doubles-c.ensures,
+      y.before.same_doubles-t.ensures,
     )
 
-pub same-places-spec : {M : Type 1} → statement M
-same-places-spec =
+pub same_places_spec : {M : Type 1} → statement M
+same_places_spec =
     tie.close
     (tie.spec (λ c κs. search rules) (λ c. search rules) (λ c κs. search rules) (λ c. search rules) (λ c. search rules)
     (λ c κs. search rules) (λ c. search rules) (λ c. search rules) (λ c. search rules) (λ c κs. search rules)

@@ -10,23 +10,23 @@ use Rattle.vectors.proofs.Texts.{copied_none, copied_more, copied_all}
 use Rattle.vectors.proofs.copy.Statement.{statement}
 use Rattle.vectors.proofs.copy.Tie as tie
 
-abbrev invariant-loop : tie.invariant-loop
+abbrev invariant-loop : tie.invariant-loop-i
 invariant-loop t₀ x i₀ t i = (i ≤ length x) × ((length t ≡ length t₀) × Wrote t₀ 0 (take i x) t (0 + i))
 
-abbrev decreases-loop : tie.decreases-loop
+abbrev decreases-loop : tie.decreases-loop-i
 decreases-loop t₀ x i₀ t i = length x - i
 
-loop-holds : tie.Need-loop-init invariant-loop decreases-loop
+loop-holds : tie.Need-loop-i-init invariant-loop decreases-loop
 loop-holds c = (search rules, (search rules, copied_none _ 0 c.args.x.now (search rules)))
 
-loop-again : tie.Need-loop-preserved invariant-loop decreases-loop
+loop-again : tie.Need-loop-i-preserved invariant-loop decreases-loop
 loop-again c = let at-loop = c.before.before in
-    let w = at-loop.loop.invariant.1.1 in
-    let e = zero-add at-loop.loop.i in
+    let w = at-loop.loop-i.invariant.1.1 in
+    let e = zero-add at-loop.loop-i.i in
     (search rules, (search rules, rw e at (copied_more _ nan w (search rules) (omega arith))))
 
 returns : tie.Need-returns invariant-loop decreases-loop
-returns c = (copied_all _ c.before.loop.invariant.1.1 (search rules)).text
+returns c = (copied_all _ c.before.loop-i.invariant.1.1 (search rules)).text
 
 pub copy_spec : {M : Type 1} → statement M
 copy_spec =

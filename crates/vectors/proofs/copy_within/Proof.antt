@@ -7,22 +7,22 @@ use native.Mathlib.Omega.{arith}
 use lib.Ieee.{nan}
 use Rattle.vectors.specs.Vec.{at}
 use Rattle.vectors.specs.Parts.{Written, part_of}
-use Rattle.vectors.proofs.Laws.{none, store_more, written-kept}
-use Rattle.vectors.proofs.Parts.{store-done}
+use Rattle.vectors.proofs.Laws.{none, store_more, written_kept}
+use Rattle.vectors.proofs.Parts.{store_done}
 use Rattle.vectors.proofs.copy_within.Statement.{statement}
 use Rattle.vectors.proofs.copy_within.Tie as tie
 
-abbrev invariant-loop : tie.invariant-loop
+abbrev invariant-loop : tie.invariant-loop-i
 invariant-loop s₀ a b n i₀ s i = (i ≤ n) × Written b (b + i) (λ j. at s₀ (a + (j - b))) s₀ s
 
-abbrev decreases-loop : tie.decreases-loop
+abbrev decreases-loop : tie.decreases-loop-i
 decreases-loop s₀ a b n i₀ s i = n - i
 
-loop-holds : tie.Need-loop-init invariant-loop decreases-loop
+loop-holds : tie.Need-loop-i-init invariant-loop decreases-loop
 loop-holds c = (search rules, rw add-zero none)
 
-loop-again : tie.Need-loop-preserved invariant-loop decreases-loop
-loop-again c = let l = c.before.before.loop in
+loop-again : tie.Need-loop-i-preserved invariant-loop decreases-loop
+loop-again c = let l = c.before.before.loop-i in
     let st = c.before.before.before in
     let a = st.args in
     let w = l.invariant.1 in
@@ -34,15 +34,15 @@ loop-again c = let l = c.before.before.loop in
 
 returns : tie.Need-returns invariant-loop decreases-loop
 unfolding part_of
-returns c = let l = c.before.loop in
+returns c = let l = c.before.loop-i in
     let a = c.before.before.args in
     let e : l.i ≡ a.n = omega arith in
     let w : Written a.b (a.b + a.n) (λ j. at a.s.now (a.a + (j - a.b))) a.s.now l.s = rw e at l.invariant.1 in
-    (store-done nan a.b a.n (λ j. at a.s.now (a.a + j)) a.s.now l.s w, written-kept w)
+    (store_done nan a.b a.n (λ j. at a.s.now (a.a + j)) a.s.now l.s w, written_kept w)
 
-pub copy-within-spec : {M : Type 1} → statement M
-copy-within-spec =
+pub copy_within_spec : {M : Type 1} → statement M
+copy_within_spec =
     tie.close
-    (tie.spec invariant-loop decreases-loop loop-holds (λ c. search rules) (λ c. search rules) (λ c. search rules) (λ c. search rules)
-    (λ c. search rules) (λ c. search rules) (λ c. search rules) (λ c. search rules) loop-again (λ c. search rules)
-    returns)
+    (tie.spec invariant-loop decreases-loop loop-holds (λ c. search rules) (λ c. search rules) (λ c. search rules)
+    (λ c. search rules) (λ c. search rules) (λ c. search rules) (λ c. search rules) (λ c. search rules) loop-again
+    (λ c. search rules) returns)

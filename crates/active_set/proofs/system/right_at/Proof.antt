@@ -10,29 +10,30 @@ use Prim.Native.Nat.{◌≤◌, ◌-◌}
 use Rattle.active_set.proofs.system.right_at.Statement.{statement}
 use Rattle.active_set.proofs.system.right_at.Tie as tie
 
-abbrev invariant-loop : tie.invariant-loop
+abbrev invariant-loop : tie.invariant-loop-j
 invariant-loop marks dy lam g k n m i lo hi v₀ j₀ v j = (lo ≤ j) × (j ≤ hi) × (v ≡ less_to lam g (held_by n marks) i lo (at dy i) (j - lo))
 
-abbrev decreases-loop : tie.decreases-loop
+abbrev decreases-loop : tie.decreases-loop-j
 decreases-loop marks dy lam g k n m i lo hi v₀ j₀ v j = hi - j
 
-loop-holds : tie.Need-loop-init invariant-loop decreases-loop
+loop-holds : tie.Need-loop-j-init invariant-loop decreases-loop
 unfolding less_to
 loop-holds c = (search rules, omega arith, rw sub_self)
 
-loop-again : tie.Need-loop-preserved invariant-loop decreases-loop
+loop-again : tie.Need-loop-j-preserved invariant-loop decreases-loop
 loop-again c = let l = c.before.before.before in
-    (search rules, search rules, less-more _ _ _ _ _ _ _ _ _ l.loop.invariant.2 (omega arith) c.less-held.ensures)
+    (search rules, search rules, less-more _ _ _ _ _ _ _ _ _ l.loop-j.invariant.2 (omega arith) c.less_held-v.ensures)
 
 returns : tie.Need-returns invariant-loop decreases-loop
 unfolding compressed_rhs_at
 returns c = let l = c.before in
-    let e : l.loop.j ≡ l.before.before.smaller.result = omega arith in
-    rw (e ∙ l.before.before.smaller.ensures, l.before.before.before.over.ensures) at l.loop.invariant.2
+    let e : l.loop-j.j ≡ l.before.before.smaller-hi.result = omega arith in
+    rw (e ∙ l.before.before.smaller-hi.ensures, l.before.before.before.over-lo.ensures) at l.loop-j.invariant.2
 
-pub right-at-spec : {M : Type 1} → statement M
-right-at-spec =
+pub right_at_spec : {M : Type 1} → statement M
+right_at_spec =
     tie.close
-    (tie.spec invariant-loop decreases-loop (λ c κs. search rules) (λ c. search rules) (λ c. search rules) (λ c κs. search rules)
-    (λ c. search rules) (λ c. search rules) loop-holds (λ c. search rules) (λ c. search rules) (λ c. search rules)
-    (λ c κs. search rules) (λ c. search rules) (λ c. search rules) loop-again returns)
+    (tie.spec invariant-loop decreases-loop (λ c κs. search rules) (λ c. search rules) (λ c. search rules)
+    (λ c κs. search rules) (λ c. search rules) (λ c. search rules) loop-holds (λ c. search rules)
+    (λ c. search rules) (λ c. search rules) (λ c κs. search rules) (λ c. search rules) (λ c. search rules)
+    loop-again returns)

@@ -15,24 +15,24 @@ use Rattle.certificate.proofs.Laws.{at-minus}
 use Rattle.l2.proofs.sums.squares.Statement.{statement}
 use Rattle.l2.proofs.sums.squares.Tie as tie
 
-abbrev invariant-loop : tie.invariant-loop
+abbrev invariant-loop : tie.invariant-loop-i
 invariant-loop x y k m a₀ b₀ i₀ a b i =
     (i ≤ m) × ((a ≡ sum_to (λ j. at (minus y x) j ⊗ at (minus y x) j) i) × (b ≡ sum_to (λ j. at (diff_k k x) j ⊗ at (diff_k k x) j) i))
 
-abbrev decreases-loop : tie.decreases-loop
+abbrev decreases-loop : tie.decreases-loop-i
 decreases-loop x y k m a₀ b₀ i₀ a b i = m - i
 
-loop-holds : tie.Need-loop-init invariant-loop decreases-loop
+loop-holds : tie.Need-loop-i-init invariant-loop decreases-loop
 unfolding sum_to
 loop-holds c = (search rules, (refl, refl))
 
-loop-again : tie.Need-loop-preserved invariant-loop decreases-loop
+loop-again : tie.Need-loop-i-preserved invariant-loop decreases-loop
 loop-again c = let lp = c.before.before.before.before in
     let a = lp.before.before.before.args in (
       search rules,
       (
-        sum_more _ _ _ _ lp.loop.invariant.1.0 (ap (λ (d : Float). d ⊗ d) (sym (at-minus a.y.now a.x.now lp.loop.i (omega arith)))),
-        sum_more _ _ _ _ lp.loop.invariant.1.1 (ap (λ (d : Float). d ⊗ d) c.diff-at.ensures),
+        sum_more _ _ _ _ lp.loop-i.invariant.1.0 (ap (λ (d : Float). d ⊗ d) (sym (at-minus a.y.now a.x.now lp.loop-i.i (omega arith)))),
+        sum_more _ _ _ _ lp.loop-i.invariant.1.1 (ap (λ (d : Float). d ⊗ d) c.diff_at-d.ensures),
       ),
     )
 
@@ -40,12 +40,13 @@ returns : tie.Need-returns invariant-loop decreases-loop
 unfolding norm2_sq
 returns c = let lp = c.before.before in
     let a = lp.before.before.before.args in
-    let t : lp.loop.i ≡ length a.x.now - a.k = omega arith in
-    let e : lp.loop.i ≡ length (diff_k a.k a.x.now) = omega (arith, length-diff_k a.k a.x.now) in
-    (c.residual-rest.ensures (rw t at lp.loop.invariant.1.0), rw e at lp.loop.invariant.1.1)
+    let t : lp.loop-i.i ≡ length a.x.now - a.k = omega arith in
+    let e : lp.loop-i.i ≡ length (diff_k a.k a.x.now) = omega (arith, length-diff_k a.k a.x.now) in
+    (c.residual_rest-r.ensures (rw t at lp.loop-i.invariant.1.0), rw e at lp.loop-i.invariant.1.1)
 
-pub squares-spec : {M : Type 1} → statement M
-squares-spec =
+pub squares_spec : {M : Type 1} → statement M
+squares_spec =
     tie.close
-    (tie.spec invariant-loop decreases-loop (λ c. search rules) loop-holds (λ c. search rules) (λ c. search rules) (λ c. search rules)
-    (λ c. search rules) (λ c κs. search rules) (λ c. search rules) (λ c. search rules) loop-again (λ c κs. search rules) returns)
+    (tie.spec invariant-loop decreases-loop (λ c. search rules) loop-holds (λ c. search rules) (λ c. search rules)
+    (λ c. search rules) (λ c. search rules) (λ c κs. search rules) (λ c. search rules) (λ c. search rules)
+    loop-again (λ c κs. search rules) returns)

@@ -1,2 +1,0 @@
--- What an answer says.
-mod Answers
