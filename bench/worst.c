@@ -1,5 +1,5 @@
 /* The worst time of an L1 fit of 168 hours: what a step of the search costs, and the most steps times that. In bench, after
- * `rt staticlib trend_filter`:
+ * `tools/build trend_filter`:
  * cc -O2 -I../bindings/c worst.c ../target/staticlib/libtrend_filter.a -lm -o ../target/worst && ../target/worst
  *
  * A number after it is that of the rounds. Times are the processor time of the process: what other programs take is not in them.

@@ -50,7 +50,7 @@ def row(path):
     lam, tol, max_iter = struct.unpack_from("<ddQ", d, 40)
     y = struct.unpack_from(f"<{n}d", d, 64)
     lines = path.with_suffix(".exp").read_text().splitlines()
-    asked = fields([("y", vector(map(bits, y))), ("lam", bits(lam)), ("tol", bits(tol)), ("max-iter", max_iter), ("order", order), ("penalty", penalty)])
+    asked = fields([("y", vector(map(bits, y))), ("lam", bits(lam)), ("tol", bits(tol)), ("max_iter", max_iter), ("order", order), ("penalty", penalty)])
     room = fields((name, lent[name]) for name in ["trend", "cycle", "knots", "dual", "work", "marks"])
     end = lines[0]
     if not end.startswith("refused"):
@@ -60,12 +60,12 @@ def row(path):
         knots = [line.split()[1] for line in lines if line.startswith("knot ")]
         dual = [line.split()[2] for line in lines if line.startswith("dual ")]
         found = fields(
-            list(zip(["gap", "«first_gap»", "«best_gap»", "objective"], numbers[1:]))
-            + [("«n_iter»", n_iter), ("improvements", improvements), ("converged", "true" if converged == "1" else "false"), ("reason", REASONS[int(reason)])]
+            list(zip(["gap", "first_gap", "best_gap", "objective"], numbers[1:]))
+            + [("n_iter", n_iter), ("improvements", improvements), ("converged", "true" if converged == "1" else "false"), ("reason", REASONS[int(reason)])]
         )
         end = "fitted (" + fields(
             [("trend", vector("F 0x" + p[2] for p in places)), ("cycle", vector("F 0x" + p[3] for p in places)), ("knots", vector(knots))]
-            + [("dual", vector("F 0x" + w for w in dual)), ("lam-max", numbers[0]), ("numbers", found)]
+            + [("dual", vector("F 0x" + w for w in dual)), ("lam_max", numbers[0]), ("numbers", found)]
         ) + ")"
     say = f"-- order {order}, penalty {penalty}, y {y}, lam {lam!r}, tol {tol!r}, at most {max_iter} iterations: {lines[0]}"
     return say, fields([("asked", asked), ("lent", room), ("outcome", end)])
@@ -77,8 +77,8 @@ def table(number, cases, opened):
         say, record = row(path)
         rows += f"    {say}\n    {'∷ ' if i else ''}{record}\n"
     return (
-        f"abbrev pub table-{number} : List Case\ntable-{number} =\n{rows}    ∷ []\n\n"
-        f"pub known-{number} : worked table-{number} ≡ stated table-{number}\n{opened}\nknown-{number} = refl\n"
+        f"abbrev pub table_{number} : List Case\ntable_{number} =\n{rows}    ∷ []\n\n"
+        f"pub known_{number} : worked table_{number} ≡ stated table_{number}\n{opened}\nknown_{number} = refl\n"
     )
 
 
@@ -90,24 +90,24 @@ def text():
     if not tables:
         sys.exit("known_fits: tests/fits holds no case")
     known = KNOWN.read_text().splitlines()
-    uses = [line for line in known if line.startswith("use Rattle") and ".specs.Known." not in line and ".Reason." not in line]
+    uses = [line for line in known if line.startswith("use Rattle.") and not line.startswith("use Rattle.std.") and ".specs.Known." not in line and ".Reason." not in line]
     # the outcome of a case is named beside what is opened
     uses = [re.sub(r"(\.specs\.Fit\.\{)(?!.*\bfitted\b)", r"\1fitted, ", line) for line in uses]
     opened = next(line for line in known if line.startswith("unfolding"))
     head = [
         "-- Fits that the Rust made, worked out from the definition and compared bit by bit. Written by tests/known_fits.py.",
-        "use mathlib.Core.Path.{_≡_, refl}",
+        "use mathlib.Core.Path.{◌≡◌, refl}",
         "use mathlib.Core.Bool.{true, false}",
-        "use mathlib.Core.List.{List, [], _∷_}",
+        "use mathlib.Core.List.{List, [], ◌∷◌}",
         "use Prim.Native.Nat.{ℕ}",
-        "use lib.Ieee.{Float, binary64, ofBits, ofInt, add, sub, mul, div, neg, lt, le, eq, isNan}",
+        "use lib.Ieee.{Float, binary64, of_bits, of_int, add, sub, mul, div, neg, lt, le, eq, is_nan}",
         *uses,
-        "use Rattle·search.specs.declared.Reason.the-variants.{" + ", ".join(REASONS) + "}",
-        "use Rattle·fit·specs.specs.Known.{Case, worked, stated}",
+        "use Rattle.search.specs.declared.Reason.TheVariants.{" + ", ".join(REASONS) + "}",
+        "use Rattle.fit.specs.Known.{Case, worked, stated}",
         "",
         "-- a double by its bits",
         "abbrev pub F : ℕ → Float",
-        "F = ofBits binary64",
+        "F = of_bits binary64",
         "",
     ]
     return "\n".join(head + [table(n, [p for _, p in sorted(tables[n])], opened) for n in sorted(tables)]), sum(map(len, tables.values()))

@@ -26,7 +26,7 @@ for item in re.findall(r"^\d+\. .*$", listed, re.M):
 
 DECLARED = re.compile(r"^(?:(?:abbrev|unfoldable|opaque|rec) )*pub (?:(?:abbrev|unfoldable|rec) )*(record |data |)([^\s:({]+)")
 # the four operations, which the file's head explains, and the constants, whose decimal stands beside them
-SELF_EVIDENT = {"_⊕_", "_⊖_", "_⊗_", "_⊘_", "c0", "c1", "c2", "half", "c0·99", "c0·01", "c0·2", "c1·2", "c1e-6", "c1e-10", "c1e-12", "infinity"}
+SELF_EVIDENT = {"◌⊕◌", "◌⊖◌", "◌⊗◌", "◌⊘◌", "c0", "c1", "c2", "half", "c0·99", "c0·01", "c0·2", "c1·2", "c1e_6", "c1e_10", "c1e_12", "infinity"}
 total, added, blank, names, kit = 0, 0, 0, collections.defaultdict(list), collections.defaultdict(set)
 for crate, name in files:
     path = f"crates/{crate}/specs/{name}.antt"
@@ -56,7 +56,7 @@ for crate, name in files:
         m = re.match(r"use (\S+?)(?:\.\{(.*)\}| as .*)?$", line)
         if not m:
             continue
-        own = re.match(r"Rattle·(\w+)(?:·specs\.specs|\.specs)\.(.+)", m.group(1))
+        own = re.match(r"Rattle\.(\w+)\.specs\.(.+)", m.group(1))
         if own and os.path.isdir(f"crates/{own.group(1)}"):
             by_meaning = f"`{own.group(1)}` specs/{own.group(2)}.antt, which need not be read" in listed
             if not own.group(2).startswith("declared.") and (own.group(1), own.group(2)) not in files and not by_meaning:

@@ -23,23 +23,31 @@ EXCEPT = {
     "is-nan": "is_nan_lem",
     "nan-bits": "nan_bits_lem",
     "quotient-of": "quotient_of_lem",
+    "milliseconds-in": "milliseconds_in_lem",
+    "nearest-of": "nearest_of_lem",
+    "kept_of": "kept_of_lem",
+    "held_by": "marks_say",
 }
 DECL = re.compile(r"^((?:(?:pub|abbrev|unfoldable|record|data|ruleset)\s+)*)([^\s:{}()\[\],.;]+)\s*(?=[:({\s])")
+BLOCK = re.compile(r"^  (?:(?:pub|abbrev|unfoldable)\s+)*([^\s:{}()\[\],.;]+)\s*:(?!:)")
 MEMBER = re.compile(r"^\s{2,4}(?:pub\s+)?([^\s:{}()\[\],.;]+)\s*:(?!:)")
 
 
 def declared(text):
     """The names that a file declares, and the fields and constructors of its records and data."""
     names, members = set(), set()
-    inside = False
+    inside = module = False
     for line in text.split("\n"):
         if line.strip().startswith("--"):
             continue
         if line and not line[0].isspace():
             m = DECL.match(line)
+            module = line.startswith("module ")
             inside = bool(m) and bool(re.search(r"\b(record|data)\b", m[1]))
             if m and m[2] not in ("use", "unfolding", "mod", "pub", "where", "syntax", "}", ")", "]"):
                 names.add(m[2])
+        elif module and not inside and (m := BLOCK.match(line)):
+            names.add(m[1])
         elif inside:
             m = MEMBER.match(line)
             if m:

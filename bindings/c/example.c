@@ -1,5 +1,5 @@
 /* Document 01's listing by the C entry, what it needs and the dual point; then the hours at which a trend goes past eight seconds, and
- * the knot nearest one. Here, after `rt staticlib trend_filter`:
+ * the knot nearest one. Here, after `tools/build trend_filter`:
  * cc example.c ../../target/staticlib/libtrend_filter.a -o example */
 #include <inttypes.h>
 #include <stdio.h>

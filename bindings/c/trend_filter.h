@@ -1,7 +1,7 @@
 /* The trend of a series, when its search ends and what it needs, where the trend passes a level, and the knot nearest a place: the C
  * entries of the proved static library.
  *
- * `rt staticlib trend_filter` writes target/staticlib/libtrend_filter.a. With it a program is linked, and with no other library:
+ * `tools/build trend_filter` writes target/staticlib/libtrend_filter.a. With it a program is linked, and with no other library:
  *   cc -Ibindings/c program.c target/staticlib/libtrend_filter.a
  *
  * Each entry answers 0, or refuses with the number of the first question answered no: see trend_filter_refusal.

@@ -1,6 +1,6 @@
 """L1 trend filtering and its squared-penalty counterpart, by the proved port, for Python 3.8 and later.
 
-    rt staticlib trend_filter        proves the library and writes it
+    tools/build trend_filter         proves the library and writes it
     bindings/python/build            makes the shared object of it (needs cc)
     PYTHONPATH=bindings/python python3
 
@@ -399,7 +399,7 @@ def _path() -> pathlib.Path:
     for path in places:
         if path.is_file():
             return path.resolve()
-    looked, how = " or ".join(str(p) for p in places), "run 'rt staticlib trend_filter' and bindings/python/build"
+    looked, how = " or ".join(str(p) for p in places), "run 'tools/build trend_filter' and bindings/python/build"
     raise ImportError(f"no {looked}: {how}, or set TREND_FILTER_LIBRARY to the shared object")
 
 

@@ -1,10 +1,10 @@
-// Links the proved static library: TREND_FILTER_LIB, or ../../target/staticlib/libtrend_filter.a, which `rt staticlib trend_filter` writes.
+// Links the proved static library: TREND_FILTER_LIB, or ../../target/staticlib/libtrend_filter.a, which `tools/build trend_filter` writes.
 use std::path::{Path, PathBuf};
 use std::{env, fs};
 
 /// The folder and the name that the linker is given, or what is wrong, in a line.
 fn library(path: &Path) -> Result<(PathBuf, String), String> {
-    let make = "run 'rt staticlib trend_filter' in the repository's root, or set TREND_FILTER_LIB to the full path of libtrend_filter.a";
+    let make = "run 'tools/build trend_filter' in the repository's root, or set TREND_FILTER_LIB to the full path of libtrend_filter.a";
     let full = fs::canonicalize(path).map_err(|_| format!("there is no static library {}: {make}", path.display()))?;
     let name = full.file_name().and_then(|n| n.to_str()).and_then(|n| n.strip_prefix("lib")?.strip_suffix(".a"));
     match (full.is_file(), name, full.parent()) {

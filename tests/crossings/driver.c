@@ -1,6 +1,6 @@
 /* Compares trend_filter_crossings and trend_filter_nearest_knot with document 02's A9, written again here from its words.
  *
- *     rt staticlib trend_filter && cc -O2 -Ibindings/c -o target/crossings_driver tests/crossings/driver.c target/staticlib/libtrend_filter.a && target/crossings_driver
+ *     tools/build trend_filter && cc -O2 -Ibindings/c -o target/crossings_driver tests/crossings/driver.c target/staticlib/libtrend_filter.a && target/crossings_driver
  *
  * Crossings: every trend of up to five places over eleven values (NaNs of both signs, the infinities, the least and the greatest, -0, +0, 1 and
  * its neighbours), with every one of these as the level and lists one short, exact and longer; random trends of up to 40 places; lengths

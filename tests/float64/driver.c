@@ -1,6 +1,6 @@
 /* Compares the proved helpers of crates float64 and square_root with the machine's own, bit by bit (a NaN matches any NaN).
  *
- *     rt staticlib c_tests && cc -O2 -o target/float64_driver tests/float64/driver.c target/staticlib/libc_tests.a -lm && target/float64_driver
+ *     tools/build c_tests && cc -O2 -o target/float64_driver tests/float64/driver.c target/staticlib/libc_tests.a -lm && target/float64_driver
  *
  * Inputs: every special value; every power of two, subnormal ones too, with its neighbours, in both signs; random
  * subnormals; neighbours of squares and of half ways between two roots; random bit patterns. Two numbers may follow:

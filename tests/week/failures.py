@@ -7,7 +7,6 @@ again for about two seconds first. Prints how many cases there were and how many
 import fcntl
 import os
 import pathlib
-import signal
 import subprocess
 import sys
 import time
@@ -89,7 +88,7 @@ def cases():
     yield "a full device, a refusal", full(0), (0, None, UNWRITTEN)
     with open(ROOT / "examples/week.bin", "rb") as week:
         yield "an output that is closed", closed(1, stdin=week), (0, b"", UNWRITTEN)
-    yield "an output that nobody reads", drained(0, False), (-signal.SIGPIPE, b"", b"")
+    yield "an output that nobody reads", drained(0, False), (0, b"", UNWRITTEN)
     yield "an output that is emptied late", drained(LATE), whole
     late = drained(TOO_LATE)
     yield "an output that is emptied too late", (late[0], LISTING.startswith(late[1]) and late[1] != LISTING, late[2]), (0, True, UNWRITTEN)

@@ -21,7 +21,7 @@ def find(given: Optional[str]) -> str:
     path = given or os.environ.get("WEEKTREND") or os.path.normpath(os.path.join(os.path.dirname(os.path.realpath(__file__)), BESIDE))
     if os.path.isfile(path) and os.access(path, os.X_OK):
         return os.path.abspath(path)
-    raise Failure(f"{plain(path)}: no such program; `rt check weektrend` in the repository makes target/bin/weektrend, "
+    raise Failure(f"{plain(path)}: no such program; `tools/build weektrend` in the repository makes target/bin/weektrend, "
                   "--program PATH names another")
 
 

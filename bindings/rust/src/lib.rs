@@ -3,7 +3,7 @@
 //! `TrendFilterFit` has the source's fields and no other, so that a program which takes it apart or builds one compiles too. [`MlError`]
 //! says which case of the source's error isn't here, and which is added.
 //!
-//! `rt staticlib trend_filter`, in the repository's root, writes the library that this crate links; then a program needs
+//! `tools/build trend_filter`, in the repository's root, writes the library that this crate links; then a program needs
 //! `trend-filter = { path = ".../bindings/rust" }` among its dependencies. `TREND_FILTER_LIB` names a library that stands elsewhere, by its full path.
 //!
 //! ```

@@ -28,7 +28,7 @@ def main(names):
         print(__doc__)
         return 2
     if not os.access(common.PROGRAM, os.X_OK):
-        print(f"no program {common.PROGRAM}: rt check weektrend makes it")
+        print(f"no program {common.PROGRAM}: tools/build weektrend makes it")
         return 2
     check = common.Check()
     for name in names or GROUPS:

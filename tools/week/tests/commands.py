@@ -65,7 +65,7 @@ def cases():
         yield ["chart", "good.bin", "-o", "w.svg", option, value], 0, ""
     for target, said in [("dir", "Is a directory"), ("none/w.svg", "No such file"), ("/dev/full", "No space"), ("good.bin", "is read here too")]:
         yield ["chart", "good.bin", "-o", target], 2, said
-    for program, said in [("none", "rt check weektrend"), ("dir", "rt check weektrend"), ("good.bin", "rt check weektrend"), ("/bin/true", "printed nothing"), ("/bin/false", "status 1"),
+    for program, said in [("none", "tools/build weektrend"), ("dir", "tools/build weektrend"), ("good.bin", "tools/build weektrend"), ("/bin/true", "printed nothing"), ("/bin/false", "status 1"),
                           ("/bin/cat", "not a whole listing"), ("/usr/bin/yes", "more than a listing")]:
         for command in (["show", "good.bin"], ["chart", "good.bin", "-o", "w.svg"]):
             yield [*command, "--program", program], 2, said
@@ -80,7 +80,7 @@ def cases():
     yield ["network", "dir", "-o", "r"], 2, "no week file"
     yield ["network", ".", "-o", "."], 2, "folder of its own"
     yield ["network", ".", "-o", "t.csv"], 2, "cannot be written"
-    yield ["network", ".", "-o", "r", "--program", "none"], 2, "rt check weektrend"
+    yield ["network", ".", "-o", "r", "--program", "none"], 2, "tools/build weektrend"
 
 
 def leaves(folder):
