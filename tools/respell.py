@@ -1,10 +1,11 @@
 #!/usr/bin/env python3
 """tools/respell.py: brings the names of the repository's own definitions and lemmas to the kit's spelling.
 
-Run once, at the top, after the kit's port.py. A word is in snake case; a dash stays only where it joins two names of
+Run once, at the top, after the kit's port.py, with --force: --dry writes nothing, --list prints the names. A word is in snake case; a dash stays only where it joins two names of
 functions or definitions, as in length-list; a record's field and a constructor are in snake case. Types and modules keep
-their capitals, functions of src/ and whatever the kit generates keep their names. Names that would fall together are
-listed, and nothing is written; EXCEPT below says what they become.
+their capitals, functions of src/ and whatever the kit generates keep their names. A new name that stands in the same file
+already is listed, and without --force nothing is written then. All that are listed were looked at: they are a module, a
+field or a function of src/ beside a definition, or names of crates that do not meet. Those that would be one are in EXCEPT.
 """
 import collections
 import glob
@@ -123,6 +124,7 @@ def main():
             if f.endswith(".rt") and not (re.search("[A-Z]", a) or "-" in a):
                 return a
             before = t[m.start() - 1] if m.start() else ""
+            # a field and a lemma have this name, beside the definition atLimit: the lemma gets another
             if a == "at-limit" and "/specs/" not in f and before != "." and not re.match(r"\s+=\s", t[m.end():]):
                 return "at_limit_lem"
             if before == "." and a in turned and a not in members and not re.search(r"[A-Z]", a):
