@@ -2,49 +2,35 @@
 use mathlib.Core.Bool.{Bool, true, false, cond}
 use mathlib.Core.Logic.{⊎_elim}
 use mathlib.Core.List.{List, [], ◌∷◌, ◌++◌}
-use mathlib.Core.Path.{◌≡◌, refl, sym, ap, ◌∙◌}
+use mathlib.Core.Path.{◌≡◌, refl, sym, ◌∙◌}
 use Prim.Native.Nat.{ℕ, zero, suc, ◌+◌, ◌-◌, ◌≤◌, ◌<◌, min}
 use native.Mathlib.Nat.{eq-or-lt_of_le, le_of_suc-le-suc, ne_of_lt, ne_of_gt, min-le_right}
 use native.Mathlib.Numerals.{add-one}
 use native.Mathlib.Omega.{arith}
-use borrow.Author.Tests.{eq-eqb, ne_eqb}
-use lib.Dec.{eqb}
 use lib.ListN.{length, get_or, set, length-set, get_or-append}
 use lib.Seq.{get_or_at, get_or-set_same, get_or-set_other}
 use lib.Ieee.{Float, lt}
 use Rattle.float64.specs.Ops.{◌⊕◌, ◌⊖◌}
+use Rattle.std.specs.Int.{from_bool}
 use Rattle.vectors.specs.Vec.{at, places_to, KeptOf}
 use Rattle.vectors.proofs.Parts.{at_part}
 use Rattle.vectors.proofs.Places.{places_count, places_few, places_rising}
 use Rattle.dual_point.specs.Places.{point}
-use Rattle.active_set.specs.ActiveSet.{Hold, free, at_lam, at_minus_lam, is_free, hold_at, free_to, compressed, less_held, less_to, compressed_rhs_at}
+use Rattle.active_set.specs.declared.Hold.TheVariants.{Free, Upper, Lower}
+use Rattle.active_set.specs.declared.Hold.{Hold}
+use Rattle.active_set.specs.ActiveSet.{is_free, hold_at, free_to, compressed, less_held, less_to, compressed_rhs_at}
 use Rattle.active_set.specs.Marks.{mark_of, hold_of, Marks}
 
 -- ---- marks
 
 pub hold_mark : (t : Hold) → hold_of (mark_of t) ≡ t
-hold_mark free = refl
-hold_mark at_lam = refl
-hold_mark at_minus_lam = refl
-
-free_cond : (a b : Bool) → is_free (cond a free (cond b at_lam at_minus_lam)) ≡ a
-free_cond true b = refl
-free_cond false true = refl
-free_cond false false = refl
-
--- the mark of a free place is 0
-free_mark : (x : ℕ) → is_free (hold_of x) ≡ eqb x 0
-free_mark x = free_cond (eqb x 0) (eqb x 1)
-
-pub free_place : {A : Type 0} (x : ℕ) (u v : A) → x ≡ 0 → cond (is_free (hold_of x)) u v ≡ u
-free_place {A} x u v e = ap (λ (b : Bool). cond b u v) (free_mark x ∙ eq-eqb x 0 e)
-
-pub held_place : {A : Type 0} (x : ℕ) (u v : A) → (x ≡ 0 → ⊥) → cond (is_free (hold_of x)) u v ≡ v
-held_place {A} x u v e = ap (λ (b : Bool). cond b u v) (free_mark x ∙ ne_eqb x 0 e)
+hold_mark Free = refl
+hold_mark Upper = refl
+hold_mark Lower = refl
 
 -- how a place is held, read from the run in which the point stands from a on
 pub hold_place : (lam : Float) (a m : ℕ) (s : List Float) (i : ℕ) → i < m
-    → hold_at lam (point a m s) i ≡ cond (lt (lam ⊖ at s (a + i)) (at s (a + m + i))) at_lam (cond (lt (lam ⊕ at s (a + i)) (at s (a + m + m + i))) at_minus_lam free)
+    → hold_at lam (point a m s) i ≡ cond (lt (lam ⊖ at s (a + i)) (at s (a + m + i))) Upper (cond (lt (lam ⊕ at s (a + i)) (at s (a + m + m + i))) Lower Free)
 unfolding hold_at
 hold_place lam a m s i l = rw (at_part a m s i (a + i) l refl, at_part (a + m) m s i (a + m + i) l refl, at_part (a + m + m) m s i (a + m + m + i) l refl)
 
@@ -53,6 +39,11 @@ hold_place lam a m s i l = rw (at_part a m s i (a + i) l refl, at_part (a + m) m
 count_suc : (h : ℕ → Hold) (n : ℕ) → length (free_to h (suc n)) ≡ length (free_to h n) + cond (is_free (h n)) 1 0
 unfolding free_to
 count_suc h n = places_count (λ i. is_free (h i)) n
+
+-- the number of it: 1 where it is free
+pub one_if : (b : Bool) → from_bool b ≡ cond b 1 0
+one_if true = refl
+one_if false = refl
 
 pub count_le : (h : ℕ → Hold) (n : ℕ) → length (free_to h n) ≤ n
 unfolding free_to
@@ -125,16 +116,13 @@ module _ {h : ℕ → Hold} {n i q x : ℕ} {v : List ℕ} (w : Marks h n i v q)
   after : (j : ℕ) → n + i < j → get_or marked j 0 ≡ get_or v j 0
   after j l = get_or-set_other (set v (n + i) x) q j i 0 (ne_of_gt (omega (arith, low))) ∙ get_or-set_other v (n + i) j x 0 (ne_of_gt l)
 
-  one : (r : ℕ) → r ≡ cond (is_free (hold_of x)) 1 0 → r ≡ cond (is_free (h i)) 1 0
-  one r e = e ∙ ap (λ (t : Hold). cond (is_free t) 1 0) (ap hold_of is ∙ hold_mark (h i))
-
-  pub marks_more : (r : ℕ) → r ≡ cond (is_free (hold_of x)) 1 0 → Marks h n (i + 1) (set (set v (n + i) x) q i) (q + r)
+  pub marks_more : (r : ℕ) → r ≡ cond (is_free (h i)) 1 0 → Marks h n (i + 1) (set (set v (n + i) x) q i) (q + r)
   unfolding free_to places_to
   marks_more r e =
       rw (add-one i)
       (record {
-        count = rw (w.count, one r e) (sym (count_suc h i));
-        free = λ j l. snoc_same (free_to h i) (is_free (h i)) i q marked w.count (λ t u. first t u ∙ w.free t u) here j (omega (arith, one r e));
+        count = rw (w.count, e) (sym (count_suc h i));
+        free = λ j l. snoc_same (free_to h i) (is_free (h i)) i q marked w.count (λ t u. first t u ∙ w.free t u) here j (omega (arith, e));
         held = λ j l.
             ⊎_elim
             (λ (u : j ≡ i). rw u (there ∙ is))

@@ -17,7 +17,8 @@ use Rattle.banded.specs.Run.{Keeps}
 use Rattle.banded.specs.Layout.{Laid}
 use Rattle.banded.proofs.Filling.{laid_keeps, keeps_still}
 use Rattle.substitution.specs.Solved.{Solved}
-use Rattle.active_set.specs.ActiveSet.{Hold, free_to, compressed, compressed_rhs_at, compressed_rhs, solved}
+use Rattle.active_set.specs.declared.Hold.{Hold}
+use Rattle.active_set.specs.ActiveSet.{free_to, compressed, compressed_rhs_at, compressed_rhs, solved}
 use Rattle.active_set.specs.Marks.{hold_of, held_by, Marks, Settled}
 use Rattle.active_set.proofs.Laws.{hold_mark, band_ext, right_ext}
 

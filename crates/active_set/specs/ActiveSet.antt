@@ -6,29 +6,25 @@ use Rattle.vectors.specs.Vec.{at, apart, list, places_to}
 use Rattle.banded.specs.Rows.{Matrix, rows}
 use Rattle.banded.specs.Solve.{solve}
 use Rattle.gram.specs.Gram.{gram}
+use Rattle.active_set.specs.declared.Hold.{Hold}
+use Rattle.active_set.specs.declared.Hold.TheVariants.{Free, Upper, Lower}
 use Rattle.dual_point.specs.Dual.{Dual}
-
--- how a place is held
-pub data Hold : Type 0 where
-  free : Hold
-  at_lam : Hold
-  at_minus_lam : Hold
 
 -- place i is held at lam if mu1 > lam - z, else at -lam if mu2 > lam + z
 unfoldable pub hold_at : Float → Dual → ℕ → Hold
-hold_at lam p i = cond (lt (lam ⊖ at p.z i) (at p.mu1 i)) at_lam (cond (lt (lam ⊕ at p.z i) (at p.mu2 i)) at_minus_lam free)
+hold_at lam p i = cond (lt (lam ⊖ at p.z i) (at p.mu1 i)) Upper (cond (lt (lam ⊕ at p.z i) (at p.mu2 i)) Lower Free)
 
 -- whether it is free
 abbrev pub is_free : Hold → Bool
-is_free free = true
-is_free at_lam = false
-is_free at_minus_lam = false
+is_free Free = true
+is_free Upper = false
+is_free Lower = false
 
 -- where it is held; +0 where it is free
 abbrev pub held_at : Float → Hold → Float
-held_at lam free = c0
-held_at lam at_lam = lam
-held_at lam at_minus_lam = neg lam
+held_at lam Free = c0
+held_at lam Upper = lam
+held_at lam Lower = neg lam
 
 -- the free places below n, rising
 unfoldable pub free_to : (ℕ → Hold) → ℕ → List ℕ

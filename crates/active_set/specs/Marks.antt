@@ -3,16 +3,18 @@ use Rattle.std.specs.Prelude.{◌≡◌, Bool, true, cond, List, ℕ, ◌+◌, �
 use Rattle.vectors.specs.Parts.{Kept, part}
 use Rattle.differences.specs.Diff.{gram_row}
 use Rattle.banded.specs.Rows.{sound}
-use Rattle.active_set.specs.ActiveSet.{Hold, free, at_lam, at_minus_lam, free_to, compressed, solved}
+use Rattle.active_set.specs.declared.Hold.TheVariants.{Free, Upper, Lower}
+use Rattle.active_set.specs.declared.Hold.{Hold}
+use Rattle.active_set.specs.ActiveSet.{free_to, compressed, solved}
 
 -- the mark of each way to be held, and the way that a mark stands for
 abbrev pub mark_of : Hold → ℕ
-mark_of free = 0
-mark_of at_lam = 1
-mark_of at_minus_lam = 2
+mark_of Free = 0
+mark_of Upper = 1
+mark_of Lower = 2
 
 abbrev pub hold_of : ℕ → Hold
-hold_of x = cond (eqb x 0) free (cond (eqb x 1) at_lam at_minus_lam)
+hold_of x = cond (eqb x 0) Free (cond (eqb x 1) Upper Lower)
 
 -- how place j is held by the marks from n on
 abbrev pub held_by : ℕ → List ℕ → ℕ → Hold

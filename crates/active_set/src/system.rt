@@ -5,13 +5,9 @@ ghost use Rattle.vectors.specs.Parts.{Kept, part, Written};
 ghost use Rattle.banded.specs.Rows.{placed};
 ghost use Rattle.banded.specs.Layout.{Laid};
 ghost use Rattle.active_set.specs.ActiveSet.{compressed, less_held, compressed_rhs_at};
-ghost use Rattle.active_set.specs.Marks.{hold_of, held_by, Cell, Bands, Side, Freed, Settled};
+ghost use Rattle.active_set.specs.Marks.{held_by, Cell, Bands, Side, Freed, Settled};
 
-fn wide(x: u32) -> usize
-    ensures { result ≡ x }
-{
-    x as usize
-}
+use crate::Hold;
 
 // Place c of row p of the system.
 fn band_at(free: &[u32], g: [f64; 3], k: usize, p: usize, c: usize) -> f64
@@ -21,13 +17,10 @@ fn band_at(free: &[u32], g: [f64; 3], k: usize, p: usize, c: usize) -> f64
     if p + c < k {
         return 0.0;
     }
-    let i = wide(free[p]);
-    let j = wide(free[p + c - k]);
-    let d = vectors::over(i, j);
-    if d <= k {
-        return g[d];
-    }
-    0.0
+    let i = free[p] as usize;
+    let j = free[p + c - k] as usize;
+    let d = i.saturating_sub(j);
+    if d <= k { g[d] } else { 0.0 }
 }
 
 // Row p of it, in its place of s.
@@ -36,11 +29,8 @@ fn fill_row(s: &mut [f64], free: &[u32], g: [f64; 3], k: usize, p: usize)
     ensures { Written (p * (k + 1)) (p * (k + 1) + (k + 1)) (λ j. placed k (compressed k g free.now) p (j - p * (k + 1))) s.old s.new }
 {
     let a = p * (k + 1);
-    let mut c = 0;
-    while c <= k {
-        let x = band_at(free, g, k, p, c);
-        s[a + c] = x;
-        c += 1;
+    for c in 0..=k {
+        s[a + c] = band_at(free, g, k, p, c);
     }
 }
 
@@ -49,24 +39,20 @@ fn fill_bands(s: &mut [f64], free: &[u32], g: [f64; 3], k: usize, q: usize)
     requires { Bands k q (length free.now) (length s.old) }
     ensures { Laid k q (compressed k g free.now) s.old s.new }
 {
-    let mut p = 0;
-    while p < q {
+    for p in 0..q {
         fill_row(s, free, g, k, p);
-        p += 1;
     }
 }
 
-// v less what place j, with the mark h, takes from the right side at place i.
-fn less_held(v: f64, g: [f64; 3], lam: f64, i: usize, j: usize, h: u32) -> f64
+// v less what place j, held as h says, takes from the right side at place i.
+fn less_held(v: f64, g: [f64; 3], lam: f64, i: usize, j: usize, h: Hold) -> f64
     requires { (i ≤ j + 2) × (j ≤ i + 2) }
-    ensures { result ≡ less_held lam g i j (hold_of h) v }
+    ensures { result ≡ less_held lam g i j h v }
 {
-    if h == 0 {
+    if h.is_free() {
         return v;
     }
-    let d = vectors::apart(i, j);
-    let x = crate::held_value(h, lam);
-    v - g[d] * x
+    v - g[i.abs_diff(j)] * h.held_value(lam)
 }
 
 // The right side at the free place i of m.
@@ -83,14 +69,9 @@ fn right_at(
     requires { Side k n m i (length marks.now) (length dy.now) }
     ensures { result ≡ compressed_rhs_at k g dy.now lam (held_by n marks.now) m i }
 {
-    let lo = vectors::over(i, k);
-    let hi = vectors::smaller(i + k + 1, m);
     let mut v = dy[i];
-    let mut j = lo;
-    while j < hi {
-        let h = marks[n + j];
-        v = less_held(v, g, lam, i, j, h);
-        j += 1;
+    for j in i.saturating_sub(k)..(i + k + 1).min(m) {
+        v = less_held(v, g, lam, i, j, marks[n + j].into());
     }
     v
 }
@@ -111,12 +92,8 @@ fn fill_right(
     ensures { (part b q s.new ≡ list q (λ r. compressed_rhs_at k g dy.now lam (held_by n marks.now) (n - k) (get_or marks.now r 0)))
         × Kept b q s.old s.new }
 {
-    let mut p = 0;
-    while p < q {
-        let i = wide(marks[p]);
-        let x = right_at(marks, dy, lam, g, k, n, n - k, i);
-        s[b + p] = x;
-        p += 1;
+    for p in 0..q {
+        s[b + p] = right_at(marks, dy, lam, g, k, n, n - k, marks[p] as usize);
     }
 }
 

@@ -25,13 +25,11 @@ fn factor_entry(s: &[f64], k: usize, r: usize, c: usize) -> f64
     }
     let w = k + 1;
     let mut v = get(s, w, r, c);
-    let mut t = vectors::over(k, r);
-    while t < c {
+    for t in k.saturating_sub(r)..c {
         let a = get(s, w, r, t);
         let b = get(s, w, r + c - k, t + k - c);
         let d = get(s, w, r + t - k, k);
         v = v - a * b * d;
-        t += 1;
     }
     if c < k {
         let d = get(s, w, r + c - k, k);
@@ -47,11 +45,8 @@ pub fn factor_row(s: &mut [f64], k: usize, r: usize)
 {
     let w = k + 1;
     let b = r * w;
-    let mut c = 0;
-    while c < w {
-        let x = factor_entry(s, k, r, c);
-        s[b + c] = x;
-        c += 1;
+    for c in 0..w {
+        s[b + c] = factor_entry(s, k, r, c);
     }
 }
 
@@ -61,12 +56,9 @@ pub fn forward_at(s: &[f64], k: usize, b: usize, i: usize) -> f64
     ensures { result ≡ forward_at k (of_run k s.now) (λ j. at s.now (b + j)) (at s.now (b + i)) i }
 {
     let mut v = s[b + i];
-    let mut t = vectors::over(k, i);
-    while t < k {
+    for t in k.saturating_sub(i)..k {
         let a = get(s, k + 1, i, t);
-        let j = i + t - k;
-        v = v - a * s[b + j];
-        t += 1;
+        v = v - a * s[b + (i + t - k)];
     }
     v
 }

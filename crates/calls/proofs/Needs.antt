@@ -2,23 +2,23 @@
 use mathlib.Core.Path.{◌≡◌, sym, ap, subst, ◌∙◌}
 use Prim.Native.Nat.{ℕ}
 use native.Mathlib.Omega.{arith}
+use Rattle.std.specs.Prelude.{Err}
 use Rattle.float64.proofs.Clash.{impossible}
 use Rattle.questions.specs.declared.Figures.{Figures}
 use Rattle.questions.proofs.Beforehand.{given_same}
 use Rattle.fit.specs.Fit.{Outcome, refused, fitted, fit}
 use Rattle.fit.proofs.Needs.{foretold}
-use Rattle.trend_filter.specs.declared.Answer.TheVariants.{Refused}
 use Rattle.trend_filter.specs.Answers.{lent, answer_of, Scratch}
 use Rattle.calls.specs.Needs.{AskedFirstKeeps}
 use Rattle.calls.proofs.TwoCalls.{came, steps_told}
 
 -- an answer that is a refusal comes from one
-pub refused_came : (o : Outcome) (q : ℕ) → answer_of o ≡ Refused q → o ≡ refused q
+pub refused_came : (o : Outcome) (q : ℕ) → answer_of o ≡ Err q → o ≡ refused q
 unfolding answer_of
 refused_came (refused p) q e = ap refused (let h : p ≡ q = cc in h)
 refused_came (fitted f) q e = impossible cc
 
-refused_told : (o : Outcome) (q : ℕ) → o ≡ refused q → answer_of o ≡ Refused q
+refused_told : (o : Outcome) (q : ℕ) → o ≡ refused q → answer_of o ≡ Err q
 unfolding answer_of
 refused_told o q e = ap answer_of e
 

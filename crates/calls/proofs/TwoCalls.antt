@@ -4,6 +4,7 @@ use mathlib.Core.List.{List}
 use Prim.Native.Nat.{ℕ, ◌<◌}
 use native.Mathlib.Omega.{arith}
 use lib.ListN.{length, take}
+use Rattle.std.specs.Prelude.{Result, Ok}
 use Rattle.float64.proofs.Clash.{impossible}
 use Rattle.vectors.specs.Vec.{put}
 use Rattle.vectors.proofs.Texts.{take_put}
@@ -17,8 +18,6 @@ use Rattle.fit.specs.Reasons.{with_reason}
 use Rattle.fit.specs.Demand3.{with_max_iter}
 use Rattle.fit.proofs.Demand3 as demand
 use Rattle.trend_filter.specs.declared.Summary.{Summary}
-use Rattle.trend_filter.specs.declared.Answer.{Answer}
-use Rattle.trend_filter.specs.declared.Answer.TheVariants.{Fit}
 use Rattle.trend_filter.specs.Answers.{Buffers, lent, summary_of, answer_of}
 use Rattle.calls.specs.Reasons.{reasoned}
 use Rattle.calls.specs.Lasting.{LastingCalls}
@@ -35,7 +34,7 @@ pub record Came (o : Outcome) (x : Summary) : Type 0 where
   pub is : o ≡ fitted result
   pub told : summary_of result ≡ x
 
-pub came : (o : Outcome) (x : Summary) → answer_of o ≡ Fit x → Came o x
+pub came : (o : Outcome) (x : Summary) → answer_of o ≡ Ok x → Came o x
 unfolding answer_of
 came (refused q) x e = impossible cc
 came (fitted f) x e = record { result = f; is = refl; told = (let h : summary_of f ≡ x = cc in h) }
@@ -66,7 +65,7 @@ same_places_lem a f b d c e l p q = record {
 }
 
 -- another reason: of the answer, and of what is written
-told_with : (q : Reason) (f : FitResult) → answer_of (fitted (with_reason q f)) ≡ Fit (reasoned q (summary_of f))
+told_with : (q : Reason) (f : FitResult) → answer_of (fitted (with_reason q f)) ≡ Ok (reasoned q (summary_of f))
 unfolding answer_of summary_of
 told_with q f = refl
 
@@ -74,12 +73,12 @@ after_with : (q : Reason) (f : FitResult) (b : Outputs) → after (fitted (with_
 unfolding after
 after_with q f b = refl
 
-fit-knots : {x y : Summary} → Fit x ≡ Fit y → x.knots ≡ y.knots
+fit-knots : {x y : Summary} → ◌≡◌ {A = Result Summary ℕ} (Ok x) (Ok y) → x.knots ≡ y.knots
 fit-knots {x} {y} e = ap (λ (s : Summary). s.knots) (let h : x ≡ y = cc in h)
 
-module _ (a : Asked) (other : ℕ) (r s : Answer) (b c d e : Buffers) (h : TwoCalls a other r s b c d e) where
+module _ (a : Asked) (other : ℕ) (r s : Result Summary ℕ) (b c d e : Buffers) (h : TwoCalls a other r s b c d e) where
   -- the first call's fit
-  fits : (x : Summary) → r ≡ Fit x → Came (fit a (lent b)) x
+  fits : (x : Summary) → r ≡ Ok x → Came (fit a (lent b)) x
   fits x t = came (fit a (lent b)) x (sym h.first.gives.answer ∙ t)
 
   -- questions 8 and 9 don't read the limit
@@ -107,11 +106,11 @@ module _ (a : Asked) (other : ℕ) (r s : Answer) (b c d e : Buffers) (h : TwoCa
   }
 
   -- calls whose outcome is one but for the reason
-  agree_but : (q : Reason) (x : Summary) (g : Came (fit a (lent b)) x) → fit (with_max_iter other a) (lent b) ≡ fitted (with_reason q g.result) → Agree a (Fit (reasoned q x)) s c e
+  agree_but : (q : Reason) (x : Summary) (g : Came (fit a (lent b)) x) → fit (with_max_iter other a) (lent b) ≡ fitted (with_reason q g.result) → Agree a (Ok (reasoned q x)) s c e
   agree_but q x g w =
       let o = same (fitted (with_reason q g.result)) w in
       record {
-        answers = h.second.gives.answer ∙ ap answer_of o ∙ told_with q g.result ∙ ap (λ (z : Summary). Fit (reasoned q z)) g.told;
+        answers = h.second.gives.answer ∙ ap answer_of o ∙ told_with q g.result ∙ ap (λ (z : Summary). Ok (reasoned q z)) g.told;
         places = λ z t.
             subst (λ (k : ℕ). SamePlaces (length a.y) k (places a) c.out e.out) (knots_told g.result x g.told ∙ fit-knots t)
             (placed g.result (fitted (with_reason q g.result)) g.is o (after_with q g.result));
@@ -134,7 +133,7 @@ module _ (a : Asked) (other : ℕ) (r s : Answer) (b c d e : Buffers) (h : TwoCa
     settled = λ low high. agree (demand.settled a (lent b) other a.max_iter high low);
   }
 
-  lasts : (x : Summary) → r ≡ Fit x → (x.reason ≡ LimitSpent → ⊥) → a.max_iter < other → Agree a r s c e
+  lasts : (x : Summary) → r ≡ Ok x → (x.reason ≡ LimitSpent → ⊥) → a.max_iter < other → Agree a r s c e
   lasts x t w g =
       let f = fits x t in
       agree (demand.other_reason a (lent b) f.result f.is (λ z. w (sym (reason_told f.result x f.told) ∙ z)) other g ∙ sym f.is)

@@ -1,5 +1,7 @@
 -- Document 01, "Certificate at z": what it leaves in a run whose first places are for the trend and whose next hold z.
-use Rattle.std.specs.Prelude.{◌≡◌, Bool, true, List, ℕ, ◌+◌, ◌-◌, ◌≤◌, length, Float}
+use Rattle.std.specs.Prelude.{◌≡◌, List, ℕ, ◌+◌, ◌-◌, ◌≤◌, ◌<◌, length, Float}
+use Rattle.std.specs.Fn.{Shared}
+use denote.Ref.{Bor}
 use Rattle.float64.specs.Ops.{◌⊗◌}
 use Rattle.float64.specs.Helpers.{abs_of}
 use Rattle.vectors.specs.Vec.{at}
@@ -43,13 +45,17 @@ pub record Beside (k n s dy : ℕ) : Type 0 where
   pub room : n + (n - k) ≤ s
   pub long : n - k ≤ dy
 
--- there the places from `from` up to `to` can be passed, the first k being behind; inner says that they are away from the ends
-pub record Ahead (k n s dy from to : ℕ) (inner : Bool) : Type 0 where
+-- there the places from `from` up to `to` can be passed, the first k being behind
+pub record Ahead (k n s dy from to : ℕ) : Type 0 where
   pub beside : Beside k n s dy
   pub after : k ≤ from
   pub order : from ≤ to
   pub within : to ≤ n
-  pub away : inner ≡ true → to ≤ n - k
+
+-- f gives the places of D'z from `from` up to `to`, where z has m places
+pub record Falls {F : Type 0} (c : Shared F (Bor (List Float) × (ℕ × Unit {0})) Float) (f : F) (k m from to : ℕ) : Type 0 where
+  pub takes : (z : Bor (List Float)) (j : ℕ) → length z.now ≡ m → from ≤ j → j < to → c.pre f (z, (j, tt))
+  pub tells : (z : Bor (List Float)) (j : ℕ) (r : Float) → c.post f (z, (j, tt)) r → length z.now ≡ m → from ≤ j → j < to → r ≡ at (diff_kt k z.now) j
 
 -- the whole trend and its sums; all else is as found
 pub record Summed (k : ℕ) (y dy s₀ s : List Float) (c : Sums) : Type 0 where

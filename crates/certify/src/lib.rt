@@ -22,10 +22,8 @@ pub fn clamp_into(dual: &mut [f64], z: &[f64], lam: f64)
     requires { length z.now ≤ length dual.old }
     ensures { dual.new ≡ put dual.old 0 (clamped lam z.now) }
 {
-    let mut i = 0;
-    while i < z.len() {
-        dual[i] = float64::clamp(z[i], lam);
-        i += 1;
+    for (i, x) in z.iter().enumerate() {
+        dual[i] = float64::clamp(*x, lam);
     }
 }
 
@@ -35,10 +33,8 @@ fn product(v: &[f64], dy: &[f64]) -> f64
     ensures { result ≡ dot v.now dy.now }
 {
     let mut a = 0.0;
-    let mut i = 0;
-    while i < v.len() {
-        a = a + v[i] * dy[i];
-        i += 1;
+    for (i, x) in v.iter().enumerate() {
+        a += x * dy[i];
     }
     a
 }

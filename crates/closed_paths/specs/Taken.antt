@@ -1,5 +1,6 @@
 -- What a path asks and what it leaves. n is the length of the series, l the places that the path takes behind the preparation. For the contracts between our own crates.
 use Rattle.std.specs.Prelude.{◌≡◌, List, ℕ, ◌+◌, ◌-◌, ◌≤◌, length, take, Float}
+use Rattle.std.specs.Prelude as code
 use Rattle.std.proofs.Math.Option.{Option, none}
 use Rattle.vectors.specs.Parts.{Kept, part}
 use Rattle.differences.specs.Diff.{diff_k, gram_row}
@@ -8,7 +9,6 @@ use Rattle.gram.specs.Gram.{zstar, lam_max}
 use Rattle.gram.specs.Prepared.{star_lane, diff_lane, preparation}
 use Rattle.fit.specs.Fit.{Found}
 use Rattle.closed_paths.specs.declared.Finding.{Finding}
-use Rattle.closed_paths.specs.declared.Path.{Path}
 use Rattle.closed_paths.specs.Trends.{path_area, path_marks, reach, found_of, said, reached}
 
 -- ---- what is asked
@@ -56,7 +56,7 @@ pub record Finds {I : Type 0} (f : I → Found) (k l : ℕ) (y w₀ w c₀ c d�
   pub changed : Changed k l (length y) w₀ w c₀ c d₀ d
 
 -- a path answered r: where it is lost, cycle and dual are as found
-pub record Took (f : Option Found) (k l : ℕ) (y w₀ w c₀ c d₀ d : List Float) (r : Path) : Type 0 where
+pub record Took (f : Option Found) (k l : ℕ) (y w₀ w c₀ c d₀ d : List Float) (r : code.Option Finding) : Type 0 where
   pub says : said k y w d r ≡ f
   pub stands : reached r (length y) ≤ length w
   pub lost : f ≡ none → (c ≡ c₀) × (d ≡ d₀)

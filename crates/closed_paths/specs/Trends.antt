@@ -1,5 +1,6 @@
 -- Where the trend of a path stands, and what a path's answer says with it. n is the length of the series. For the contracts between our own crates.
 use Rattle.std.specs.Prelude.{cond, List, ℕ, ◌+◌, ◌-◌, ◌*◌, eqb, length, Float}
+use Rattle.std.specs.Prelude as code
 use Rattle.std.proofs.Math.Option.{Option, none, some}
 use Rattle.vectors.specs.Parts.{part}
 use Rattle.gram.specs.Prepared.{preparation}
@@ -8,8 +9,6 @@ use Rattle.fit.specs.Fit.{Found}
 use Rattle.closed_paths.specs.declared.Trend.{Trend}
 use Rattle.closed_paths.specs.declared.Trend.TheVariants.{Series, Solution, Won}
 use Rattle.closed_paths.specs.declared.Finding.{Finding}
-use Rattle.closed_paths.specs.declared.Path.{Path}
-use Rattle.closed_paths.specs.declared.Path.TheVariants.{Lost, Done}
 
 -- L2's trend: the rows of its system end there
 abbrev pub solution_lane : ℕ → ℕ
@@ -50,11 +49,11 @@ abbrev pub found_of : ℕ → List Float → List Float → List Float → Findi
 found_of k y w d f = record { trend = trend_of y w f.trend; dual = part 0 (length y - k) d; numbers = f.numbers }
 
 -- what an answer says: nothing was found, or this
-unfoldable pub said : ℕ → List Float → List Float → List Float → Path → Option Found
-said k y w d Lost = none
-said k y w d (Done f) = some (found_of k y w d f)
+unfoldable pub said : ℕ → List Float → List Float → List Float → code.Option Finding → Option Found
+said k y w d code.None = none
+said k y w d (code.Some f) = some (found_of k y w d f)
 
 -- the reach of an answer
-unfoldable pub reached : Path → ℕ → ℕ
-reached Lost n = 0
-reached (Done f) n = reach f.trend n
+unfoldable pub reached : code.Option Finding → ℕ → ℕ
+reached code.None n = 0
+reached (code.Some f) n = reach f.trend n

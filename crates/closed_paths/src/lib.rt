@@ -28,22 +28,13 @@ pub struct Finding {
     pub numbers: Numbers,
 }
 
-// A pivot of the system was bad, or what was found.
-#[derive(Clone, Copy)]
-pub enum Path {
-    Lost,
-    Done(Finding),
-}
-
 // The first places of cycle become D y, which stands in the preparation.
 pub fn differences_to(cycle: &mut [f64], work: &[f64], y: &[f64], k: usize)
     requires { AsksL1 k (search_area (length y.now)) y.now work.now cycle.old }
     ensures { Differences k y.now cycle.old cycle.new }
 {
     let n = y.len();
-    let a = 4 * n;
-    let e = a + (n - k);
-    vectors::copy(cycle, &work[a..e]);
+    vectors::copy(cycle, &work[4 * n..4 * n + (n - k)]);
 }
 
 // The numbers of a closed path.
@@ -51,10 +42,10 @@ pub fn closed(gap: f64, objective: f64) -> Numbers
     ensures { result ≡ closed gap objective }
 {
     Numbers {
-        gap: gap,
+        gap,
         first_gap: gap,
         best_gap: gap,
-        objective: objective,
+        objective,
         n_iter: 0,
         improvements: 0,
         converged: true,
@@ -70,10 +61,9 @@ pub fn zero_path(dual: &mut [f64], y: &[f64], k: usize) -> Finding
 {
     let m = y.len() - k;
     vectors::fill(dual, 0, m, 0.0);
-    let s = closed(0.0, 0.0);
     Finding {
         trend: Trend::Series,
-        numbers: s,
+        numbers: closed(0.0, 0.0),
     }
 }
 
@@ -98,15 +88,14 @@ pub fn flat_path(
     let e = z + m;
     vectors::copy_within(work, m * (k + 1), z, m);
     let p = certify::certify_l1(&mut work[a..e], dual, y, cycle, lam, k);
-    let s = closed(p.primal - p.dual, p.primal);
     Finding {
         trend: Trend::Won(false),
-        numbers: s,
+        numbers: closed(p.primal - p.dual, p.primal),
     }
 }
 
-// L2: lost where a pivot of its system is bad. The system's rows end where the trend is to stand.
-pub fn l2_path(work: &mut [f64], dual: &mut [f64], y: &[f64], lam: f64, k: usize) -> Path
+// L2; none where a pivot of its system is bad. The system's rows end where the trend is to stand.
+pub fn l2_path(work: &mut [f64], dual: &mut [f64], y: &[f64], lam: f64, k: usize) -> Option<Finding>
     requires { AsksL2 k (ridge_area (length y.now)) (length y.now) (length work.old) × (length y.now - k ≤ length dual.old) }
     ensures { (tol : Float) (max_iter penalty : ℕ) (c : List Float) → Took (path_l2 (asking y.now lam tol max_iter k penalty)) k (ridge_area (length y.now)) y.now
         work.old work.new c c dual.old dual.new result }
@@ -116,12 +105,11 @@ pub fn l2_path(work: &mut [f64], dual: &mut [f64], y: &[f64], lam: f64, k: usize
     let a = b - n * (k + 1);
     let e = 9 * n;
     if !l2::solve_l2(&mut work[a..e], y, lam, k) {
-        return Path::Lost;
+        return None;
     }
     let o = l2::objectives(dual, &work[b..e], y, lam, k);
-    let s = closed(o.gap, o.objective);
-    Path::Done(Finding {
+    Some(Finding {
         trend: Trend::Solution,
-        numbers: s,
+        numbers: closed(o.gap, o.objective),
     })
 }

@@ -3,41 +3,33 @@
 
 ghost use Rattle.std.specs.Prelude.{◌≡◌, ◌≤◌, ◌<◌, length};
 ghost use Rattle.questions.specs.Asking.{asking};
-ghost use Rattle.trend_filter.specs.Inner.{one_if};
+ghost use Rattle.questions.specs.Refusals.{numbered};
 ghost use Rattle.trend_filter.specs.Answers.{buffers};
 ghost use Rattle.compared.specs.Outcomes.{same_summary, same_fit, Compares};
 ghost use Rattle.compared.specs.Inner.{same_answer, Room};
 
-use trend_filter::{Answer, Summary, TrendFilterOptions, l1_trend_filter};
-
-fn one_if(b: bool) -> u64
-    ensures { result ≡ one_if b }
-{
-    if b { 1 } else { 0 }
-}
-
-fn wide(x: u32) -> u64
-    ensures { result ≡ x }
-{
-    x as u64
-}
+use questions::Refusal;
+use trend_filter::{Summary, TrendFilterOptions, l1_trend_filter};
 
 // Whether the numbers of a fit are the words from a on.
+#[tactic(auto, unfolding(crate::specs::Outcomes::same_summary))]
 fn same_summary(f: Summary, s: &[u8; 131072], a: usize) -> bool
     requires { a < 32768 }
     ensures { result ≡ same_summary f s.now a }
 {
-    let why = f.reason;
-    let r = search::number(why);
-    let b = one_if(f.converged);
     let numbers = [f.lam_max, f.gap, f.first_gap, f.best_gap, f.objective];
-    let counts = [f.knots as u64, f.n_iter, f.improvements, b, r];
-    let d = stored::same_doubles(&numbers, s, a);
-    let c = stored::same_counts(&counts, s, a + 5);
-    stored::both(d, c)
+    let counts = [
+        f.knots as u64,
+        f.n_iter,
+        f.improvements,
+        u64::from(f.converged),
+        u64::from(f.reason),
+    ];
+    stored::same_words(&numbers, s, a) && stored::same_words(&counts, s, a + 5)
 }
 
 // Whether a fit is the one that is stored from word a on.
+#[tactic(auto, unfolding(crate::specs::Outcomes::same_fit))]
 fn same_fit(
     f: Summary,
     trend: &[f64],
@@ -51,15 +43,15 @@ fn same_fit(
     requires a_bound { a < 32000 }
     ensures { result ≡ same_fit f trend.now cycle.now knots.now dual.now s.now a }
 {
-    let w = stored::word(s, a);
-    let n = same_summary(f, s, a + 1);
-    let p = stored::same_places(trend, cycle, knots, dual, s, a + 11);
-    stored::both(w == 0, stored::both(n, p))
+    stored::word(s, a) == 0
+        && same_summary(f, s, a + 1)
+        && stored::same_places(trend, cycle, knots, dual, s, a + 11)
 }
 
 // Whether an answer is the one that is stored from word a on; the places of a fit of n, with m differences, stand first in the slices.
+#[tactic(auto, unfolding(crate::specs::Inner::same_answer))]
 fn same_answer(
-    r: Answer,
+    r: Result<Summary, Refusal>,
     n: usize,
     m: usize,
     trend: &[f64],
@@ -69,24 +61,21 @@ fn same_answer(
     s: &[u8; 131072],
     a: usize,
 ) -> bool
-    requires room { Room r n m (length trend.now) (length cycle.now) (length knots.now) (length dual.now) }
+    requires room { Room (numbered r) n m (length trend.now) (length cycle.now) (length knots.now) (length dual.now) }
     requires a_bound { a < 32000 }
-    ensures { result ≡ same_answer r n m trend.now cycle.now knots.now dual.now s.now a }
+    ensures { result ≡ same_answer (numbered r) n m trend.now cycle.now knots.now dual.now s.now a }
 {
     match r {
-        Answer::Refused(q) => wide(q) == stored::word(s, a),
-        Answer::Fit(f) => {
-            let k = f.knots;
-            same_fit(
-                f,
-                &trend[0..n],
-                &cycle[0..n],
-                &knots[0..k],
-                &dual[0..m],
-                s,
-                a,
-            )
-        }
+        Err(q) => u64::from(u32::from(q)) == stored::word(s, a),
+        Ok(f) => same_fit(
+            f,
+            &trend[..n],
+            &cycle[..n],
+            &knots[..f.knots],
+            &dual[..m],
+            s,
+            a,
+        ),
     }
 }
 
@@ -111,7 +100,7 @@ pub fn same_outcome(
         s.now a }
 {
     let n = y.len();
-    let m = vectors::over(n, opts.order as usize);
+    let m = n.saturating_sub(opts.order as usize);
     let r = l1_trend_filter(y, lam, opts, trend, cycle, knots, dual, work, marks);
     same_answer(r, n, m, trend, cycle, knots, dual, s, a)
 }

@@ -3,57 +3,30 @@ use mathlib.Core.Path.{◌≡◌, refl, sym, ap, ◌∙◌}
 use mathlib.Core.Logic.{◌⊎◌, inl, inr, ⊎_elim}
 use mathlib.Core.Bool.{Bool, true, false, cond}
 use mathlib.Core.List.{List, [], ◌∷◌}
-use Prim.Native.Nat.{ℕ, zero, suc, ◌+◌, ◌≤◌, ◌<◌, min}
-use native.Mathlib.Numerals.{add-one}
+use Prim.Native.Nat.{ℕ, zero, suc, ◌≤◌, ◌<◌, min}
 use native.Mathlib.Omega.{arith}
-use lib.Dec.{leb, ltb}
-use lib.ListN.{length, get_or, drop, drop_of_length-le}
-use lib.Seq.{drop-cons}
-use borrow.Author.Tests.{ltb-true, ltb-false, lt-ltb, le-ltb, le-leb, lt-leb}
+use lib.Dec.{ltb}
+use lib.ListN.{length, get_or}
+use borrow.Author.Tests.{ltb-true, ltb-false}
+use Rattle.std.specs.Prelude.{Some, fold}
+use Rattle.std.specs.List.{reduce}
 use Rattle.float64.proofs.Clash.{impossible}
-use Rattle.float64.proofs.Order.{and_off}
 use Rattle.vectors.specs.Vec.{apart}
 use Rattle.vectors.specs.Rising.{Among}
 use Rattle.vectors.proofs.Parts.{split}
-use Rattle.crossings.specs.declared.Near.TheVariants.{Knot, NoKnot, Refused}
-use Rattle.crossings.specs.Nearest.{nearer, nearest_of, nearest_in, nearest_knot, NearestOne, AnswersNearest}
+use Rattle.crossings.specs.Nearest.{nearer, nearest_of, nearest_in, NearestOne, AnswersNearest}
 
--- ---- whether it is refused
+-- ---- as a fold over the knots
 
-pub no_place : (p n : ℕ) (knots : List ℕ) → (65536 < n) ⊎ (n ≤ p) → nearest_knot p n knots ≡ Refused 19
-unfolding nearest_knot
-no_place p n knots o =
-    ⊎_elim
-    (λ (h : 65536 < n). rw (lt-leb n 65536 h))
-    (λ (h : n ≤ p). rw (le-ltb p n h, and_off (leb n 65536)))
-    o
-
-pub a_place : (p n : ℕ) (knots : List ℕ) → n ≤ 65536 → p < n → nearest_knot p n knots ≡ nearest_in p knots
-unfolding nearest_knot
-a_place p n knots h g = rw (le-leb n 65536 h, lt-ltb p n g)
-
--- ---- a loop over the knots
-
--- one more looked at
-pub nearest_more : (p : ℕ) (knots : List ℕ) (i a : ℕ) {r k : ℕ} → nearest_of p a (drop i knots) ≡ k → i < length knots → r ≡ nearer p a (get_or knots i 0) → nearest_of p r (drop (i + 1) knots) ≡ k
+nearest_fold : (p a : ℕ) (l : List ℕ) → fold (nearer p) a l ≡ nearest_of p a l
 unfolding nearest_of
-nearest_more p knots i a e h s = rw (add-one i, s) (ap (nearest_of p a) (sym (drop-cons knots i 0 h)) ∙ e)
+nearest_fold p a [] = refl
+nearest_fold p a (b ∷ l) = nearest_fold p (nearer p a b) l
 
--- none is left
-pub nearest_done : (p : ℕ) (knots : List ℕ) (i : ℕ) {a k : ℕ} → nearest_of p a (drop i knots) ≡ k → length knots ≤ i → a ≡ k
-unfolding nearest_of
-nearest_done p knots i {a} e h = sym (ap (nearest_of p a) (drop_of_length-le knots h)) ∙ e
-
--- with knots and with none
-pub nearest_some : (p : ℕ) (knots : List ℕ) → 0 < length knots → nearest_in p knots ≡ Knot (nearest_of p (get_or knots 0 0) (drop 1 knots))
+pub nearest_reduce : (p : ℕ) (knots : List ℕ) → reduce (nearer p) knots ≡ nearest_in p knots
 unfolding nearest_in
-nearest_some p [] h = absurd (omega arith)
-nearest_some p (a ∷ l) h = refl
-
-pub nearest_none : (p : ℕ) (knots : List ℕ) → length knots ≡ 0 → nearest_in p knots ≡ NoKnot
-unfolding nearest_in
-nearest_none p [] h = refl
-nearest_none p (a ∷ l) h = absurd (omega arith)
+nearest_reduce p [] = refl
+nearest_reduce p (a ∷ l) = ap Some (nearest_fold p a l)
 
 -- ---- the order in which one is the nearest
 
@@ -160,6 +133,6 @@ answers_nearest p (a ∷ l) =
       told = λ k e. let s : m ≡ k = cc in rw s at n;
       only = λ k o.
           let d : apart p k ≡ apart p m = omega (arith, n.nearest k o.listed, o.nearest m n.listed) in
-          ap Knot (omega (arith, n.lowest k o.listed d, o.lowest m n.listed (sym d)));
+          ap Some (omega (arith, n.lowest k o.listed d, o.lowest m n.listed (sym d)));
       none = λ e. impossible cc;
     }

@@ -1,11 +1,9 @@
 -- Document 02, A9, "Where the trend passes a mark": the crossings of a level, and what a call that lists them answers and leaves in the list lent to it.
-use Rattle.std.specs.Prelude.{◌≡◌, Bool, cond, ◌&&◌, ◌||◌, List, ℕ, ◌+◌, ◌-◌, leb, eqb, length, Float}
+use Rattle.std.specs.Prelude.{◌≡◌, Bool, cond, ◌&&◌, ◌||◌, List, ℕ, ◌+◌, ◌-◌, leb, eqb, length, Float, Result, Ok, Err}
 use Rattle.std.specs.Float.Ieee.{lt, le}
 use Rattle.float64.specs.Helpers.{is_finite}
 use Rattle.vectors.specs.Vec.{at, places_to, put}
 use Rattle.questions.specs.Questions.{ask}
-use Rattle.crossings.specs.declared.Listed.{Listed}
-use Rattle.crossings.specs.declared.Listed.TheVariants.{Count, Refused}
 
 -- a is at or below the level, and b above it; a NaN is neither
 abbrev pub upward : Float → Float → Float → Bool
@@ -36,8 +34,8 @@ unfoldable pub unlisted : Float → ℕ → ℕ → ℕ
 unlisted level n places = ask 18 (is_finite level) (ask 19 (leb n 65536 && leb n places) 0)
 
 -- the whole of a call: r the answer, b what the list held before and c after
-pub record CrossingsListed (level : Float) (t : List Float) (r : Listed) (b c : List ℕ) : Type 0 where
+pub record CrossingsListed (level : Float) (t : List Float) (r : Result ℕ ℕ) (b c : List ℕ) : Type 0 where
   -- how many crossings there are, or the refusal's number
-  pub answer : let q = unlisted level (length t) (length b) in r ≡ cond (eqb q 0) (Count (length (crossings level t))) (Refused q)
+  pub answer : let q = unlisted level (length t) (length b) in r ≡ cond (eqb q 0) (Ok (length (crossings level t))) (Err q)
   -- the crossings in its first places and all others as found; after a refusal all of it is as found
   pub list : let q = unlisted level (length t) (length b) in c ≡ cond (eqb q 0) (put b 0 (crossings level t)) b

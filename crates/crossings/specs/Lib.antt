@@ -1,4 +1,5 @@
 -- The definitions that the contracts of crossings cite.
+pub mod Refusals
 pub mod Crossings
 pub mod Nearest
 pub mod Passing

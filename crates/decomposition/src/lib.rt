@@ -25,11 +25,8 @@ fn max_rest(y: &[f64], from: usize, top: f64) -> f64
     ensures { top ≡ max_to (λ j. abs_of (at y.now j)) from → result ≡ max_abs y.now }
 {
     let mut top = top;
-    let mut i = from;
-    while i < y.len() {
-        let x = float64::abs(y[i]);
-        top = float64::max(top, x);
-        i += 1;
+    for x in &y[from..] {
+        top = float64::max(top, float64::abs(*x));
     }
     top
 }
@@ -42,19 +39,13 @@ fn greatest(y: &[f64], k: usize) -> Peaks
     let m = y.len() - k;
     let mut a = 0.0;
     let mut b = 0.0;
-    let mut i = 0;
-    while i < m {
-        let d = differences::diff_at(y, k, i);
-        let x = float64::abs(d);
-        a = float64::max(a, x);
-        let z = float64::abs(y[i]);
-        b = float64::max(b, z);
-        i += 1;
+    for i in 0..m {
+        a = float64::max(a, float64::abs(differences::diff_at(y, k, i)));
+        b = float64::max(b, float64::abs(y[i]));
     }
-    let c = max_rest(y, m, b);
     Peaks {
         differences: a,
-        values: c,
+        values: max_rest(y, m, b),
     }
 }
 
@@ -75,12 +66,9 @@ fn find_knots(knots: &mut [u32], x: &[f64], y: &[f64], k: usize) -> usize
     let t = threshold(y, k);
     let m = x.len() - k;
     let mut n = 0;
-    let mut i = 0;
-    while i < m {
-        let d = differences::diff_at(x, k, i);
-        let size = float64::abs(d);
+    for i in 0..m {
+        let size = float64::abs(differences::diff_at(x, k, i));
         n = vectors::add_place(knots, n, i, t < size);
-        i += 1;
     }
     n
 }
@@ -90,10 +78,8 @@ fn minus_into(c: &mut [f64], y: &[f64], x: &[f64])
     requires { (length y.now ≤ length x.now) × (length y.now ≤ length c.old) }
     ensures { c.new ≡ put c.old 0 (minus y.now x.now) }
 {
-    let mut i = 0;
-    while i < y.len() {
+    for i in 0..y.len() {
         c[i] = y[i] - x[i];
-        i += 1;
     }
 }
 

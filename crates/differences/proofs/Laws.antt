@@ -43,6 +43,14 @@ at-diff_2 v i h =
     let a : at (diff v) (i + 1) ≡ at v (i + 2) ⊖ at v (i + 1) = at-diff v (i + 1) (omega arith) ∙ rw q in
     at-diff (diff v) i (omega arith) ∙ rw (a, at-diff v i (omega arith))
 
+-- the same with the order as the code has it
+pub diff_at_1 : (k : ℕ) (v : List Float) (i : ℕ) → k ≡ 1 → i + k < length v → at (diff_k k v) i ≡ at v (i + 1) ⊖ at v i
+diff_at_1 k v i e h = rw e (at-diff_1 v i (omega arith))
+
+pub diff_at_2 : (k : ℕ) (v : List Float) (i : ℕ) → k ≡ 2 → i + k < length v
+    → at (diff_k k v) i ≡ (at v (i + 2) ⊖ at v (i + 1)) ⊖ (at v (i + 1) ⊖ at v i)
+diff_at_2 k v i e h = rw e (at-diff_2 v i (omega arith))
+
 -- ---- D'
 
 pub length-diff_t : (v : List Float) → length (diff_t v) ≡ length v + 1
@@ -53,6 +61,8 @@ pub length-diff_kt : (k : ℕ) (v : List Float) → length (diff_kt k v) ≡ len
 unfolding diff_kt
 length-diff_kt zero v = omega arith
 length-diff_kt (suc k) v = length-diff_t (diff_kt k v) ∙ omega (arith, length-diff_kt k v)
+
+pub ruleset lengths = (length-diff_k, length-diff_kt)
 
 pub at-diff_t : (v : List Float) (j : ℕ) → j < length v + 1 → at (diff_t v) j ≡ fall (length v) (at v) j
 unfolding diff_t
@@ -88,3 +98,18 @@ inner_2 v j a b =
     at-fall_2 v j (omega arith)
     ∙ fall_inner (length v + 1) (fall (length v) (at v)) j (omega arith) (omega arith)
     ∙ ap₂ (λ (x y : Float). x ⊖ y) (fall_inner (length v) (at v) (j - 1) (omega arith) (omega arith) ∙ rw d) (fall_inner (length v) (at v) j (omega arith) b)
+
+-- the same with the order as the code has it
+pub fall_at_1 : (k : ℕ) (v : List Float) (j : ℕ) → k ≡ 1 → j < length v + k → at (diff_kt k v) j ≡ fall (length v) (at v) j
+fall_at_1 k v j e h = rw e (at-fall_1 v j (omega arith))
+
+pub fall_at_2 : (k : ℕ) (v : List Float) (j : ℕ) → k ≡ 2 → j < length v + k
+    → at (diff_kt k v) j ≡ fall (length v + 1) (fall (length v) (at v)) j
+fall_at_2 k v j e h = rw e (at-fall_2 v j (omega arith))
+
+pub inner_at_1 : (k : ℕ) (v : List Float) (j : ℕ) → k ≡ 1 → k ≤ j → j < length v → at (diff_kt k v) j ≡ at v (j - 1) ⊖ at v j
+inner_at_1 k v j e a b = rw e (inner_1 v j (omega arith) b)
+
+pub inner_at_2 : (k : ℕ) (v : List Float) (j : ℕ) → k ≡ 2 → k ≤ j → j < length v
+    → at (diff_kt k v) j ≡ (at v (j - 2) ⊖ at v (j - 1)) ⊖ (at v (j - 1) ⊖ at v j)
+inner_at_2 k v j e a b = rw e (inner_2 v j (omega arith) b)

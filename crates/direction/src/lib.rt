@@ -1,25 +1,13 @@
 // The direction of a Newton step from a dual point, and the step cap. A point stands in a run as z, mu1, mu2, m places each.
 #![tactic(auto)]
 
-ghost use Rattle.std.specs.Prelude.{◌≡◌, false, ◌≤◌, ◌+◌, length};
+ghost use Rattle.std.specs.Prelude.{◌≡◌, false, ◌≤◌, ◌+◌, length, Float};
 ghost use Rattle.std.specs.Float.Ieee.{is_nan};
 ghost use Rattle.vectors.specs.Vec.{at, list};
 ghost use Rattle.vectors.specs.Parts.{Kept, part};
 ghost use Rattle.dual_point.specs.Places.{point};
 ghost use Rattle.direction.specs.Direction.{step_cap_by, step_cap_to};
-ghost use Rattle.direction.specs.Places.{dmu_at, Edge, Lane, Directed};
-
-// How the multiplier of the upper bound, or of the lower one, moves at a place where z moves by dz.
-fn dmu_at(z: f64, mu: f64, dz: f64, lam: f64, inv_t: f64, lower: bool) -> f64
-    ensures { result ≡ dmu_at lower lam inv_t z mu dz }
-{
-    if lower {
-        let f2 = -z - lam;
-        return -(mu + (inv_t - dz * mu) / f2);
-    }
-    let f1 = z - lam;
-    -(mu + (inv_t + dz * mu) / f1)
-}
+ghost use Rattle.direction.specs.Places.{Edge, Lane, Directed};
 
 // The lesser of step and the step at which mu is left at a hundredth, if it falls: document 01's min, of which a number on the left leaves one comparison.
 fn cap_of(step: f64, mu: f64, dmu: f64) -> f64
@@ -28,12 +16,10 @@ fn cap_of(step: f64, mu: f64, dmu: f64) -> f64
 {
     if dmu < 0.0 {
         let q = 0.99 * (-mu / dmu);
-        if q < step {
-            return q;
-        }
-        return step;
+        if q < step { q } else { step }
+    } else {
+        step
     }
-    step
 }
 
 // A number e of which 0.99·e is no less than the step: 1.02 times the step, or infinity where that does not do. Where e·(-dmu) is below mu, mu caps no step.
@@ -42,10 +28,7 @@ fn edge_of(step: f64) -> f64
     ensures { Edge step result }
 {
     let e = 1.02 * step;
-    if step <= 0.99 * e {
-        return e;
-    }
-    f64::from_bits(0x7ff0_0000_0000_0000)
+    if step <= 0.99 * e { e } else { f64::INFINITY }
 }
 
 // A step and an edge of it.
@@ -77,26 +60,23 @@ fn cap(s: &[f64], b: usize, m: usize) -> f64
         step: 1.0,
         edge: edge_of(1.0),
     };
-    let mut i = 0;
-    while i < m {
+    for i in 0..m {
         let x = capped(c, s[m + i], s[b + m + i]);
         c = capped(x, s[m + m + i], s[b + m + m + i]);
-        i += 1;
     }
     c.step
 }
 
-// How the multipliers that stand from c on move, m places from b + c on. From b on stands dz.
-fn fill_dmu(s: &mut [f64], b: usize, c: usize, lam: f64, inv_t: f64, m: usize, lower: bool)
-    requires { Lane m c b (length s.old) }
-    ensures { (part (b + c) m s.new ≡ list m (λ i. dmu_at lower lam inv_t (at s.old i) (at s.old (c + i)) (at s.old (b + i))))
-        × Kept (b + c) m s.old s.new }
+// How the multipliers that stand from c on move, m places from b + c on; dmu gives it from z, the multiplier and dz, which stands from b on.
+fn fill_dmu<F: Fn(f64, f64, f64) -> f64>(s: &mut [f64], b: usize, c: usize, m: usize, dmu: F)
+    requires lane { Lane m c b (length s.old) }
+    requires callable { F.IsAlwaysCallable dmu }
+    ensures moved { (f : Float → Float → Float → Float) → ((z mu dz r : Float) → F.post dmu z mu dz r → r ≡ f z mu dz)
+        → part (b + c) m s.new ≡ list m (λ i. f (at s.old i) (at s.old (c + i)) (at s.old (b + i))) }
+    ensures kept { Kept (b + c) m s.old s.new }
 {
-    let mut i = 0;
-    while i < m {
-        let x = dmu_at(s[i], s[c + i], s[b + i], lam, inv_t, lower);
-        s[b + c + i] = x;
-        i += 1;
+    for i in 0..m {
+        s[b + c + i] = dmu(s[i], s[c + i], s[b + i]);
     }
 }
 
@@ -105,7 +85,19 @@ pub fn directions(s: &mut [f64], b: usize, lam: f64, inv_t: f64, m: usize) -> f6
     requires { (m + m + m ≤ b) × (b + m + m + m ≤ length s.old) }
     ensures { Directed lam inv_t b m s.old s.new result }
 {
-    fill_dmu(s, b, m, lam, inv_t, m, false);
-    fill_dmu(s, b, m + m, lam, inv_t, m, true);
+    fill_dmu(
+        s,
+        b,
+        m,
+        m,
+        |z, mu, dz| -(mu + (inv_t + dz * mu) / (z - lam)),
+    );
+    fill_dmu(
+        s,
+        b,
+        m + m,
+        m,
+        |z, mu, dz| -(mu + (inv_t - dz * mu) / (-z - lam)),
+    );
     cap(s, b, m)
 }

@@ -126,12 +126,10 @@ pub fn factor(s: &mut [f64], k: usize, m: usize) -> bool
     requires { m * (k + 1) + m ≤ length s.old }
     ensures { Decomposed k m s.old s.new result }
 {
-    let mut r = 0;
-    while r < m {
+    for r in 0..m {
         if !eliminate(s, k, m, r) {
             return false;
         }
-        r += 1;
     }
     true
 }

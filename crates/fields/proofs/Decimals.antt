@@ -5,22 +5,10 @@ use mathlib.Core.List.{List, [], ◌∷◌, ◌++◌}
 use Prim.Native.Nat.{ℕ, zero, suc, ◌-◌, ◌*◌, ◌/◌, ◌%◌, ◌^◌, ◌≤◌, ◌<◌}
 use native.Mathlib.Omega.{arith, pow_step}
 use native.Mathlib.Nat.{mod-eq_of_lt, pow-le-pow_right}
-use lib.Dec.{leb, ltb, lit<}
-use borrow.Author.Tests.{ltb-true, ltb-false, leb-true, leb-false}
+use lib.Dec.{ltb, lit<}
+use borrow.Author.Tests.{ltb-true, ltb-false}
 use Rattle.io.specs.Digits.{hex_digit_ascii, last_digits, IsDigitCount}
 use Rattle.fields.specs.Fields.{decimal_in}
-
--- no more digits than hold it
-pub fewest_le : (b least n r k : ℕ) → 0 < b → least ≤ k → n < b ^ k → IsDigitCount b least n r → r ≤ k
-fewest_le b least n r k hb hl hn f = go (leb r k) refl
-  where
-    go : (t : Bool) → leb r k ≡ t → r ≤ k
-    go true e = leb-true r k e
-    go false e =
-        let h : k < r = leb-false r k e in
-        let m : b ^ (r - 1) ≤ n = f.2 (omega arith) in
-        let p : b ^ k ≤ b ^ (r - 1) = pow-le-pow_right hb (omega arith) in
-        absurd (omega arith)
 
 -- the digits of a number below 10
 one : (n r : ℕ) → n < 10 → IsDigitCount 10 1 n (suc r) → last_digits 10 (suc r) n ≡ hex_digit_ascii n ∷ []

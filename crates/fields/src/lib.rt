@@ -19,12 +19,9 @@ pub fn put_all(out: &mut [u8], at: usize, src: &[u8]) -> usize
     requires { at + length src.now ≤ length out.old }
     ensures { Puts out.old at src.now out.new result (length src.now) }
 {
-    let mut i = 0;
-    while i < src.len() {
-        out[at + i] = src[i];
-        i += 1;
-    }
-    at + i
+    let end = at + src.len();
+    out[at..end].copy_from_slice(src);
+    end
 }
 
 // A whole number in decimal.
@@ -48,6 +45,7 @@ pub fn put_hex(out: &mut [u8], at: usize, x: f64) -> usize
 }
 
 // A space and then the number; a space and then the double.
+#[tactic(auto, using(crate::proofs::Writers::puts_then), unfolding(crate::specs::Fields::field))]
 pub fn put_field(out: &mut [u8], at: usize, n: u64) -> usize
     requires { at + 21 ≤ length out.old }
     ensures { Puts out.old at (field n) out.new result 21 }
@@ -56,6 +54,7 @@ pub fn put_field(out: &mut [u8], at: usize, n: u64) -> usize
     put_decimal(out, a, n)
 }
 
+#[tactic(auto, using(crate::proofs::Writers::puts_then), unfolding(crate::specs::Fields::hex_field))]
 pub fn put_hex_field(out: &mut [u8], at: usize, x: f64) -> usize
     requires { at + 17 ≤ length out.old }
     ensures { Puts out.old at (hex_field x) out.new result 17 }

@@ -7,7 +7,7 @@ use lib.Dec.{eqb}
 use borrow.Author.Tests.{ne_eqb}
 use Rattle.float64.proofs.Clash.{impossible}
 use Rattle.questions.specs.declared.Figures.{Figures}
-use Rattle.questions.specs.declared.Needed.TheVariants.{Given, Refused}
+use Rattle.std.specs.Prelude.{Ok, Err}
 use Rattle.questions.specs.Questions.{Asked, Lent, needs_for, question}
 use Rattle.questions.proofs.Beforehand.{given_same, foretells}
 use Rattle.fit.specs.Fit.{FitResult, refused, fitted, fit}
@@ -25,7 +25,7 @@ within a l f e = go (eqb a.penalty 2) _ (steps a l f e)
     go false x h = let b = bounds a l f e in omega (arith, b.limit, b.ten, b.few)
 
 -- figures are no refusal
-given_refused : {g : Figures} {q : ℕ} → Given g ≡ Refused q → ⊥
+given_refused : {g : Figures} {q : ℕ} → Ok g ≡ Err q → ⊥
 given_refused e = impossible cc
 
 -- a fit that doesn't pass the questions is refused by the first answered no

@@ -1,4 +1,4 @@
--- Facts of the small helpers: which value a test `x != x` finds, what lies between the infinities, and the sign cleared by 0 - x. Assumes nothing.
+-- Facts of the small helpers: which value a test `x != x` finds, what is finite, and the sign cleared by 0 - x. Assumes nothing.
 use mathlib.Core.Path.{◌≡◌, refl, sym, ap, ap₂, ◌∙◌, subst}
 use Prim.Native.Nat.{ℕ, zero, suc, ◌+◌, ◌-◌, ◌*◌, ◌^◌, ◌<◌}
 use native.Mathlib.Nat.{zero-mul, one-mul, mul-one, mul-pos, zero-lt-suc, pow-succ'}
@@ -11,6 +11,7 @@ use lib.Ieee.{Float, nan, inf, fin, binary64, up, down, round, sum, add, sub, ne
 use lib.Ieee.Compare.{differs_from_itself}
 use lib.Ieee.Fits.{up_pos, down_pos, neg-fits}
 use lib.Ieee.Bits.{is_true}
+use Rattle.std.specs.Float.{float_is_finite}
 use Rattle.float64.specs.Helpers.{abs_of, is_finite}
 use Rattle.float64.proofs.Doubles.{round_double}
 
@@ -32,20 +33,13 @@ nan_false (fin s m d) e = refl
 pub no_nan : (x : Float) → ne x x ≡ false → T (not (is_nan x))
 no_nan x e = rw (nan_false x e) tt
 
--- ---- between the infinities
+-- ---- finite, by std's word
 
-pub not_above : (x : Float) → lt (neg (of_bits binary64 0x7ff0_0000_0000_0000)) x ≡ false → is_finite x ≡ false
-unfolding lt neg of_bits is_finite
-not_above nan e = refl
-not_above (inf s) e = refl
-not_above (fin s m d) e = e
-
-pub above_then : (x : Float) → lt (neg (of_bits binary64 0x7ff0_0000_0000_0000)) x ≡ true → lt x (of_bits binary64 0x7ff0_0000_0000_0000) ≡ is_finite x
-unfolding lt neg of_bits is_finite
-above_then nan e = refl
-above_then (inf true) e = sym e
-above_then (inf false) e = refl
-above_then (fin s m d) e = refl
+pub finite_is : (x : Float) → is_finite x ≡ float_is_finite x
+unfolding is_finite float_is_finite
+finite_is nan = refl
+finite_is (inf s) = refl
+finite_is (fin s m e) = refl
 
 pub top_no_nan : T (not (nan_bits binary64 0x7ff0_0000_0000_0000))
 unfolding nan_bits

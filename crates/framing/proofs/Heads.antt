@@ -9,11 +9,12 @@ use lib.ListN.{length, take, drop, length-drop, drop_of_length-le}
 use lib.Seq.{drop-drop}
 use lib.Dec.{leb, ltb}
 use borrow.Author.Tests.{leb-true, leb-false, ltb-true, ltb-false}
+use Rattle.std.specs.Prelude as P
 use Rattle.framing.specs.Bytes.{little_endian, number_at}
 use Rattle.framing.specs.Frames.{Rec, rec, records_past, records}
 use Rattle.framing.specs.Places.{head_at}
-use Rattle.framing.specs.declared.Head.{Head}
-use Rattle.framing.specs.declared.Head.TheVariants.{End, Bad, Record}
+use Rattle.framing.specs.declared.Record.{Record}
+use Rattle.framing.specs.declared.NoRecord.{NoRecord}
 
 -- a record of kind k stands at a place, its body from b up to n, where the next records start
 pub record Opens (s : List ℕ) (at k b n : ℕ) : Type 0 where
@@ -23,10 +24,10 @@ pub record Opens (s : List ℕ) (at k b n : ℕ) : Type 0 where
   pub rest : records (drop at s) ≡ map (λ (rs : List Rec). rec k (take (n - b) (drop b s)) ∷ rs) (records (drop n s))
 
 -- the records from a place on, by what stands there
-abbrev pub Heads : List ℕ → ℕ → Head → Type 0
-Heads s at End = records (drop at s) ≡ some []
-Heads s at Bad = records (drop at s) ≡ none
-Heads s at (Record k b n) = Opens s at k b n
+abbrev pub Heads : List ℕ → ℕ → P.Result (P.Option Record) NoRecord → Type 0
+Heads s at (P.Ok P.None) = records (drop at s) ≡ some []
+Heads s at (P.Ok (P.Some r)) = Opens s at r.kind r.body r.next
+Heads s at (P.Err e) = records (drop at s) ≡ none
 
 -- past the end, and within
 past_short : (n : ℕ) (s : List ℕ) → length s < n → records_past n s ≡ none
@@ -75,7 +76,7 @@ module _ (s : List ℕ) (at : ℕ) where
 
   tested : (t₁ t₂ t₃ t₄ : Bool)
       → leb (length s) at ≡ t₁ → ltb (length s - at) 4 ≡ t₂ → ltb (number_at at 2 s) 2 ≡ t₃ → ltb (length s - at) (2 + number_at at 2 s) ≡ t₄
-      → Heads s at (cond t₁ End (cond t₂ Bad (cond t₃ Bad (cond t₄ Bad (Record (number_at (at + 2) 2 s) (at + 4) (at + (2 + number_at at 2 s)))))))
+      → Heads s at (cond t₁ (P.Ok P.None) (cond t₂ (P.Err (record {})) (cond t₃ (P.Err (record {})) (cond t₄ (P.Err (record {})) (P.Ok (P.Some (record { kind = number_at (at + 2) 2 s; body = at + 4; next = at + (2 + number_at at 2 s) })))))))
   unfolding records_past
   tested true t₂ t₃ t₄ e₁ e₂ e₃ e₄ = ap records (drop_of_length-le s (leb-true _ _ e₁))
   tested false true t₃ t₄ e₁ e₂ e₃ e₄ =

@@ -1,10 +1,11 @@
 -- The system (D D') z = D y laid out in a run, and where its solution stands. Assumes nothing.
-use mathlib.Core.Path.{◌≡◌, ap, ◌∙◌}
-use mathlib.Core.Bool.{true}
+use mathlib.Core.Path.{◌≡◌, sym, ap, ◌∙◌}
+use mathlib.Core.Bool.{Bool, true, false}
 use mathlib.Core.List.{List}
 use Prim.Native.Nat.{ℕ, ◌+◌, ◌-◌, ◌*◌, ◌≤◌}
 use native.Mathlib.Nat.{mul-le-mul_left, zero-add}
 use native.Mathlib.Omega.{arith}
+use Rattle.std.specs.Prelude.{Option, Some, None}
 use lib.ListN.{length, take, drop}
 use lib.Ieee.{Float, nan}
 use Rattle.vectors.specs.Vec.{put}
@@ -22,7 +23,10 @@ use Rattle.banded.proofs.Filling.{laid_keeps, keeps_still, side_put}
 use Rattle.substitution.specs.Solved.{Solved}
 use Rattle.gram.specs.Gram.{gram, zstar, lam_max}
 use Rattle.gram.specs.Prepared.{star_lane, diff_lane, preparation, System, Prepared}
-use Rattle.gram.specs.declared.Peak.{Peak}
+
+-- what is given, as the code has it
+some_is : {u v : Float} → ◌≡◌ {A = Option Float} (Some u) (Some v) → v ≡ u
+some_is e = cc
 
 -- the system ends before the lane of D y begins
 pub system-fits : {k n : ℕ} → Series k n → star_lane k n + (n - k) ≤ diff_lane n
@@ -48,21 +52,36 @@ module _ (k : ℕ) (y s₁ x : List Float) (o : Series k (length y)) (room : pre
         kept = kept_then 0 (preparation n) (kept_then 0 (preparation n) w.kept f (omega arith) (omega arith) (omega arith) (omega arith)) kept (omega arith) (omega arith) (omega arith) (omega arith);
       }
 
--- s₁ holds the system, s₂ its solution
-pub system-solved : (k : ℕ) (y s₀ s₁ s₂ : List Float) (r : Peak) → System k y s₀ s₁ → Solved 0 k (length y - k) s₁ s₂ r.good
-    → r.top ≡ max_abs (part (star_lane k (length y)) (length y - k) s₂) → Prepared k y s₀ s₂ r
-unfolding lam_max zstar
-system-solved k y s₀ s₁ s₂ r h q t =
-    let n = length y in
-    let ends = h.ends in
-    let a = gram k (gram_row k) in
-    let z = zero-add (star_lane k n) in
-    let star : r.good ≡ true → part (star_lane k n) (n - k) s₂ ≡ solve k (rows k a (n - k)) (diff_k k y) = λ e. (rw z at (q.solution a h.rows e)) ∙ ap (solve k (rows k a (n - k))) h.right in
-    record {
-      good = q.answer a h.rows;
-      top = λ e. t ∙ ap max_abs (star e);
-      factor = q.factor a h.rows;
-      star = star;
-      differences = part_above nan (diff_lane n) (n - k) q.kept (omega arith) ∙ h.differences;
-      kept = kept_then 0 (preparation n) h.kept q.kept (omega arith) (omega arith) (omega arith) (omega arith);
-    }
+-- s₁ holds the system, and s₂ its solution where the pivots are good
+module _ (k : ℕ) (y s₀ s₁ s₂ : List Float) {ok : Bool} (h : System k y s₀ s₁) (q : Solved 0 k (length y - k) s₁ s₂ ok) where
+  still : Kept 0 (preparation (length y)) s₀ s₂
+  still = let ends = h.ends in kept_then 0 (preparation (length y)) h.kept q.kept (omega arith) (omega arith) (omega arith) (omega arith)
+
+  behind : part (diff_lane (length y)) (length y - k) s₂ ≡ diff_k k y
+  behind = let ends = h.ends in part_above nan (diff_lane (length y)) (length y - k) q.kept (omega arith) ∙ h.differences
+
+  pub system-bad : ok ≡ false → Prepared k y s₀ s₂ None
+  system-bad e = record {
+    good = sym e ∙ q.answer (gram k (gram_row k)) h.rows;
+    top = λ v n. cc;
+    factor = λ n. cc;
+    star = λ n. cc;
+    differences = behind;
+    kept = still;
+  }
+
+  pub system-solved : (top : Float) → ok ≡ true → top ≡ max_abs (part (star_lane k (length y)) (length y - k) s₂) → Prepared k y s₀ s₂ (Some top)
+  unfolding lam_max zstar
+  system-solved top e t =
+      let n = length y in
+      let a = gram k (gram_row k) in
+      let z = zero-add (star_lane k n) in
+      let star : part (star_lane k n) (n - k) s₂ ≡ solve k (rows k a (n - k)) (diff_k k y) = (rw z at (q.solution a h.rows e)) ∙ ap (solve k (rows k a (n - k))) h.right in
+      record {
+        good = sym e ∙ q.answer a h.rows;
+        top = λ v n. some_is n ∙ t ∙ ap max_abs star;
+        factor = λ n. q.factor a h.rows e;
+        star = λ n. star;
+        differences = behind;
+        kept = still;
+      }

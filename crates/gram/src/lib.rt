@@ -14,10 +14,7 @@ fn gram_at(g: [f64; 3], k: usize, r: usize, c: usize) -> f64
     requires { (k ≤ 2) × (c ≤ k) }
     ensures { result ≡ placed k (gram k g) r c }
 {
-    if r < k - c {
-        return 0.0;
-    }
-    g[k - c]
+    if r < k - c { 0.0 } else { g[k - c] }
 }
 
 // Row r of D D', from place p on.
@@ -25,11 +22,8 @@ fn gram_row(s: &mut [f64], g: [f64; 3], k: usize, r: usize, p: usize)
     requires { (k ≤ 2) × (p + (k + 1) ≤ length s.old) }
     ensures { Written p (p + (k + 1)) (λ q. placed k (gram k g) r (q - p)) s.old s.new }
 {
-    let mut c = 0;
-    while c <= k {
-        let x = gram_at(g, k, r, c);
-        s[p + c] = x;
-        c += 1;
+    for c in 0..k + 1 {
+        s[p + c] = gram_at(g, k, r, c);
     }
 }
 
@@ -38,10 +32,8 @@ fn fill_gram(s: &mut [f64], g: [f64; 3], k: usize, m: usize)
     requires { (k ≤ 2) × (m * (k + 1) ≤ length s.old) }
     ensures { Laid k m (gram k g) s.old s.new }
 {
-    let mut r = 0;
-    while r < m {
+    for r in 0..m {
         gram_row(s, g, k, r, r * (k + 1));
-        r += 1;
     }
 }
 
@@ -61,24 +53,19 @@ fn lay_system(s: &mut [f64], y: &[f64], k: usize)
     vectors::copy_within(s, d, b, m);
 }
 
-#[derive(Clone, Copy)]
-pub struct Peak {
-    pub good: bool,
-    pub top: f64,
-}
-
-// The preparation of a series: the factor of D D', z*, D y; whether every pivot was good, and lam_max.
-pub fn prepare(s: &mut [f64], y: &[f64], k: usize) -> Peak
+// The preparation of a series: the factor of D D', z*, D y; it gives lam_max, or None where a pivot is bad.
+pub fn prepare(s: &mut [f64], y: &[f64], k: usize) -> Option<f64>
     requires { Series k (length y.now) × (preparation (length y.now) ≤ length s.old) }
     ensures { Prepared k y.now s.old s.new result }
 {
     lay_system(s, y, k);
     let m = y.len() - k;
-    let ok = substitution::factor_solve_at(s, 0, k, m);
+    if !substitution::factor_solve_at(s, 0, k, m) {
+        return None;
+    }
     let b = m * (k + 1);
     let e = b + m;
-    let top = vectors::max_abs(&s[b..e]);
-    Peak { good: ok, top: top }
+    Some(vectors::max_abs(&s[b..e]))
 }
 
 // Place i of (D D') z at any order, at the ends too.
@@ -86,42 +73,23 @@ fn product_any(z: &[f64], g: [f64; 3], k: usize, i: usize) -> f64
     requires { (k ≤ 2) × (i < length z.now) }
     ensures { result ≡ product_of k g z.now i }
 {
-    let lo = vectors::over(i, k);
-    let hi = vectors::smaller(i + k + 1, z.len());
     let mut v = 0.0;
-    let mut j = lo;
-    while j < hi {
-        let d = vectors::apart(i, j);
-        v = v + g[d] * z[j];
-        j += 1;
+    for j in i.saturating_sub(k)..(i + k + 1).min(z.len()) {
+        v += g[i.abs_diff(j)] * z[j];
     }
     v
 }
 
-// The same away from the ends, for order 1, and for order 2.
-fn product1(z: &[f64], g: [f64; 3], i: usize) -> f64
-    requires { (1 ≤ i) × (i + 1 < length z.now) }
-    ensures { result ≡ product_of 1 g z.now i }
-{
-    0.0 + g[1] * z[i - 1] + g[0] * z[i] + g[1] * z[i + 1]
-}
-
-fn product2(z: &[f64], g: [f64; 3], i: usize) -> f64
-    requires { (2 ≤ i) × (i + 2 < length z.now) }
-    ensures { result ≡ product_of 2 g z.now i }
-{
-    0.0 + g[2] * z[i - 2] + g[1] * z[i - 1] + g[0] * z[i] + g[1] * z[i + 1] + g[2] * z[i + 2]
-}
-
-// Place i of (D D') z away from the ends, for order 1 and 2.
+// The same away from the ends, written out for order 1 and 2.
 pub fn product_inner(z: &[f64], g: [f64; 3], k: usize, i: usize) -> f64
     requires { Order k × (k ≤ i) × (i + k < length z.now) }
     ensures { result ≡ product_of k g z.now i }
 {
     if k == 1 {
-        return product1(z, g, i);
+        0.0 + g[1] * z[i - 1] + g[0] * z[i] + g[1] * z[i + 1]
+    } else {
+        0.0 + g[2] * z[i - 2] + g[1] * z[i - 1] + g[0] * z[i] + g[1] * z[i + 1] + g[2] * z[i + 2]
     }
-    product2(z, g, i)
 }
 
 // Place i of (D D') z.
@@ -129,10 +97,9 @@ pub fn product(z: &[f64], g: [f64; 3], k: usize, i: usize) -> f64
     requires { Order k × (i < length z.now) }
     ensures { result ≡ product_of k g z.now i }
 {
-    if k <= i {
-        if i + k < z.len() {
-            return product_inner(z, g, k, i);
-        }
+    if k <= i && i + k < z.len() {
+        product_inner(z, g, k, i)
+    } else {
+        product_any(z, g, k, i)
     }
-    product_any(z, g, k, i)
 }

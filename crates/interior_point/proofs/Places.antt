@@ -7,6 +7,7 @@ use native.Mathlib.Nat.{add-zero, mul-le-mul_left}
 use native.Mathlib.Omega.{arith}
 use lib.ListN.{length, take, drop}
 use lib.Ieee.{Float}
+use Rattle.std.specs.Prelude.{Option}
 use Rattle.vectors.specs.Sums.{inside}
 use Rattle.vectors.proofs.Parts.{put_back, kept_within}
 use Rattle.banded.specs.Rows.{sound}
@@ -22,11 +23,8 @@ use Rattle.newton_step.specs.declared.Step.{Step}
 pub step_small : (k m n : ℕ) → k ≤ 2 → m ≤ n → n + step_area k m ≤ search_area n
 step_small k m n h l = let f : m * (k + 1) ≤ m * 3 = mul-le-mul_left m (omega arith) in omega arith
 
-pub first_places : (m : ℕ) (s : List Float) → take (m - 0) (drop 0 s) ≡ take m s
-first_places m s = let z : m - 0 ≡ m = omega arith in rw z
-
 -- a step on the places from a up to e
-pub stepped-at : (k : ℕ) (g dy : List Float) (lam inv_t : Float) (a e m : ℕ) (s x : List Float) (r : Step) → a + step_area k m ≤ e → e ≤ length s → length x ≡ e - a
+pub stepped-at : (k : ℕ) (g dy : List Float) (lam inv_t : Float) (a e m : ℕ) (s x : List Float) (r : Option Step) → a + step_area k m ≤ e → e ≤ length s → length x ≡ e - a
     → Stepped k g dy lam inv_t 0 m (take (e - a) (drop a s)) x r → Stepped k g dy lam inv_t a m s (put_back a (e - a) s x) r
 stepped-at k g dy lam inv_t a e m s x r size fits l w =
     let p = point_range m a e s (omega arith) in

@@ -7,6 +7,7 @@ use native.Mathlib.Numerals.{add-one}
 use native.Mathlib.Omega.{arith}
 use borrow.Author.Tests.{ltb-true, ltb-false}
 use lib.Dec.{eqb, ltb}
+use Rattle.std.specs.Prelude.{Option, Some, None}
 use lib.ListN.{length}
 use lib.Ieee.{Float, nan, lt, le}
 use Rattle.float64.proofs.Clash.{impossible}
@@ -33,11 +34,10 @@ use Rattle.dual_point.specs.Places.{point}
 use Rattle.dual_point.proofs.Points.{point_above}
 use Rattle.newton_step.specs.Stepped.{step_area, step_of, Stepped}
 use Rattle.newton_step.specs.declared.Step.{Step}
-use Rattle.newton_step.specs.declared.Step.TheVariants.{Lost, Stayed, Moved}
+use Rattle.newton_step.specs.declared.Step.TheVariants.{Stayed, Moved}
 use Rattle.interior_point.specs.InteriorPoint.{State, next_t, move, problem, origin, interior_point}
 use Rattle.interior_point.specs.Account.{landed, state_of, point_of, Standing, Started, left_of, test_by, test_of, improves, lost_run, Settled, Turnable, Turned, search_of, Found}
 use Rattle.interior_point.specs.declared.Run.{Run}
-use Rattle.interior_point.specs.declared.Test.TheVariants.{Goes, Stops}
 use Rattle.interior_point.proofs.Places.{step_small}
 
 -- the account of the start, where v is its gap
@@ -45,17 +45,17 @@ abbrev pub start_run : Float → Float → Run
 start_run v p = record { t = c1e_10; step = infinity; gap = v; primal = p; first = v; best = v; n_iter = 0; improvements = 0; stalled = 0; lost = false }
 
 -- what a step's answer says: whether the pivots are sound, whether the last trial is inside, and the step
-was_lost : (a b : Bool) (x : Float) → step_of a b x ≡ Lost → a ≡ false
+was_lost : (a b : Bool) (x : Float) → step_of a b x ≡ None → a ≡ false
 was_lost false b x e = refl
 was_lost true false x e = impossible cc
 was_lost true true x e = impossible cc
 
-was_stayed : (a b : Bool) (x step : Float) → step_of a b x ≡ Stayed step → (a ≡ true) × (b ≡ false) × (x ≡ step)
+was_stayed : (a b : Bool) (x step : Float) → step_of a b x ≡ Some (Stayed step) → (a ≡ true) × (b ≡ false) × (x ≡ step)
 was_stayed false b x step e = impossible cc
 was_stayed true false x step e = (refl, refl, cc)
 was_stayed true true x step e = impossible cc
 
-was_moved : (a b : Bool) (x step : Float) → step_of a b x ≡ Moved step → (a ≡ true) × (b ≡ true) × (x ≡ step)
+was_moved : (a b : Bool) (x step : Float) → step_of a b x ≡ Some (Moved step) → (a ≡ true) × (b ≡ true) × (x ≡ step)
 was_moved false b x step e = impossible cc
 was_moved true false x step e = impossible cc
 was_moved true true x step e = (refl, refl, cc)
@@ -67,7 +67,7 @@ pub record GoesOn (a b c d : Bool) : Type 0 where
   pub within : c ≡ true
   pub lively : d ≡ false
 
-go_on : (a b c d : Bool) → test_by a b c d ≡ Goes → GoesOn a b c d
+go_on : (a b c d : Bool) → test_by a b c d ≡ None → GoesOn a b c d
 go_on true b c d e = impossible cc
 go_on false true c d e = impossible cc
 go_on false false false d e = impossible cc
@@ -83,7 +83,7 @@ pub record EndsAt (e : Ended State) (p : Point State) (why : Reason) : Type 0 wh
   pub improvements : p.improvements ≡ e.improvements
   pub reason : why ≡ e.reason
 
-ended_at : (e : Ended State) (p : Point State) (r why : Reason) → ended p r ≡ e → Stops r ≡ Stops why → EndsAt e p why
+ended_at : (e : Ended State) (p : Point State) (r why : Reason) → ended p r ≡ e → Some r ≡ Some why → EndsAt e p why
 ended_at e p r why q s = record {
   state = ap (λ (x : Ended State). x.state) q;
   n_iter = ap (λ (x : Ended State). x.n_iter) q;
@@ -99,7 +99,7 @@ module _ (L : Problem State) (tol : Float) (max_iter : ℕ) (e : Ended State) (p
   rest u = sym (ap (left_of L tol (max_iter - p.n_iter) p) u) ∙ left
 
   pub finish : (a b c d : Bool) → gone ≡ a → enough L tol p ≡ b → ltb p.n_iter max_iter ≡ c → eqb p.stall 10 ≡ d
-      → test_by a b c d ≡ Stops why → EndsAt e p why
+      → test_by a b c d ≡ Some why → EndsAt e p why
   finish true b c d u v w x q = ended_at e p PivotLost why (sym (ap (left_of L tol (max_iter - p.n_iter) p) u) ∙ left) q
   finish false true c d u v w x q = ended_at e p GapSmall why (sym (run_small L tol (max_iter - p.n_iter) p v) ∙ rest u) q
   finish false false false d u v w x q =
@@ -191,7 +191,7 @@ module _ (k : ℕ) (y : List Float) (lam : Float) where
       let q : next_t (length st.point.z) v st ≡ t₁ = (λ i. next_t (l i) v st) ∙ sym f in
       λ i. cond (sound k (system k g lam st.point) (l i)) (moved (landed lam st (q i) (search_line (data_of k g (diff_k k y) lam (c1 ⊘ q i)) st.point))) lost
 
-  module _ {dy g s₀ s₁ d₀ : List Float} {r : Run} {t₁ : Float} {w : Step} (pre : Turnable k y dy lam s₀ d₀ r)
+  module _ {dy g s₀ s₁ d₀ : List Float} {r : Run} {t₁ : Float} {w : Option Step} (pre : Turnable k y dy lam s₀ d₀ r)
       (next : (p : Dual) → t₁ ≡ next_t m r.gap (record { point = p; t = r.t; step = r.step })) (stepped : Stepped k g (diff_k k y) lam (c1 ⊘ t₁) n m s₀ s₁ w) where
     abbrev stands : Standing k y lam s₀ d₀ r
     stands = pre.standing
@@ -229,7 +229,7 @@ module _ (k : ℕ) (y : List Float) (lam : Float) where
     step_kept = kept_then 0 (search_area n) stepped.kept (kept_none 0 0 s₁) (omega arith) (omega arith) (omega (arith, room)) (omega arith)
 
     -- a lost pivot
-    pub turned-lost : w ≡ Lost → Turned k g y lam s₀ s₁ d₀ d₀ r (lost_run r)
+    pub turned-lost : w ≡ None → Turned k g y lam s₀ s₁ d₀ d₀ r (lost_run r)
     turned-lost e =
         let b : firm ≡ false = was_lost firm within line.step (sym stepped.answer ∙ e) in
         let same : point n m s₁ ≡ point n m s₀ = stepped.moves ∙ rw b in
@@ -300,14 +300,14 @@ module _ (k : ℕ) (y : List Float) (lam : Float) where
           no_more false = omega arith
 
     -- the point stayed, and so did its P and gap
-    pub turned-stayed : {step : Float} {x : Run} → Settled r t₁ step r.primal r.gap x → w ≡ Stayed step → Turned k g y lam s₀ s₁ d₀ d₀ r x
+    pub turned-stayed : {step : Float} {x : Run} → Settled r t₁ step r.primal r.gap x → w ≡ Some (Stayed step) → Turned k g y lam s₀ s₁ d₀ d₀ r x
     turned-stayed {step} {x} new e =
         let b = was_stayed firm within line.step step (sym stepped.answer ∙ e) in
         let same : point n m s₁ ≡ point n m s₀ = stepped.moves ∙ rw (b.0, b.1) in
         turned new (unmoved same x new.primal new.gap) b.0 refl b.2 (kept_none 0 n s₁) (kept_none 0 m d₀)
 
     -- the point moved: it is inside the bounds, and then has its certificate
-    module _ {step : Float} (e : w ≡ Moved step) where
+    module _ {step : Float} (e : w ≡ Some (Moved step)) where
       sure_in : (firm ≡ true) × (within ≡ true) × (line.step ≡ step)
       sure_in = was_moved firm within line.step step (sym stepped.answer ∙ e)
 
@@ -351,13 +351,13 @@ module _ (k : ℕ) (y : List Float) (lam : Float) where
     abbrev P : Problem State
     P = problem k g y lam
 
-    goes_on : test_of r tol max_iter ≡ Goes → GoesOn r.lost (le r.gap (tol ⊗ r.primal)) (ltb r.n_iter max_iter) (eqb r.stalled 10)
+    goes_on : test_of r tol max_iter ≡ None → GoesOn r.lost (le r.gap (tol ⊗ r.primal)) (ltb r.n_iter max_iter) (eqb r.stalled 10)
     goes_on h = go_on r.lost (le r.gap (tol ⊗ r.primal)) (ltb r.n_iter max_iter) (eqb r.stalled 10) h
 
-    pub still : test_of r tol max_iter ≡ Goes → r.n_iter < max_iter
+    pub still : test_of r tol max_iter ≡ None → r.n_iter < max_iter
     still h = ltb-true r.n_iter max_iter (goes_on h).within
 
-    pub loop-goes : {s' d' : List Float} {x : Run} → test_of r tol max_iter ≡ Goes → Turned k g y lam s s' d d' r x → Looping g tol max_iter s₀ s' d₀ d' x
+    pub loop-goes : {s' d' : List Float} {x : Run} → test_of r tol max_iter ≡ None → Turned k g y lam s s' d d' r x → Looping g tol max_iter s₀ s' d₀ d' x
     loop-goes {s'} {d'} {x} h t =
         let o = goes_on h in
         let b = still h in
@@ -377,14 +377,14 @@ module _ (k : ℕ) (y : List Float) (lam : Float) where
           dual_kept = kept_then 0 m w.dual_kept t.dual_kept (omega arith) (omega arith) (omega arith) (omega arith);
         }
 
-    loop-ends : (why : Reason) → test_of r tol max_iter ≡ Stops why → EndsAt (run P tol max_iter (start_at P (origin m))) (point_of k y s r) why
+    loop-ends : (why : Reason) → test_of r tol max_iter ≡ Some why → EndsAt (run P tol max_iter (start_at P (origin m))) (point_of k y s r) why
     loop-ends why h =
         finish P tol max_iter (run P tol max_iter (start_at P (origin m))) (point_of k y s r) r.lost why w.within w.left
         r.lost (le r.gap (tol ⊗ r.primal)) (ltb r.n_iter max_iter) (eqb r.stalled 10) refl (enough_is g tol w.standing) refl refl h
 
   -- the whole search
   pub all_found : {g : List Float} {tol : Float} {max_iter : ℕ} {s₀ s₁ s d₀ d₁ d : List Float} {r₁ r : Run} {why : Reason} → g ≡ gram_row k → Started k y lam s₀ s₁ d₀ d₁ r₁
-      → Looping g tol max_iter s₁ s d₁ d r → test_of r tol max_iter ≡ Stops why → Found k y lam tol max_iter s₀ s d₀ d (record { run = r; reason = why })
+      → Looping g tol max_iter s₁ s d₁ d r → test_of r tol max_iter ≡ Some why → Found k y lam tol max_iter s₀ s d₀ d (record { run = r; reason = why })
   unfolding interior_point
   all_found {g} {tol} {max_iter} {s = s} {why = why} isg v w h =
       let e = loop-ends w why h in

@@ -1,11 +1,12 @@
 -- Document 01, "Interior point": the code's account of the search, Run, beside the definition.
-use Rattle.std.specs.Prelude.{◌≡◌, Bool, true, false, cond, List, ℕ, suc, ◌+◌, ◌-◌, ◌≤◌, ◌<◌, ◌^◌, eqb, ltb, length, Float}
+use Rattle.std.specs.Prelude.{◌≡◌, Bool, true, false, cond, List, ℕ, suc, ◌+◌, ◌-◌, ◌≤◌, ◌<◌, ◌^◌, eqb, ltb, length, Option, Some, None, Float}
 use Rattle.std.specs.Float.Ieee.{lt, le}
 use Rattle.float64.specs.Ops.{◌⊗◌, c0·99}
 use Rattle.vectors.specs.Parts.{Kept, part}
 use Rattle.differences.specs.Diff.{gram_row}
 use Rattle.certificate.specs.Certificate.{Certificate, certify, gap_of}
 use Rattle.certificate.specs.Ready.{Ready}
+use Rattle.search.specs.declared.Reason.{Reason}
 use Rattle.search.specs.declared.Reason.TheVariants.{GapSmall, LimitSpent, Stalled, PivotLost}
 use Rattle.search.specs.Search.{Problem, Point, Ended, ended, start_at, run}
 use Rattle.dual_point.specs.Dual.{Dual}
@@ -14,8 +15,6 @@ use Rattle.dual_point.specs.Places.{point}
 use Rattle.line_search.specs.LineSearch.{Trial, next_point}
 use Rattle.interior_point.specs.InteriorPoint.{State, problem, origin, interior_point}
 use Rattle.interior_point.specs.declared.Run.{Run}
-use Rattle.interior_point.specs.declared.Test.{Test}
-use Rattle.interior_point.specs.declared.Test.TheVariants.{Goes, Stops}
 use Rattle.interior_point.specs.declared.Ended as code
 
 -- the point in s, after the places of the trend
@@ -50,12 +49,12 @@ abbrev pub left_of : Problem State → Float → ℕ → Point State → Bool �
 left_of L tol j p true = ended p PivotLost
 left_of L tol j p false = run L tol j p
 
--- whether another iteration is made, or why not: l says that a pivot was lost, e that the gap is small enough, w that n_iter is below the limit, t that the stall count is 10
-abbrev pub test_by : Bool → Bool → Bool → Bool → Test
-test_by l e w t = cond l (Stops PivotLost) (cond e (Stops GapSmall) (cond w (cond t (Stops Stalled) Goes) (Stops LimitSpent)))
+-- why no other iteration is made, if none is: l says that a pivot was lost, e that the gap is small enough, w that n_iter is below the limit, t that the stall count is 10
+abbrev pub test_by : Bool → Bool → Bool → Bool → Option Reason
+test_by l e w t = cond l (Some PivotLost) (cond e (Some GapSmall) (cond w (cond t (Some Stalled) None) (Some LimitSpent)))
 
 -- of r, in document 01's order
-abbrev pub test_of : Run → Float → ℕ → Test
+abbrev pub test_of : Run → Float → ℕ → Option Reason
 test_of r tol max_iter = test_by r.lost (le r.gap (tol ⊗ r.primal)) (ltb r.n_iter max_iter) (eqb r.stalled 10)
 
 -- one more iteration can be counted

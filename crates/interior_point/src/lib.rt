@@ -49,8 +49,8 @@ fn start(work: &mut [f64], dual: &mut [f64], y: &[f64], dy: &[f64], lam: f64, k:
     let gap = p.primal - p.dual;
     Run {
         t: 1e-10,
-        step: f64::from_bits(0x7ff0_0000_0000_0000),
-        gap: gap,
+        step: f64::INFINITY,
+        gap,
         primal: p.primal,
         first: gap,
         best: gap,
@@ -61,30 +61,21 @@ fn start(work: &mut [f64], dual: &mut [f64], y: &[f64], dy: &[f64], lam: f64, k:
     }
 }
 
-// Whether another iteration is made, or why not.
-#[derive(Clone, Copy)]
-enum Test {
-    Goes,
-    Stops(Reason),
-}
-
-// The tests before an iteration, in document 01's order, once a pivot that the last one lost is ruled out.
-fn tested(r: Run, tol: f64, max_iter: u64) -> Test
+// Why the search stops before another iteration, once a pivot that the last one lost is ruled out, in document 01's order; none where it goes on.
+fn tested(r: Run, tol: f64, max_iter: u64) -> Option<Reason>
     ensures { result ≡ test_of r tol max_iter }
 {
     if r.lost {
-        return Test::Stops(Reason::PivotLost);
+        Some(Reason::PivotLost)
+    } else if r.gap <= tol * r.primal {
+        Some(Reason::GapSmall)
+    } else if max_iter <= r.n_iter {
+        Some(Reason::LimitSpent)
+    } else if r.stalled == 10 {
+        Some(Reason::Stalled)
+    } else {
+        None
     }
-    if r.gap <= tol * r.primal {
-        return Test::Stops(Reason::GapSmall);
-    }
-    if max_iter <= r.n_iter {
-        return Test::Stops(Reason::LimitSpent);
-    }
-    if r.stalled == 10 {
-        return Test::Stops(Reason::Stalled);
-    }
-    Test::Goes
 }
 
 // The next t: larger if the last step was at least 0.2.
@@ -93,9 +84,10 @@ fn next_t(t: f64, step: f64, gap: f64, m: usize) -> f64
     ensures { (p : Dual) → result ≡ next_t m gap (record { point = p; t = t; step = step }) }
 {
     if 0.2 <= step {
-        return float64::max(2.0 * (m as f64) * 2.0 / gap, 1.2 * t);
+        float64::max(2.0 * (m as f64) * 2.0 / gap, 1.2 * t)
+    } else {
+        t
     }
-    t
 }
 
 // The Newton step on the point that stands after the n places of the trend.
@@ -107,14 +99,13 @@ fn step_at(
     inv_t: f64,
     g: [f64; 3],
     k: usize,
-) -> Step
+) -> Option<Step>
     requires { Ready k y.now dy.now (search_area (length y.now)) (length work.old) }
     ensures { Stepped k g (diff_k k y.now) lam inv_t (length y.now) (length y.now - k) work.old work.new result }
 {
     let n = y.len();
     let m = n - k;
-    let e = work.len();
-    newton_step::newton_step(&mut work[n..e], &dy[0..m], lam, inv_t, g, k, m)
+    newton_step::newton_step(&mut work[n..], &dy[..m], lam, inv_t, g, k, m)
 }
 
 // The account after a step that ended with this P and gap.
@@ -122,31 +113,27 @@ fn settled(r: Run, t: f64, step: f64, primal: f64, gap: f64) -> Run
     requires { Countable r }
     ensures { Settled r t step primal gap result }
 {
+    let next = Run {
+        t,
+        step,
+        gap,
+        primal,
+        n_iter: r.n_iter + 1,
+        lost: false,
+        ..r
+    };
     if gap < 0.99 * r.best {
-        return Run {
-            t: t,
-            step: step,
-            gap: gap,
-            primal: primal,
-            first: r.first,
+        Run {
             best: gap,
-            n_iter: r.n_iter + 1,
             improvements: r.improvements + 1,
             stalled: 0,
-            lost: false,
-        };
-    }
-    Run {
-        t: t,
-        step: step,
-        gap: gap,
-        primal: primal,
-        first: r.first,
-        best: r.best,
-        n_iter: r.n_iter + 1,
-        improvements: r.improvements,
-        stalled: r.stalled + 1,
-        lost: false,
+            ..next
+        }
+    } else {
+        Run {
+            stalled: r.stalled + 1,
+            ..next
+        }
     }
 }
 
@@ -155,18 +142,10 @@ fn pivot_lost(r: Run) -> Run
     requires { r.n_iter + 1 < 2 ^ 64 }
     ensures { result ≡ lost_run r }
 {
-    let n_iter = r.n_iter + 1;
     Run {
-        t: r.t,
-        step: r.step,
-        gap: r.gap,
-        primal: r.primal,
-        first: r.first,
-        best: r.best,
-        n_iter: n_iter,
-        improvements: r.improvements,
-        stalled: r.stalled,
+        n_iter: r.n_iter + 1,
         lost: true,
+        ..r
     }
 }
 
@@ -184,13 +163,11 @@ fn iterate(
     requires { Turnable k y.now dy.now lam work.old dual.old r }
     ensures { Turned k g y.now lam work.old work.new dual.old dual.new r result }
 {
-    let n = y.len();
-    let t = next_t(r.t, r.step, r.gap, n - k);
-    let w = step_at(work, y, dy, lam, 1.0 / t, g, k);
-    match w {
-        Step::Lost => pivot_lost(r),
-        Step::Stayed(step) => settled(r, t, step, r.primal, r.gap),
-        Step::Moved(step) => {
+    let t = next_t(r.t, r.step, r.gap, y.len() - k);
+    match step_at(work, y, dy, lam, 1.0 / t, g, k) {
+        None => pivot_lost(r),
+        Some(Step::Stayed(step)) => settled(r, t, step, r.primal, r.gap),
+        Some(Step::Moved(step)) => {
             let p = certify::certify_inside(work, dual, y, dy, lam, k);
             settled(r, t, step, p.primal, p.primal - p.dual)
         }
@@ -214,11 +191,8 @@ pub fn ipm_l1(
     let g = differences::gram_offsets(k);
     let mut r = start(work, dual, y, dy, lam, k);
     loop {
-        if let Test::Stops(why) = tested(r, tol, max_iter) {
-            return Ended {
-                run: r,
-                reason: why,
-            };
+        if let Some(reason) = tested(r, tol, max_iter) {
+            return Ended { run: r, reason };
         }
         r = iterate(work, dual, y, dy, lam, k, g, r);
     }

@@ -21,11 +21,9 @@ fn residual_rest(x: &[f64], y: &[f64], from: usize, sum: f64) -> f64
     ensures { sum ≡ sum_to (λ j. at (minus y.now x.now) j ⊗ at (minus y.now x.now) j) from → result ≡ norm2_sq (minus y.now x.now) }
 {
     let mut sum = sum;
-    let mut i = from;
-    while i < y.len() {
+    for i in from..y.len() {
         let d = y[i] - x[i];
-        sum = sum + d * d;
-        i += 1;
+        sum += d * d;
     }
     sum
 }
@@ -38,17 +36,14 @@ pub fn squares(x: &[f64], y: &[f64], k: usize) -> PrimalSums
     let m = x.len() - k;
     let mut a = 0.0;
     let mut b = 0.0;
-    let mut i = 0;
-    while i < m {
+    for i in 0..m {
         let r = y[i] - x[i];
-        a = a + r * r;
         let d = differences::diff_at(x, k, i);
-        b = b + d * d;
-        i += 1;
+        a += r * r;
+        b += d * d;
     }
-    let r = residual_rest(x, y, m, a);
     PrimalSums {
-        residual: r,
+        residual: residual_rest(x, y, m, a),
         differences: b,
     }
 }
@@ -67,13 +62,9 @@ pub fn products(v: &[f64], y: &[f64], k: usize) -> DualSums
 {
     let mut a = 0.0;
     let mut b = 0.0;
-    let mut i = 0;
-    while i < v.len() {
-        let x = v[i];
-        let d = differences::diff_at(y, k, i);
-        a = a + x * d;
-        b = b + x * x;
-        i += 1;
+    for (i, x) in v.iter().enumerate() {
+        a += x * differences::diff_at(y, k, i);
+        b += x * x;
     }
     DualSums { dot: a, square: b }
 }
@@ -84,10 +75,7 @@ pub fn scale_diff(v: &mut [f64], x: &[f64], lam: f64, k: usize)
     ensures { v.new ≡ put v.old 0 (scaled lam (diff_k k x.now)) }
 {
     let m = x.len() - k;
-    let mut i = 0;
-    while i < m {
-        let d = differences::diff_at(x, k, i);
-        v[i] = lam * d;
-        i += 1;
+    for i in 0..m {
+        v[i] = lam * differences::diff_at(x, k, i);
     }
 }

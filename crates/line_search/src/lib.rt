@@ -1,7 +1,7 @@
 // The line search along the direction of a Newton step. A point stands in a run as z, mu1, mu2, m places each.
 #![tactic(auto)]
 
-ghost use Rattle.std.specs.Prelude.{◌≡◌, ◌+◌, ◌*◌, length};
+ghost use Rattle.std.specs.Prelude.{◌≡◌, false, is_some, unwrap_or, ◌+◌, ◌*◌, length};
 ghost use Rattle.vectors.specs.Vec.{at};
 ghost use Rattle.vectors.specs.Sums.{sum_to};
 ghost use Rattle.vectors.specs.Parts.{Kept, Written};
@@ -18,10 +18,8 @@ fn move_part(s: &mut [f64], from: usize, to: usize, b: usize, c: usize, step: f6
     requires { MoveRoom from to b c (length s.old) }
     ensures { Written (c + from) (c + to) (moved b c step s.old) s.old s.new }
 {
-    let mut i = from;
-    while i < to {
+    for i in from..to {
         s[c + i] = s[i] + step * s[b + i];
-        i += 1;
     }
 }
 
@@ -31,9 +29,10 @@ fn product_at(z: &[f64], g: [f64; 3], k: usize, i: usize, inner: bool) -> f64
     ensures { result ≡ product k g z.now i }
 {
     if inner {
-        return gram::product_inner(z, g, k, i);
+        gram::product_inner(z, g, k, i)
+    } else {
+        gram::product(z, g, k, i)
     }
-    gram::product(z, g, k, i)
 }
 
 // What the trial's places from `from` up to `to` add to the square of its residual, in the m places after the trial.
@@ -55,10 +54,9 @@ fn squares(
 {
     let c = 3 * m;
     let d = 4 * m;
-    let mut i = from;
-    while i < to {
+    for i in from..to {
         let q = product_at(&s[c..d], g, k, i, inner);
-        let x = newton_system::residual_of(
+        s[c + c + i] = newton_system::residual_of(
             q,
             dy[i],
             s[c + i],
@@ -67,8 +65,6 @@ fn squares(
             lam,
             inv_t,
         );
-        s[c + c + i] = x;
-        i += 1;
     }
 }
 
@@ -91,10 +87,8 @@ fn sum(v: &[f64]) -> f64
     ensures { result ≡ sum_to (at v.now) (length v.now) }
 {
     let mut a = 0.0;
-    let mut i = 0;
-    while i < v.len() {
-        a = a + v[i];
-        i += 1;
+    for x in v {
+        a += x;
     }
     a
 }
@@ -122,13 +116,7 @@ fn low_enough(
     square_root::sqrt(a) <= (1.0 - 0.01 * step) * old
 }
 
-#[derive(Clone, Copy)]
-struct Tried {
-    inside: bool,
-    good: bool,
-}
-
-// One trial: the point at a step, whether it is inside, and whether it is accepted. Its mu1 and mu2 are made only inside.
+// One trial, the point at a step: whether it is accepted, or None where it is not inside. Its mu1 and mu2 are made only inside.
 fn attempt(
     s: &mut [f64],
     b: usize,
@@ -140,26 +128,18 @@ fn attempt(
     m: usize,
     step: f64,
     old: f64,
-) -> Tried
+) -> Option<bool>
     requires { LineRoom k m b (length s.old) (length dy.now) }
-    ensures { Attempted (data_of k g dy.now lam inv_t) m b step old s.old s.new result.inside result.good }
+    ensures { Attempted (data_of k g dy.now lam inv_t) m b step old s.old s.new (is_some result) (unwrap_or result false) }
 {
     let c = 3 * m;
     let d = c + m;
     move_part(s, 0, m, b, c, step);
-    let within = vectors::inside(&s[c..d], lam);
-    if within {
-        move_part(s, m, c, b, c, step);
-        let low = low_enough(s, dy, lam, inv_t, g, k, m, step, old);
-        return Tried {
-            inside: true,
-            good: low,
-        };
+    if !vectors::inside(&s[c..d], lam) {
+        return None;
     }
-    Tried {
-        inside: false,
-        good: false,
-    }
+    move_part(s, m, c, b, c, step);
+    Some(low_enough(s, dy, lam, inv_t, g, k, m, step, old))
 }
 
 // How a line search ended: its last step, halved if the trial was not accepted, and whether the last trial is inside.
@@ -168,6 +148,9 @@ pub struct Trial {
     pub step: f64,
     pub inside: bool,
 }
+
+// The most trials of a search.
+const TRIALS: usize = 20;
 
 // Up to 20 trials; the last stands after the point, if it is inside.
 pub fn line_search(
@@ -186,22 +169,14 @@ pub fn line_search(
     ensures { Searched (data_of k g dy.now lam inv_t) m b cap old s.old s.new result.step result.inside }
 {
     let mut step = cap;
-    let mut last = false;
-    let mut i: usize = 0;
-    while i < 20 {
-        let a = attempt(s, b, dy, lam, inv_t, g, k, m, step, old);
-        if a.good {
-            return Trial {
-                step: step,
-                inside: true,
-            };
+    let mut inside = false;
+    for _ in 0..TRIALS {
+        let trial = attempt(s, b, dy, lam, inv_t, g, k, m, step, old);
+        if trial == Some(true) {
+            return Trial { step, inside: true };
         }
-        last = a.inside;
-        step = step * 0.5;
-        i += 1;
+        inside = trial.is_some();
+        step *= 0.5;
     }
-    Trial {
-        step: step,
-        inside: last,
-    }
+    Trial { step, inside }
 }

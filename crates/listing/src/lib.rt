@@ -2,7 +2,7 @@
 // Inside, each function writes from a place on and answers the place past it.
 #![tactic(auto)]
 
-ghost use Rattle.std.specs.Prelude.{◌≡◌, cond, ◌+◌, ◌*◌, ◌≤◌, ◌<◌, length, get_or};
+ghost use Rattle.std.specs.Prelude.{◌≡◌, ◌+◌, ◌*◌, ◌≤◌, ◌<◌, length, get_or};
 ghost use Rattle.vectors.specs.Parts.{Wrote};
 ghost use Rattle.fields.specs.Puts.{Puts};
 ghost use Rattle.lines.specs.Lines.{refused_line};
@@ -26,12 +26,6 @@ pub struct Shown {
     pub knots: usize,
 }
 
-fn wide(x: u32) -> u64
-    ensures { result ≡ x }
-{
-    x as u64
-}
-
 // The lines of the first n hours.
 fn put_hours(
     out: &mut [u8],
@@ -45,12 +39,10 @@ fn put_hours(
     requires n_in_bounds_2 { at + 57 * n ≤ length out.old }
     ensures { Puts out.old at (first_hours positions.now trend.now cycle.now n) out.new result (57 * n) }
 {
-    let mut i: usize = 0;
     let mut pos = at;
-    while i < n {
-        let p = wide(positions[i]);
+    for i in 0..n {
+        let p = u64::from(positions[i]);
         pos = lines::put_hour_line(out, pos, p, trend[i], cycle[i]);
-        i += 1;
     }
     pos
 }
@@ -60,7 +52,7 @@ fn knot_position(positions: &[u32], knot: u32) -> u64
     requires { knot < length positions.now }
     ensures { result ≡ get_or positions.now knot 0 }
 {
-    wide(positions[knot as usize])
+    u64::from(positions[knot as usize])
 }
 
 // The lines of the first n knots.
@@ -69,20 +61,11 @@ fn put_knots(out: &mut [u8], at: usize, positions: &[u32], knots: &[u32], n: usi
     requires n_in_bounds_2 { at + 26 * n ≤ length out.old }
     ensures { Puts out.old at (first_knots positions.now knots.now n) out.new result (26 * n) }
 {
-    let mut i: usize = 0;
     let mut pos = at;
-    while i < n {
-        let p = knot_position(positions, knots[i]);
-        pos = lines::put_knot_line(out, pos, p);
-        i += 1;
+    for &knot in &knots[..n] {
+        pos = lines::put_knot_line(out, pos, knot_position(positions, knot));
     }
     pos
-}
-
-fn bit(b: bool) -> u64
-    ensures { result ≡ cond b 1 0 }
-{
-    if b { 1 } else { 0 }
 }
 
 // The first line of a fit.
@@ -90,13 +73,16 @@ fn put_fit_line(out: &mut [u8], at: usize, f: Shown) -> usize
     requires { at + 151 ≤ length out.old }
     ensures { Puts out.old at (shown_line f) out.new result 151 }
 {
-    let why = f.reason;
-    let reason = search::number(why);
-    let converged = bit(f.converged);
     let a1 = fields::put_all(out, at, b"fit");
-    let a2 = lines::put_three(out, a1, f.n as u64, f.order as u64, f.penalty as u64);
-    let a3 = lines::put_three(out, a2, f.n_iter, f.improvements, converged);
-    let a4 = fields::put_field(out, a3, reason);
+    let a2 = lines::put_three(
+        out,
+        a1,
+        f.n as u64,
+        u64::from(f.order),
+        u64::from(f.penalty),
+    );
+    let a3 = lines::put_three(out, a2, f.n_iter, f.improvements, u64::from(f.converged));
+    let a4 = fields::put_field(out, a3, u64::from(f.reason));
     fields::put_byte(out, a4, 10)
 }
 
@@ -125,5 +111,5 @@ pub fn put_listing(
 pub fn put_refused(out: &mut [u8; 16384], number: u32) -> usize
     ensures { Wrote out.old 0 (refused_line number) out.new result }
 {
-    lines::put_refused_line(out, 0, number as u64)
+    lines::put_refused_line(out, 0, u64::from(number))
 }

@@ -5,6 +5,7 @@ use mathlib.Core.List.{List}
 use Prim.Native.Nat.{ℕ, ◌+◌, ◌*◌}
 use native.Mathlib.Omega.{arith}
 use lib.Ieee.{Float}
+use Rattle.std.specs.Prelude.{Some, None}
 use Rattle.vectors.specs.Parts.{Kept, part}
 use Rattle.vectors.proofs.Laws.{kept_then, kept_none}
 use Rattle.vectors.proofs.Parts.{length_part}
@@ -22,7 +23,7 @@ use Rattle.dual_point.specs.Places.{point}
 use Rattle.line_search.specs.Places.{searched_from, Searched}
 use Rattle.dual_point.proofs.Points.{point_below, point-part}
 use Rattle.newton_step.specs.Stepped.{step_area, Stepped}
-use Rattle.newton_step.specs.declared.Step.TheVariants.{Lost, Stayed, Moved}
+use Rattle.newton_step.specs.declared.Step.TheVariants.{Stayed, Moved}
 
 -- how the line search from p ended, said of its end: the step, whether the last trial is inside, and the trial if it is
 record LineEnd (lam : Float) (e : Trial) (m : ℕ) (s : List Float) (step : Float) (within : Bool) : Type 0 where
@@ -59,7 +60,7 @@ module _ {k : ℕ} {g dy : List Float} {lam inv_t : Float} {m : ℕ} {s₀ s₁ 
   abbrev all : ℕ
   all = step_area k m
 
-  pub lost_step : w.good ≡ false → Stepped k g dy lam inv_t 0 m s₀ s₁ Lost
+  pub lost_step : w.good ≡ false → Stepped k g dy lam inv_t 0 m s₀ s₁ None
   lost_step f =
       let no : sound k (system k g lam (point 0 m s₀)) m ≡ false = sym z.answer ∙ f in
       record {
@@ -91,12 +92,12 @@ module _ {k : ℕ} {g dy : List Float} {lam inv_t : Float} {m : ℕ} {s₀ s₁ 
     searched-kept =
         kept_then 0 all (kept_then 0 all z.kept v.kept (omega arith) (omega arith) (omega arith) (omega arith)) line.kept (omega arith) (omega arith) (omega arith) (omega arith)
 
-    pub stayed-step : within ≡ false → Stepped k g dy lam inv_t 0 m s₀ s₃ (Stayed step)
+    pub stayed-step : within ≡ false → Stepped k g dy lam inv_t 0 m s₀ s₃ (Some (Stayed step))
     stayed-step out =
         let no : inside lam (search_line c (point 0 m s₀)).point.z ≡ false = sym end.in_bounds ∙ out in
         record { answer = rw (yes, no, end.step_is); moves = point_below 0 m line.kept (omega arith) ∙ p₂ ∙ rw (yes, no); kept = searched-kept }
 
-    pub moved-step : {s₄ : List Float} → within ≡ true → part 0 (3 * m) s₄ ≡ part (3 * m) (3 * m) s₃ → Kept 0 (3 * m) s₃ s₄ → Stepped k g dy lam inv_t 0 m s₀ s₄ (Moved step)
+    pub moved-step : {s₄ : List Float} → within ≡ true → part 0 (3 * m) s₄ ≡ part (3 * m) (3 * m) s₃ → Kept 0 (3 * m) s₃ s₄ → Stepped k g dy lam inv_t 0 m s₀ s₄ (Some (Moved step))
     moved-step {s₄} in_b h x =
         let in_bounds : inside lam (search_line c (point 0 m s₀)).point.z ≡ true = sym end.in_bounds ∙ in_b in
         record {

@@ -4,15 +4,14 @@
 ghost use Rattle.std.specs.Prelude.{length};
 ghost use Rattle.newton_step.specs.Stepped.{Steppable, Stepped};
 
-// One Newton step: a pivot was bad; or, with this step, the point stayed, since the last trial is not inside the bounds, or moved.
+// With this step the point stayed, since the last trial is not inside the bounds, or moved.
 #[derive(Clone, Copy)]
 pub enum Step {
-    Lost,
     Stayed(f64),
     Moved(f64),
 }
 
-// One Newton step. s: z, mu1, mu2; the trial's; the rows of the system; dz, dmu1, dmu2. The line search writes over the first m places of the rows.
+// One Newton step; none where a pivot was bad. s: z, mu1, mu2; the trial's; the rows of the system; dz, dmu1, dmu2. The line search writes over the first m places of the rows.
 pub fn newton_step(
     s: &mut [f64],
     dy: &[f64],
@@ -21,7 +20,7 @@ pub fn newton_step(
     g: [f64; 3],
     k: usize,
     m: usize,
-) -> Step
+) -> Option<Step>
     requires { Steppable k m (length s.old) (length dy.now) }
     ensures { Stepped k g dy.now lam inv_t 0 m s.old s.new result }
 {
@@ -29,15 +28,14 @@ pub fn newton_step(
     let b = a + m * (k + 1);
     let w = newton_sweep::newton_z(s, a, dy, lam, inv_t, g, k, m);
     if !w.good {
-        return Step::Lost;
+        return None;
     }
     let cap = direction::directions(s, b, lam, inv_t, m);
     let norm = square_root::sqrt(w.acc);
     let t = line_search::line_search(s, b, dy, lam, inv_t, g, k, m, cap, norm);
     if !t.inside {
-        return Step::Stayed(t.step);
+        return Some(Step::Stayed(t.step));
     }
-    let c = 3 * m;
-    vectors::copy_within(s, c, 0, c);
-    Step::Moved(t.step)
+    vectors::copy_within(s, 3 * m, 0, 3 * m);
+    Some(Step::Moved(t.step))
 }

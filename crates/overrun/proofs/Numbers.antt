@@ -1,22 +1,12 @@
--- What compares equal to itself, which a NaN does not: whole milliseconds, and an overrun just where question 22 takes its rate. Assumes nothing.
+-- What is no NaN: whole milliseconds, and an overrun just where question 22 takes its rate. Assumes nothing.
 use mathlib.Core.Path.{◌≡◌, refl, ap, ◌∙◌}
-use mathlib.Core.Bool.{Bool, true, false, cond}
+use mathlib.Core.Bool.{Bool, true, false, not, cond}
 use Prim.Native.Nat.{ℕ, zero, suc, ◌*◌, ◌^◌}
 use lib.Dec.{ltb}
 use lib.IntN.{ℤ, pos, negsuc}
-use lib.Ieee.{Float, nan, inf, binary64, is_nan, odd, units, round, of_int, eq, ne}
+use lib.Ieee.{Float, nan, inf, binary64, is_nan, odd, units, round, of_int}
 use lib.Ieee.Fits.{round_is}
-use Rattle.float64.proofs.Clash.{clash}
-use Rattle.float64.proofs.Helpers.{nan_true}
 use Rattle.overrun.specs.Overrun.{Frames, is_rated, fraction_of, is_below_zero, overrun}
-
-itself : (x : Float) → is_nan x ≡ false → eq x x ≡ true
-unfolding ne
-itself x h = go (eq x x) refl
-  where
-    go : (b : Bool) → eq x x ≡ b → b ≡ true
-    go true e = refl
-    go false e = absurd (clash (nan_true x (rw e)) h)
 
 -- rounding gives no NaN
 odd_number : (d : ℕ) (s : Bool) (q k l : ℕ) → is_nan (odd d s q k l) ≡ false
@@ -32,18 +22,18 @@ units_number s q k = go (ltb (q * 2 ^ k) (2 ^ 2098)) (odd 54 s q k 1074) (odd_nu
     go true x h = h
     go false x h = refl
 
-round_number : (s : Bool) (a b : ℕ) → eq (round binary64 s a b) (round binary64 s a b) ≡ true
-round_number s a b = itself (round binary64 s a b) (ap is_nan (round_is binary64 s a b) ∙ units_number s _ _)
+round_number : (s : Bool) (a b : ℕ) → is_nan (round binary64 s a b) ≡ false
+round_number s a b = ap is_nan (round_is binary64 s a b) ∙ units_number s _ _
 
-pub whole_number : (z : ℤ) → eq (of_int binary64 z) (of_int binary64 z) ≡ true
+pub whole_number : (z : ℤ) → is_nan (of_int binary64 z) ≡ false
 unfolding of_int
 whole_number (pos n) = round_number false n 1
 whole_number (negsuc n) = round_number true (suc n) 1
 
-pub overrun_number : (f : Frames) → eq (overrun f) (overrun f) ≡ is_rated f
-unfolding overrun eq
+pub overrun_number : (f : Frames) → not (is_nan (overrun f)) ≡ is_rated f
+unfolding overrun is_nan
 overrun_number f = go (is_rated f) _ (round_number (is_below_zero f) (fraction_of f).upper (fraction_of f).lower)
   where
-    go : (t : Bool) (x : Float) → eq x x ≡ true → eq (cond t x nan) (cond t x nan) ≡ t
-    go true x h = h
+    go : (t : Bool) (x : Float) → is_nan x ≡ false → not (is_nan (cond t x nan)) ≡ t
+    go true x h = ap not h
     go false x h = refl

@@ -24,9 +24,10 @@ fn quotient(a: u64, b: u64, c: u64) -> f64
     let left = a / g;
     let right = b / h;
     if left > 9007199254740991 / right {
-        return 0.0 / 0.0;
+        f64::NAN
+    } else {
+        (left * right) as f64 / (rest / h) as f64
     }
-    (left * right) as f64 / (rest / h) as f64
 }
 
 // The milliseconds of an hour in frames whose body starts there, or NaN where question 22 refuses its rate.
@@ -34,11 +35,11 @@ pub fn milliseconds(s: &[u8], at: usize) -> f64
     requires { at + 12 ≤ length s.now }
     ensures { result ≡ overrun (frames_in (take 12 (drop at s.now))) }
 {
-    let count = framing::four(s, at);
-    let numerator = framing::four(s, at + 4);
-    let denominator = framing::four(s, at + 8);
+    let count = framing::number::<4>(s, at);
+    let numerator = framing::number::<4>(s, at + 4);
+    let denominator = framing::number::<4>(s, at + 8);
     if numerator == 0 || denominator == 0 {
-        return 0.0 / 0.0;
+        return f64::NAN;
     }
     if count < 2147483648 {
         quotient(1000 * count, denominator, numerator)

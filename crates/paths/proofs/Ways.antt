@@ -4,6 +4,7 @@ use mathlib.Core.Bool.{Bool, true, false, cond}
 use mathlib.Core.List.{List}
 use mathlib.Core.Option.{some}
 use Prim.Native.Nat.{ℕ}
+use Rattle.std.specs.Prelude.{Some}
 use lib.ListN.{length}
 use lib.Ieee.{Float}
 use borrow.Author.Tests.{eq-eqb, ne_eqb}
@@ -12,7 +13,6 @@ use Rattle.questions.specs.Questions.{Asked}
 use Rattle.fit.specs.Fit.{Found, search_of, path_zero, path_flat, path_end, path_l1, path_l2, path}
 use Rattle.fit.specs.Ways.{lam_zero, lam_high}
 use Rattle.closed_paths.specs.declared.Finding.{Finding}
-use Rattle.closed_paths.specs.declared.Path.TheVariants.{Done}
 use Rattle.closed_paths.specs.Trends.{ridge_area, search_marks, said, reached}
 use Rattle.closed_paths.specs.Taken.{AsksSearch, AsksPath, Finds, Took}
 use Rattle.closed_paths.proofs.Areas.{some_none}
@@ -47,6 +47,6 @@ module _ {k p d : ℕ} {y w c : List Float} {top : Float} {marks : List ℕ} (h 
 
 -- a path that finds is one that took, where it is the path of the fit
 pub took_done : {I : Type 0} {f : I → Found} {k l : ℕ} {y w₀ w c₀ c d₀ d : List Float} {r : Finding} (a : Asked) (i : I) → Finds f k l y w₀ w c₀ c d₀ d r → path a ≡ some (f i)
-    → Took (path a) k l y w₀ w c₀ c d₀ d (Done r)
+    → Took (path a) k l y w₀ w c₀ c d₀ d (Some r)
 unfolding said reached
 took_done a i h e = record { says = ap some (h.says i) ∙ sym e; stands = h.stands; lost = λ z. absurd (some_none _ (sym e ∙ z)); changed = h.changed }

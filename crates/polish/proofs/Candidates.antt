@@ -12,7 +12,8 @@ use Rattle.vectors.specs.Parts.{part}
 use Rattle.vectors.proofs.Laws.{list_ext, cond_cong}
 use Rattle.vectors.proofs.Parts.{at_part, put_back, part-put}
 use Rattle.banded.specs.Rows.{sound}
-use Rattle.active_set.specs.ActiveSet.{Hold, is_free, held_at, free_to, compressed, solved}
+use Rattle.active_set.specs.declared.Hold.{Hold}
+use Rattle.active_set.specs.ActiveSet.{is_free, held_at, free_to, compressed, solved}
 use Rattle.polish.specs.Polish.{candidate_at, candidate}
 use Rattle.active_set.specs.Marks.{held_by, Marks}
 use Rattle.polish.specs.Places.{found}

@@ -1,5 +1,5 @@
 -- How a polish ends, from the marks, the candidate and its certificate. Assumes nothing.
-use mathlib.Core.Bool.{true, false}
+use Rattle.std.specs.Prelude.{Some, None}
 use mathlib.Core.List.{List}
 use mathlib.Core.Option.{Option, none, some}
 use mathlib.Core.Path.{◌≡◌, refl, sym, ap, ◌∙◌}
@@ -18,7 +18,8 @@ use Rattle.vectors.proofs.Parts.{length_part, part_of_range, put_back, part-put}
 use Rattle.differences.specs.Diff.{diff_k, gram_row}
 use Rattle.dual_point.specs.Places.{point}
 use Rattle.dual_point.specs.Lanes.{settle_lane, candidate_trend, candidate_lane, polish_area, search_area}
-use Rattle.active_set.specs.ActiveSet.{Hold, hold_at, free_to, compressed_rhs_at, solved}
+use Rattle.active_set.specs.declared.Hold.{Hold}
+use Rattle.active_set.specs.ActiveSet.{hold_at, free_to, compressed_rhs_at, solved}
 use Rattle.polish.specs.Polish.{candidate, polish}
 use Rattle.active_set.specs.Marks.{Marks, Freed}
 use Rattle.polish.specs.Places.{polish_from, Polished}
@@ -66,15 +67,18 @@ freed {h} {n} {q} {v} k known w o l room dy = record {
 marks_all : (n k : ℕ) {v₀ v : List ℕ} → KeptOf 0 0 (n + (n - k)) v₀ v → KeptOf 0 0 (2 * n) v₀ v
 marks_all n k w = record { size = w.size; below = λ j h. absurd (omega arith); above = λ j h. w.above j (omega arith) }
 
+same : {a b : Candidate} → Some a ≡ Some b → a ≡ b
+same u = cc
+
 only : {a b : List Float} → some a ≡ some b → a ≡ b
 only u = cc
 
 -- w₁ is the run with the candidate, v the marks
 module _ (k : ℕ) (y : List Float) (lam : Float) {w₀ w₁ : List Float} (d₀ : List Float) {v₀ v : List ℕ} (marks : KeptOf 0 0 (length y + (length y - k)) v₀ v) (kept : Kept (settle_lane (length y)) (polish_area (length y)) w₀ w₁) where
-  pub ended_none : (r : Candidate) → r.there ≡ false → polish_from k y lam w₀ ≡ none → Polished k y lam w₀ w₁ d₀ d₀ v₀ v r
-  ended_none r e p = record {
-    there = e ∙ rw p;
-    rated = λ z s. impossible cc;
+  pub ended_none : polish_from k y lam w₀ ≡ none → Polished k y lam w₀ w₁ d₀ d₀ v₀ v None
+  ended_none p = record {
+    there = rw p;
+    rated = λ z s c e. impossible cc;
     kept = kept;
     none_there = λ _. refl;
     dual = kept_none 0 (length y - k) d₀;
@@ -94,16 +98,16 @@ module _ (k : ℕ) (y : List Float) (lam : Float) {w₀ w₁ : List Float} (d₀
         let t : candidate_trend n + n ≡ candidate_lane n = omega arith in
         rw (e, t) at (part_of_range nan n (n - k) (candidate_trend n) (candidate_trend n + l) w₁ (omega arith) (omega arith) (omega arith))
 
-    pub ended_some : (r : Candidate) → r.there ≡ true → r.gap ≡ primal ⊖ dual → r.primal ≡ primal → Polished k y lam w₀ (put_back (candidate_trend n) l w₁ x) d₀ d v₀ v r
-    ended_some r e g h =
+    pub ended_some : (r : Candidate) → r.gap ≡ primal ⊖ dual → r.primal ≡ primal → Polished k y lam w₀ (put_back (candidate_trend n) l w₁ x) d₀ d v₀ v (Some r)
+    ended_some r g h =
         let s = kept.size in
         record {
-          there = e ∙ rw p;
-          rated = λ z t.
+          there = rw p;
+          rated = λ z t o e.
               let is : part n (n - k) (take l (drop (candidate_trend n) w₁)) ≡ z = dual_point ∙ only (sym p ∙ t) in
               record {
-                gap = g ∙ rw (c.primal_is, c.dual_is, is);
-                primal = h ∙ c.primal_is ∙ rw is;
+                gap = ap (λ (x : Candidate). x.gap) (sym (same e)) ∙ g ∙ rw (c.primal_is, c.dual_is, is);
+                primal = ap (λ (x : Candidate). x.primal) (sym (same e)) ∙ h ∙ c.primal_is ∙ rw is;
                 trend = rw add-zero at (part-put (candidate_trend n) l w₁ x (omega arith) size nan 0 n (omega arith)) ∙ c.trend ∙ rw is;
                 dual = c.zc_is ∙ rw is;
               };

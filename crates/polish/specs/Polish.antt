@@ -4,7 +4,8 @@ use Rattle.std.proofs.Math.Option.{Option, none, some}
 use Rattle.vectors.specs.Vec.{at, list}
 use Rattle.banded.specs.Rows.{sound}
 use Rattle.dual_point.specs.Dual.{Dual}
-use Rattle.active_set.specs.ActiveSet.{Hold, is_free, held_at, hold_at, free_to, compressed, solved}
+use Rattle.active_set.specs.declared.Hold.{Hold}
+use Rattle.active_set.specs.ActiveSet.{is_free, held_at, hold_at, free_to, compressed, solved}
 
 -- place i of the candidate: where it is held, or from the solution x, in which i comes after the free places below i
 unfoldable pub candidate_at : Float → (ℕ → Hold) → List Float → ℕ → Float

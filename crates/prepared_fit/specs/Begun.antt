@@ -1,5 +1,5 @@
 -- What the questions and the preparation leave. n is the length of the series. For the contracts between our own crates.
-use Rattle.std.specs.Prelude.{◌≡◌, true, List, ℕ, ltb, length, Float}
+use Rattle.std.specs.Prelude.{◌≡◌, true, List, ℕ, ltb, length, Float, Result, Ok, Err}
 use Rattle.vectors.specs.Parts.{Kept, part}
 use Rattle.differences.specs.Diff.{diff_k, gram_row}
 use Rattle.gram.specs.Gram.{zstar}
@@ -7,8 +7,6 @@ use Rattle.gram.specs.Prepared.{star_lane, diff_lane, preparation}
 use Rattle.questions.specs.Questions.{Asked, Lent, question}
 use Rattle.fit.specs.Fit.{refused, places, lam_max_of, fit}
 use Rattle.fit.specs.Ways.{sound_dd}
-use Rattle.prepared_fit.specs.declared.Begun.{Begun}
-use Rattle.prepared_fit.specs.declared.Begun.TheVariants.{Stopped, Ready}
 
 -- the call is refused with q; questions 1 to 9 leave work unchanged, number 10 all of it behind the preparation
 pub record Stops (a : Asked) (l : Lent) (w₀ w : List Float) (q : ℕ) : Type 0 where
@@ -26,6 +24,6 @@ pub record Readies (a : Asked) (l : Lent) (w₀ w : List Float) (top : Float) : 
   pub kept : Kept 0 (preparation (length a.y)) w₀ w
 
 -- one of the two
-unfoldable pub Begins : Asked → Lent → List Float → List Float → Begun → Type 0
-Begins a l w₀ w (Stopped q) = Stops a l w₀ w q
-Begins a l w₀ w (Ready top) = Readies a l w₀ w top
+unfoldable pub Begins : Asked → Lent → List Float → List Float → Result Float ℕ → Type 0
+Begins a l w₀ w (Err q) = Stops a l w₀ w q
+Begins a l w₀ w (Ok top) = Readies a l w₀ w top

@@ -4,22 +4,17 @@
 ghost use Rattle.std.specs.Prelude.{length};
 ghost use Rattle.decomposition.specs.Written.{decomposed, WroteOut};
 ghost use Rattle.questions.specs.Asking.{asking, lending};
+ghost use Rattle.questions.specs.Refusals.{numbered};
 ghost use Rattle.fit.specs.Outputs.{outputs};
 ghost use Rattle.closed_paths.specs.Trends.{trend_of};
 ghost use Rattle.prepared_fit.specs.Begun.{Begins};
 ghost use Rattle.prepared_fit.specs.Fitted.{AsksOut, AsksFit, Fitted};
 
-use closed_paths::{Path, Trend};
+use closed_paths::Trend;
 use fit::Numbers;
+use questions::Refusal;
 
-// A refusal's number, or lam_max of the series, which is prepared.
-#[derive(Clone, Copy)]
-pub enum Begun {
-    Stopped(u32),
-    Ready(f64),
-}
-
-// The questions, then the preparation at the start of work. trend, cycle, knots, dual and marks are the lengths lent.
+// The questions, then the preparation at the start of work; lam_max of the series. trend, cycle, knots, dual and marks are the lengths lent.
 pub fn begin(
     work: &mut [f64],
     y: &[f64],
@@ -33,11 +28,11 @@ pub fn begin(
     knots: usize,
     dual: usize,
     marks: usize,
-) -> Begun
+) -> Result<f64, Refusal>
     ensures { Begins (asking y.now lam tol max_iter order penalty) (lending trend cycle knots dual (length work.old) marks)
-        work.old work.new result }
+        work.old work.new (numbered result) }
 {
-    let q = questions::question(
+    questions::question(
         y,
         lam,
         tol,
@@ -50,15 +45,8 @@ pub fn begin(
         dual,
         work.len(),
         marks,
-    );
-    if q != 0 {
-        return Begun::Stopped(q);
-    }
-    let p = gram::prepare(work, y, order as usize);
-    if !p.good {
-        return Begun::Stopped(10);
-    }
-    Begun::Ready(p.top)
+    )?;
+    gram::prepare(work, y, order as usize).ok_or(Refusal::BadPivot)
 }
 
 // A fit's numbers, and how many knots there are.
@@ -66,13 +54,6 @@ pub fn begin(
 pub struct Tally {
     pub knots: usize,
     pub numbers: Numbers,
-}
-
-// The path lost a pivot, or what was written of it.
-#[derive(Clone, Copy)]
-pub enum Written {
-    Lost,
-    Done(Tally),
 }
 
 // The trend where it stands, its cycle and its knots in the first places of trend, cycle and knots; how many knots there are.
@@ -93,7 +74,7 @@ fn write_found<'a>(
     decomposition::write_out(trend, cycle, knots, y, x, k)
 }
 
-// The path of a prepared series, and what is written of it.
+// The path of a prepared series, and what is written of it; None where a pivot of it is bad.
 pub fn fit_prepared(
     trend: &mut [f64],
     cycle: &mut [f64],
@@ -108,25 +89,18 @@ pub fn fit_prepared(
     k: usize,
     penalty: u32,
     lam_max: f64,
-) -> Written
+) -> Option<Tally>
     requires { AsksFit k penalty y.now lam_max (outputs trend.old cycle.old knots.old dual.old) work.old marks.old }
     ensures { Fitted (asking y.now lam tol max_iter k penalty) result
         (outputs trend.old cycle.old knots.old dual.old) (outputs trend.new cycle.new knots.new dual.new)
         work.old work.new marks.old marks.new }
 {
-    let p = paths::take_path(
+    let f = paths::take_path(
         work, marks, cycle, dual, y, lam, tol, max_iter, k, penalty, lam_max,
-    );
-    match p {
-        Path::Lost => Written::Lost,
-        Path::Done(f) => {
-            let t = f.trend;
-            let s = f.numbers;
-            let count = write_found(trend, cycle, knots, y, work, t, k);
-            Written::Done(Tally {
-                knots: count,
-                numbers: s,
-            })
-        }
-    }
+    )?;
+    let count = write_found(trend, cycle, knots, y, work, f.trend, k);
+    Some(Tally {
+        knots: count,
+        numbers: f.numbers,
+    })
 }

@@ -8,7 +8,7 @@ use lib.Dec.{eqb}
 use lib.ListN.{length}
 use Rattle.float64.proofs.Clash.{impossible}
 use Rattle.questions.specs.declared.Figures.{Figures}
-use Rattle.questions.specs.declared.Needed.TheVariants.{Given, Refused}
+use Rattle.std.specs.Prelude.{Ok, Err}
 use Rattle.questions.specs.Questions.{Asked, Lent, needs_for, ask, room, question}
 use Rattle.questions.specs.Groups.{kinds_known, long_enough, short_enough, all_finite, lam_right, tol_right, limit_right, answer_room}
 use Rattle.questions.specs.Beforehand.{first_no, needed, needed_for, Foretells}
@@ -19,11 +19,11 @@ first_passes : (a : Asked) (l : Lent) → question a l ≡ 0 → first_no (lengt
 first_passes a l e = let q = each_yes a l e in rw (q.kinds, q.long, q.short, q.limit)
 
 -- the figures given are those of question 9
-pub given_same : (a : Asked) (g : Figures) → needed_for a ≡ Given g → needs_for a ≡ g
+pub given_same : (a : Asked) (g : Figures) → needed_for a ≡ Ok g → needs_for a ≡ g
 unfolding needed
 given_same a g = go (eqb (first_no (length a.y) a.max_iter a.order a.penalty) 0)
   where
-    go : (b : Bool) → cond b (Given (needs_for a)) (Refused (first_no (length a.y) a.max_iter a.order a.penalty)) ≡ Given g → needs_for a ≡ g
+    go : (b : Bool) → cond b (Ok (needs_for a)) (Err (first_no (length a.y) a.max_iter a.order a.penalty)) ≡ Ok g → needs_for a ≡ g
     go true e = cc
     go false e = impossible cc
 
@@ -44,12 +44,12 @@ asked_9 a l e =
     other 7 (limit_right a.max_iter) _ refl (other 6 (tol_right a.tol) _ refl q5)
 
 -- a refusal before has its question's number
-refused_same : (a : Asked) (q : ℕ) → needed_for a ≡ Refused q → let x = first_no (length a.y) a.max_iter a.order a.penalty in (x ≡ q) × (eqb x 0 ≡ false)
+refused_same : (a : Asked) (q : ℕ) → needed_for a ≡ Err q → let x = first_no (length a.y) a.max_iter a.order a.penalty in (x ≡ q) × (eqb x 0 ≡ false)
 unfolding needed
 refused_same a q = go (eqb (first_no (length a.y) a.max_iter a.order a.penalty) 0) refl
   where
     go : let x = first_no (length a.y) a.max_iter a.order a.penalty in
-        (b : Bool) → eqb x 0 ≡ b → cond b (Given (needs_for a)) (Refused x) ≡ Refused q → (x ≡ q) × (eqb x 0 ≡ false)
+        (b : Bool) → eqb x 0 ≡ b → cond b (Ok (needs_for a)) (Err x) ≡ Err q → (x ≡ q) × (eqb x 0 ≡ false)
     go true z e = impossible cc
     go false z e = (cc, z)
 
@@ -79,7 +79,7 @@ limit_first true true true false f l t r e = between f l t r
 pub foretells : (a : Asked) (l : Lent) → Foretells a l
 unfolding needed question
 foretells a l = record {
-  given = λ e. ap (λ (q : ℕ). cond (eqb q 0) (Given (needs_for a)) (Refused q)) (first_passes a l e);
+  given = λ e. ap (λ (q : ℕ). cond (eqb q 0) (Ok (needs_for a)) (Err q)) (first_passes a l e);
   enough = λ g e w m p.
       let h = given_same a g e in
       room-enough (length a.y) (needs_for a) l (subst (λ (x : Figures). x.work ≤ l.work) (sym h) w) (subst (λ (x : Figures). x.marks ≤ l.marks) (sym h) m) (asked_9 a l p);

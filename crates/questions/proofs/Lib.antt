@@ -1,3 +1,4 @@
 -- The laws of questions.
 pub mod Laws
+pub mod Refusals
 pub mod Beforehand

@@ -14,8 +14,8 @@ use Rattle.records.specs.Rates.{rates, rated}
 use Rattle.records.specs.Week.{unread, entries_in, ask_hours, ask_entries, read_week}
 use Rattle.records.specs.Inner.{tally_of, opening_of}
 use Rattle.records.specs.declared.Settings.{Settings}
-use Rattle.records.specs.declared.Tally.TheVariants.{Broken, Whole}
-use Rattle.records.specs.declared.Opening.TheVariants.{Other, Set}
+use Rattle.std.specs.Prelude as P
+use Rattle.framing.specs.declared.NoRecord.{NoRecord}
 
 -- what a walk's answer says of the entries
 pub record Walked (o : Option (List Entry)) (m : ℕ) : Type 0 where
@@ -23,16 +23,16 @@ pub record Walked (o : Option (List Entry)) (m : ℕ) : Type 0 where
   pub splits : o ≡ some entries
   pub settings : m ≡ count_settings entries
 
-pub walked : (o : Option (List Entry)) {m : ℕ} → Whole m ≡ tally_of o → Walked o m
+pub walked : (o : Option (List Entry)) {m : ℕ} → P.Ok m ≡ tally_of o → Walked o m
 walked none e = impossible cc
 walked (some es) e = record { entries = es; splits = refl; settings = cc }
 
-pub broken : (o : Option (List Entry)) → Broken ≡ tally_of o → o ≡ none
+pub broken : (o : Option (List Entry)) {e : NoRecord} → P.Err e ≡ tally_of o → o ≡ none
 broken none e = refl
 broken (some es) e = impossible cc
 
 -- questions 12 and 17, by what comes first and the answers over all entries
-ask_other : (es : List Entry) → Other ≡ opening_of es → ask_entries (some es) ≡ unread 12
+ask_other : (es : List Entry) → P.None ≡ opening_of es → ask_entries (some es) ≡ unread 12
 unfolding ask_entries
 ask_other [] e = refl
 ask_other (slot w ∷ es) e = refl
@@ -42,7 +42,7 @@ ask_other (correction p x ∷ es) e = refl
 
 -- settings and then others
 module _ {st : Settings} where
-  first : (es : List Entry) → Set st ≡ opening_of es → (t : List Entry) × (es ≡ settings st ∷ t)
+  first : (es : List Entry) → P.Some st ≡ opening_of es → (t : List Entry) × (es ≡ settings st ∷ t)
   first [] e = impossible cc
   first (slot w ∷ es) e = impossible cc
   first (frames f ∷ es) e = impossible cc
@@ -77,10 +77,10 @@ module _ (s : List ℕ) (h : length s ≤ 4096) where
   week_broken e = asked ∙ ap ask_entries e
 
   module _ {es : List Entry} (e : entries_in s ≡ some es) where
-    pub week-other : Other ≡ opening_of es → read_week s ≡ unread 12
+    pub week-other : P.None ≡ opening_of es → read_week s ≡ unread 12
     week-other f = asked ∙ ap ask_entries e ∙ ask_other es f
 
-    module _ {st : Settings} (f : Set st ≡ opening_of es) where
+    module _ {st : Settings} (f : P.Some st ≡ opening_of es) where
       pub week-settings : (count_settings es ≡ 1 → ⊥) → read_week s ≡ unread 12
       week-settings c = let g = first es f in asked ∙ ap ask_entries (e ∙ ap some g.1) ∙ ask_settings st g.0 (λ z. c (ap count_settings g.1 ∙ z))
 

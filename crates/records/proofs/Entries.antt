@@ -6,24 +6,30 @@ use native.Mathlib.Omega.{arith}
 use native.Mathlib.Nat.{add-zero}
 use mathlib.Core.List.{List, [], ◌∷◌}
 use mathlib.Core.Option.{Option, none, some, map, bind}
+use Rattle.std.specs.Prelude as P
 use lib.ListN.{length, take, drop, length-drop}
 use lib.Seq.{length-take-le}
 use lib.Dec.{eqb}
-use lib.Ieee.{binary64, of_bits}
-use borrow.Author.Tests.{eqb-true}
+use lib.Ieee.{Float, binary64, of_bits}
+use borrow.Author.Tests.{eqb-true, eq-eqb, ne_eqb}
 use mir.Val.{bool_byte}
+use denote.Enum.Bare.{sameb}
+use Rattle.records.specs.contracts.Kind.{the_type}
 use Rattle.float64.proofs.Clash.{clash, impossible}
 use Rattle.framing.specs.Bytes.{number_at}
 use Rattle.framing.specs.Frames.{Rec, rec, records}
 use Rattle.framing.specs.Places.{head_at}
-use Rattle.framing.specs.declared.Head.TheVariants.{End, Bad, Record}
+use Rattle.framing.specs.declared.Record as framing
+use Rattle.framing.specs.declared.NoRecord.{NoRecord}
 use Rattle.framing.proofs.Numbers.{number_of_part}
 use Rattle.framing.proofs.Heads.{Opens, Heads, heads}
 use Rattle.records.specs.Entries.{Entry, slot, frames, settings, correction, settings_in, sized, entry_of, both, entries, count_settings}
 use Rattle.records.specs.Week.{entries_in}
 use Rattle.records.specs.declared.Settings.{Settings}
-use Rattle.records.specs.declared.Opening.TheVariants.{Other, Set}
-use Rattle.records.specs.Inner.{known, opening_of, Says, hour, quiet, setup, repair, framed, Found}
+use Rattle.records.specs.declared.Record.{Record}
+use Rattle.records.specs.declared.Kind.{Kind}
+use Rattle.records.specs.declared.Kind.TheVariants as kind
+use Rattle.records.specs.Inner.{known, opening_of, kind_of, kind_number, size_of, Says, hour, quiet, setup, repair, framed, Found, Stands}
 
 -- an entry that a record of kind k says, whose body b has n bytes
 record Entered (k n : ℕ) (b : List ℕ) (o : Option Entry) : Type 0 where
@@ -67,6 +73,25 @@ module _ (k : ℕ) (b : List ℕ) where
           rw i at w.says
       go false g = impossible (cc (told.no g))
 
+-- whether a record is of a known kind, and has its size
+pub record Kinded (k n : ℕ) (o : P.Result Kind NoRecord) (v : Bool) : Type 0 where
+  pub kind : {d : Kind} → o ≡ P.Ok d → (kind_number d ≡ k) × (v ≡ eqb n (size_of d))
+  pub other : {e : NoRecord} → o ≡ P.Err e → v ≡ false
+
+module _ (k n : ℕ) where
+  kinded_by : (d : Kind) {o : P.Result Kind NoRecord} {v : Bool} → Kinded k n o v → Kinded k n (cond (eqb k (kind_number d)) (P.Ok d) o) (cond (eqb k (kind_number d)) (eqb n (size_of d)) v)
+  kinded_by d {o} {v} others = go (eqb k (kind_number d)) refl
+    where
+      same : {x : Kind} (o : P.Result Kind NoRecord) → o ≡ P.Ok d → o ≡ P.Ok x → kind_number d ≡ k → (kind_number x ≡ k) × (eqb n (size_of d) ≡ eqb n (size_of x))
+      same {x} o g h e = let f : d ≡ x = cc in rw (← f) (e, refl)
+
+      go : (t : Bool) → eqb k (kind_number d) ≡ t → Kinded k n (cond t (P.Ok d) o) (cond t (eqb n (size_of d)) v)
+      go true g = record { kind = λ h. same (P.Ok d) refl h (sym (eqb-true _ _ g)); other = λ h. impossible cc }
+      go false g = others
+
+  pub kinded : Kinded k n (kind_of k) (known k n)
+  kinded = kinded_by kind.Hour (kinded_by kind.Silence (kinded_by kind.Settings (kinded_by kind.Correction (kinded_by kind.Frames (record { kind = λ h. impossible cc; other = λ h. refl })))))
+
 -- a record and then others, said
 said_first : (r : Rec) (o : Option (List Rec)) → bind (map (λ (rs : List Rec). r ∷ rs) o) entries ≡ both (entry_of r) (bind o entries)
 unfolding entries bind
@@ -79,15 +104,15 @@ said_first r (some rs) = refl
 
 -- what stands at a place
 module _ (s : List ℕ) (at : ℕ) where
-  pub stands_end : End ≡ head_at s at → entries_in (drop at s) ≡ some []
+  pub stands_end : P.Ok P.None ≡ head_at s at → entries_in (drop at s) ≡ some []
   unfolding entries bind
   stands_end e = ap (λ (o : Option (List Rec)). bind o entries) (subst (Heads s at) (sym e) (heads s at))
 
-  pub stands_bad : Bad ≡ head_at s at → entries_in (drop at s) ≡ none
+  pub stands_bad : {e : NoRecord} → P.Err e ≡ head_at s at → entries_in (drop at s) ≡ none
   unfolding bind
   stands_bad e = ap (λ (o : Option (List Rec)). bind o entries) (subst (Heads s at) (sym e) (heads s at))
 
-  pub opens : {k b n : ℕ} → Record k b n ≡ head_at s at → Opens s at k b n
+  pub opens : {r : framing.Record} → P.Ok (P.Some r) ≡ head_at s at → Opens s at r.kind r.body r.next
   opens e = subst (Heads s at) (sym e) (heads s at)
 
 module _ {s : List ℕ} {at k b n : ℕ} (o : Opens s at k b n) where
@@ -102,7 +127,7 @@ module _ {s : List ℕ} {at k b n : ℕ} (o : Opens s at k b n) where
       subst (λ (m : ℕ). Told k m r (entry_of (rec k r)) (known k m)) size (told k r)
 
   -- a record of a known kind with its kind's length, and any other
-  pub found-known : true ≡ known k (n - b) → Found s at k b n
+  found-known : true ≡ known k (n - b) → Found s at k b n
   found-known h =
       let e = tells.yes (sym h) in
       record {
@@ -116,6 +141,27 @@ module _ {s : List ℕ} {at k b n : ℕ} (o : Opens s at k b n) where
 
   pub found_unknown : false ≡ known k (n - b) → entries_in (drop at s) ≡ none
   found_unknown h = said (tells.no (sym h))
+
+  pub of_kind : {d : Kind} → kind_of k ≡ P.Ok d → n - b ≡ size_of d → Found s at (kind_number d) b n
+  of_kind {d} e h = let w = (kinded k (n - b)).kind e in
+      rw w.0 (found-known (sym (w.1 ∙ eq-eqb (n - b) (size_of d) h)))
+
+  pub other_size : {d : Kind} → kind_of k ≡ P.Ok d → (n - b ≡ size_of d → ⊥) → entries_in (drop at s) ≡ none
+  other_size {d} e h = let w = (kinded k (n - b)).kind e in
+      found_unknown (sym (w.1 ∙ ne_eqb (n - b) (size_of d) h))
+
+-- an error, as the contract has it
+pub stands_err : (s : List ℕ) (at : ℕ) (r : P.Result (P.Option Record) NoRecord) → P.IsErr r → entries_in (drop at s) ≡ none → Stands s at r
+stands_err s at (P.Ok o) e h = impossible cc
+stands_err s at (P.Err x) e h = h
+
+-- whether a kind is that of settings, as the code asks it
+pub same_settings : (d : Kind) → sameb the_type d kind.Settings ≡ eqb (kind_number d) 3
+same_settings kind.Hour = refl
+same_settings kind.Silence = refl
+same_settings kind.Settings = refl
+same_settings kind.Correction = refl
+same_settings kind.Frames = refl
 
 -- by kind: how many settings an entry is
 pub says_count : {k n : ℕ} {b : List ℕ} {e : Entry} → Says k n b e → count_settings (e ∷ []) ≡ bool_byte (eqb k 3)
@@ -141,7 +187,7 @@ settings_size (setup k n e) h = (n, e)
 settings_size (repair k n e) h = absurd (omega arith)
 settings_size (framed k n e) h = absurd (omega arith)
 
-no_settings : {k n : ℕ} {b : List ℕ} {e : Entry} → Says k n b e → (k ≡ 3 → ⊥) → Other ≡ opening_of (e ∷ [])
+no_settings : {k n : ℕ} {b : List ℕ} {e : Entry} → Says k n b e → (k ≡ 3 → ⊥) → P.None ≡ opening_of (e ∷ [])
 no_settings (hour k n e) h = rw e
 no_settings (quiet k n e) h = rw e
 no_settings (setup k n e) h = absurd (h k)
@@ -153,6 +199,20 @@ pub body_inside : {s : List ℕ} {at k b n : ℕ} (j m : ℕ) → ((i : ℕ) →
 body_inside {b} {n} j m g f h =
     let e = eqb-true (n - b) m (sym (g (n - b)) ∙ ap (λ (i : ℕ). known i (n - b)) (sym h) ∙ says_known f.says) in
     omega (arith, e, f.more, f.inside)
+
+-- so is any body, by its kind
+says_size : (d : Kind) {n : ℕ} {b : List ℕ} {e : Entry} → Says (kind_number d) n b e → n ≡ size_of d
+says_size d {n} w = eqb-true n (size_of d) (known_size d n (says_known w))
+  where
+    known_size : (x : Kind) (m : ℕ) → known (kind_number x) m ≡ true → eqb m (size_of x) ≡ true
+    known_size kind.Hour m h = h
+    known_size kind.Silence m h = h
+    known_size kind.Settings m h = h
+    known_size kind.Correction m h = h
+    known_size kind.Frames m h = h
+
+pub kind_inside : {s : List ℕ} {at b n : ℕ} (d : Kind) → Found s at (kind_number d) b n → b + size_of d ≤ length s
+kind_inside d f = omega (arith, says_size d f.says, f.more, f.inside)
 
 -- what comes first
 same_opening : (e : Entry) (t : List Entry) → opening_of (e ∷ []) ≡ opening_of (e ∷ t)
@@ -166,26 +226,27 @@ opens_with e none es h = impossible cc
 opens_with e (some t) es h = same_opening e t ∙ ap opening_of (let g : e ∷ t ≡ es = cc in g)
 
 module _ (s : List ℕ) (es : List Entry) (h : entries_in s ≡ some es) where
-  pub first_end : entries_in (drop 0 s) ≡ some [] → Other ≡ opening_of es
+  pub first_end : entries_in (drop 0 s) ≡ some [] → P.None ≡ opening_of es
   first_end e = ap opening_of (let g : [] ≡ es = cc in g)
 
-  pub first_bad : entries_in (drop 0 s) ≡ none → Other ≡ opening_of es
+  pub first_bad : entries_in (drop 0 s) ≡ none → P.None ≡ opening_of es
   first_bad e = impossible cc
 
   module _ {k b n : ℕ} (f : Found s 0 k b n) where
     first-is : opening_of (f.entry ∷ []) ≡ opening_of es
     first-is = opens_with f.entry (entries_in (drop n s)) es (sym f.rest ∙ h)
 
-    pub first-set : k ≡ 3 → {st : Settings} → st ≡ settings_in (take 26 (drop b s)) → Set st ≡ opening_of es
+    pub first-set : k ≡ 3 → {st : Settings} → st ≡ settings_in (take 26 (drop b s)) → P.Some st ≡ opening_of es
     first-set e {st} g =
         let w = settings_size f.says e in
-        ap Set (g ∙ ap (λ (m : ℕ). settings_in (take m (drop b s))) (sym w.0)) ∙ ap (λ (x : Entry). opening_of (x ∷ [])) (sym w.1) ∙ first-is
+        ap P.Some (g ∙ ap (λ (m : ℕ). settings_in (take m (drop b s))) (sym w.0)) ∙ ap (λ (x : Entry). opening_of (x ∷ [])) (sym w.1) ∙ first-is
 
-    pub first-other : (k ≡ 3 → ⊥) → Other ≡ opening_of es
+    pub first-other : (k ≡ 3 → ⊥) → P.None ≡ opening_of es
     first-other e = no_settings f.says e ∙ first-is
 
--- the settings in a body that is a part of the input
-pub settings_in_lem : (s : List ℕ) (b : ℕ) → record { lam = of_bits binary64 (number_at b 8 s); tol = of_bits binary64 (number_at (b + 8) 8 s); max_iter = number_at (b + 16) 8 s; order = number_at (b + 24) 1 s; penalty = number_at (b + 25) 1 s } ≡ settings_in (take 26 (drop b s))
+-- the settings in a body that is a part of the input, from its numbers
+pub settings_are : (s : List ℕ) (b : ℕ) {l t : Float} {n q m o p : ℕ} → l ≡ of_bits binary64 n → n ≡ number_at b 8 s → t ≡ of_bits binary64 q → q ≡ number_at (b + 8) 8 s → m ≡ number_at (b + 16) 8 s → o ≡ number_at (b + 24) 1 s → p ≡ number_at (b + 25) 1 s
+    → record { lam = l; tol = t; max_iter = m; order = o; penalty = p } ≡ settings_in (take 26 (drop b s))
 unfolding settings_in
-settings_in_lem s b =
-    rw (number_of_part s b 26 0 8 (omega arith), number_of_part s b 26 8 8 (omega arith), number_of_part s b 26 16 8 (omega arith), number_of_part s b 26 24 1 (omega arith), number_of_part s b 26 25 1 (omega arith), add-zero b)
+settings_are s b d e f g h i j =
+    rw (d, e, f, g, h, i, j, number_of_part s b 26 0 8 (omega arith), number_of_part s b 26 8 8 (omega arith), number_of_part s b 26 16 8 (omega arith), number_of_part s b 26 24 1 (omega arith), number_of_part s b 26 25 1 (omega arith), add-zero b)

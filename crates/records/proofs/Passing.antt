@@ -10,7 +10,10 @@ use lib.ListN.{length, drop}
 use lib.Dec.{eqb}
 use Rattle.records.specs.Entries.{Entry, slot, frames, settings, correction, count_settings}
 use Rattle.records.specs.Week.{entries_in}
-use Rattle.records.specs.Inner.{Found}
+use Rattle.std.specs.Prelude as P
+use Rattle.float64.proofs.Clash.{impossible}
+use Rattle.framing.specs.declared.NoRecord.{NoRecord}
+use Rattle.records.specs.Inner.{Found, tally_of}
 use Rattle.records.proofs.Entries.{says_count}
 
 -- P, and then what is still to come
@@ -41,6 +44,11 @@ module _ {s : List ℕ} {at : ℕ} {P : List Entry} (p : Passed s at P) where
 
   pub passed_more : {k b n : ℕ} (f : Found s at k b n) → Passed s n (P ++ (f.entry ∷ []))
   passed_more {k} {b} {n} f = record { rest = p.rest ∙ ap (onto P) f.rest ∙ onto_more P f.entry (entries_in (drop n s)) }
+
+-- the answer of a walk that meets no record
+pub walk_err : (o : Option (List Entry)) (r : P.Result ℕ NoRecord) → P.IsErr r → o ≡ none → r ≡ tally_of o
+walk_err o (P.Ok m) e h = impossible cc
+walk_err o (P.Err x) e h = rw h refl
 
 -- what more entries add to the count of settings
 count_append : (P Q : List Entry) → count_settings (P ++ Q) ≡ count_settings P + count_settings Q

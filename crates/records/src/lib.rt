@@ -5,15 +5,57 @@ ghost use Rattle.std.specs.Prelude.{◌≡◌, List, ◌+◌, ◌≤◌, length,
 ghost use Rattle.std.proofs.Math.Option.{some};
 ghost use Rattle.records.specs.Entries.{Entry, settings_in};
 ghost use Rattle.records.specs.Week.{entries_in};
-ghost use Rattle.records.specs.Inner.{tally_of, opening_of, known, Stands};
+ghost use Rattle.records.specs.Inner.{tally_of, opening_of, kind_of, size_of, Stands};
 
-use framing::Head;
+use framing::NoRecord;
 
-// What a walk over the input finds: how many records of settings there are.
-#[derive(Clone, Copy)]
-pub enum Tally {
-    Broken,
-    Whole(usize),
+#[derive(Clone, Copy, PartialEq, Eq)]
+pub enum Kind {
+    Hour = 1,
+    Silence = 2,
+    Settings = 3,
+    Correction = 4,
+    Frames = 5,
+}
+
+impl TryFrom<u64> for Kind {
+    type Error = NoRecord;
+
+    ghost try_from_gives = { λ k r. r ≡ kind_of k };
+
+    fn try_from(k: u64) -> Result<Kind, NoRecord> {
+        match k {
+            1 => Ok(Kind::Hour),
+            2 => Ok(Kind::Silence),
+            3 => Ok(Kind::Settings),
+            4 => Ok(Kind::Correction),
+            5 => Ok(Kind::Frames),
+            _ => Err(NoRecord),
+        }
+    }
+}
+
+impl Kind {
+    // The size of its bodies.
+    fn size(self) -> usize
+        ensures { result ≡ size_of self }
+    {
+        match self {
+            Kind::Hour => 4,
+            Kind::Silence => 0,
+            Kind::Settings => 26,
+            Kind::Correction => 6,
+            Kind::Frames => 12,
+        }
+    }
+}
+
+// A record of a known kind, its body of its kind's size: where that starts, and where the next record does.
+#[derive(Clone, Copy, PartialEq, Eq)]
+pub struct Record {
+    pub kind: Kind,
+    pub body: usize,
+    pub next: usize,
 }
 
 #[derive(Clone, Copy)]
@@ -25,68 +67,35 @@ pub struct Settings {
     pub penalty: u32,
 }
 
-// What comes first: settings, or something else or nothing.
-#[derive(Clone, Copy)]
-pub enum Opening {
-    Other,
-    Set(Settings),
-}
-
-// Whether a kind has bodies of that size.
-fn is_known(kind: u64, size: usize) -> bool
-    ensures { result ≡ known kind size }
-{
-    match kind {
-        1 => size == 4,
-        2 => size == 0,
-        3 => size == 26,
-        4 => size == 6,
-        5 => size == 12,
-        _ => false,
-    }
-}
-
-// What stands at a place; a record of no known kind, or not of its kind's length, is a bad one.
-pub fn record_at(s: &[u8], at: usize) -> Head
+// What stands at a place: no record where the bytes end there.
+pub fn record_at(s: &[u8], at: usize) -> Result<Option<Record>, NoRecord>
     ensures { Stands s.now at result }
 {
-    match framing::head_at(s, at) {
-        Head::End => Head::End,
-        Head::Bad => Head::Bad,
-        Head::Record { kind, body, next } => {
-            if is_known(kind, next - body) {
-                Head::Record { kind, body, next }
-            } else {
-                Head::Bad
-            }
-        }
+    let Some(r) = framing::head_at(s, at)? else {
+        return Ok(None);
+    };
+    let kind = Kind::try_from(r.kind)?;
+    if r.next - r.body != kind.size() {
+        return Err(NoRecord);
     }
+    Ok(Some(Record {
+        kind,
+        body: r.body,
+        next: r.next,
+    }))
 }
 
 // Walks over the whole input and counts its settings.
-pub fn walk(s: &[u8]) -> Tally
+pub fn walk(s: &[u8]) -> Result<usize, NoRecord>
     ensures { result ≡ tally_of (entries_in s.now) }
 {
     let mut at: usize = 0;
     let mut settings: usize = 0;
-    loop {
-        match record_at(s, at) {
-            Head::End => {
-                return Tally::Whole(settings);
-            }
-            Head::Bad => {
-                return Tally::Broken;
-            }
-            Head::Record {
-                kind,
-                body: _,
-                next,
-            } => {
-                settings = settings + (kind == 3) as usize;
-                at = next;
-            }
-        }
+    while let Some(r) = record_at(s, at)? {
+        settings += usize::from(r.kind == Kind::Settings);
+        at = r.next;
     }
+    Ok(settings)
 }
 
 // The settings in a record's body.
@@ -95,31 +104,20 @@ fn settings_at(s: &[u8], body: usize) -> Settings
     ensures { result ≡ settings_in (take 26 (drop body s.now)) }
 {
     Settings {
-        lam: float64::double(framing::eight(s, body)),
-        tol: float64::double(framing::eight(s, body + 8)),
-        max_iter: framing::eight(s, body + 16),
-        order: framing::one(s, body + 24),
-        penalty: framing::one(s, body + 25),
+        lam: float64::double(framing::number::<8>(s, body)),
+        tol: float64::double(framing::number::<8>(s, body + 8)),
+        max_iter: framing::number::<8>(s, body + 16),
+        order: u32::from(s[body + 24]),
+        penalty: u32::from(s[body + 25]),
     }
 }
 
-// What the first record of an input that splits is.
-pub fn first_record(s: &[u8]) -> Opening
+// The settings of an input that splits, where they come first.
+pub fn first_record(s: &[u8]) -> Option<Settings>
     ensures { (es : List Entry) → entries_in s.now ≡ some es → result ≡ opening_of es }
 {
     match record_at(s, 0) {
-        Head::End => Opening::Other,
-        Head::Bad => Opening::Other,
-        Head::Record {
-            kind,
-            body,
-            next: _,
-        } => {
-            if kind == 3 {
-                Opening::Set(settings_at(s, body))
-            } else {
-                Opening::Other
-            }
-        }
+        Ok(Some(r)) if r.kind == Kind::Settings => Some(settings_at(s, r.body)),
+        _ => None,
     }
 }

@@ -14,30 +14,29 @@ fn past(s: &[u8; 131072], a: usize) -> usize
     stored::past(s, a + 13 + n, n, n - k)
 }
 
-// 1 for a case that is equal; else 0, and a line says that case i, of group g, differs.
-fn told(equal: bool, i: u64, g: u64) -> u64
-    ensures { result ≤ 1 }
-{
-    if equal {
-        return 1;
-    }
+// A line that says that case i, of group g, differs.
+fn print_differs(i: u64, g: u64) {
     io::write_all(1, b"case ");
     io::print_decimal(1, i);
     io::write_all(1, b" of group ");
     io::print_decimal(1, g);
     io::write_all(1, b" differs\n");
-    0
 }
 
 // Every case in turn: how many are equal.
 fn replayed(s: &[u8; 131072], cases: u64) -> u64 {
     let mut a: usize = 1;
-    let mut i: u64 = 0;
     let mut equal: u64 = 0;
-    while i < cases && a < 16384 {
-        equal += told(rerun::equal_at(s, a), i, stored::word(s, a));
+    for i in 0..cases {
+        if a >= 16384 {
+            break;
+        }
+        if rerun::equal_at(s, a) {
+            equal += 1;
+        } else {
+            print_differs(i, stored::word(s, a));
+        }
         a = past(s, a);
-        i += 1;
     }
     equal
 }

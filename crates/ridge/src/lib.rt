@@ -26,13 +26,9 @@ fn ridge_at(c: [f64; 3], lam: f64, k: usize, n: usize, i: usize, p: usize) -> f6
         return 0.0;
     }
     let j = i + p - k;
-    let lo = vectors::over(i, k);
-    let hi = vectors::smaller(j + 1, n - k);
     let mut v = identity_at(i, j);
-    let mut r = lo;
-    while r < hi {
-        v = v + lam * c[i - r] * c[j - r];
-        r += 1;
+    for r in i.saturating_sub(k)..(j + 1).min(n - k) {
+        v += lam * c[i - r] * c[j - r];
     }
     v
 }
@@ -42,11 +38,8 @@ fn ridge_row(s: &mut [f64], c: [f64; 3], lam: f64, k: usize, n: usize, i: usize,
     requires { Row k n i × (b + (k + 1) ≤ length s.old) }
     ensures { Written b (b + (k + 1)) (λ q. placed k (ridge k c lam n) i (q - b)) s.old s.new }
 {
-    let mut p = 0;
-    while p <= k {
-        let x = ridge_at(c, lam, k, n, i, p);
-        s[b + p] = x;
-        p += 1;
+    for p in 0..k + 1 {
+        s[b + p] = ridge_at(c, lam, k, n, i, p);
     }
 }
 
@@ -55,10 +48,8 @@ fn ridge_rows(s: &mut [f64], c: [f64; 3], lam: f64, k: usize, n: usize, from: us
     requires { Rows k n from to (length s.old) }
     ensures { (v : List Float) → Laid k from (ridge k c lam n) v s.old → Laid k to (ridge k c lam n) v s.new }
 {
-    let mut i = from;
-    while i < to {
+    for i in from..to {
         ridge_row(s, c, lam, k, n, i, i * (k + 1));
-        i += 1;
     }
 }
 
@@ -67,10 +58,8 @@ fn repeat(s: &mut [f64], k: usize, b: usize, n: usize)
     requires { (k + 1 ≤ b) × (b + n ≤ length s.old) }
     ensures { Repeated (k + 1) b n s.old s.new }
 {
-    let mut i = 0;
-    while i < n {
+    for i in 0..n {
         s[b + i] = s[b + i - (k + 1)];
-        i += 1;
     }
 }
 

@@ -5,24 +5,20 @@ ghost use Rattle.std.specs.Prelude.{◌≡◌};
 ghost use Rattle.search.specs.Reasons.{reason_number};
 
 // Why a search stopped; a closed path made none.
-#[derive(Clone, Copy)]
+#[derive(Clone, Copy, PartialEq, Eq)]
 pub enum Reason {
-    ClosedPath,
-    GapSmall,
-    LimitSpent,
-    Stalled,
-    PivotLost,
+    ClosedPath = 0,
+    GapSmall = 1,
+    LimitSpent = 2,
+    Stalled = 3,
+    PivotLost = 4,
 }
 
 // The reason's number.
-pub fn number(r: Reason) -> u64
-    ensures { result ≡ reason_number r }
-{
-    match r {
-        Reason::ClosedPath => 0,
-        Reason::GapSmall => 1,
-        Reason::LimitSpent => 2,
-        Reason::Stalled => 3,
-        Reason::PivotLost => 4,
+impl From<Reason> for u64 {
+    fn from(r: Reason) -> u64
+        ensures { result ≡ reason_number r }
+    {
+        r as u64
     }
 }

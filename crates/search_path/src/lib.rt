@@ -1,7 +1,7 @@
 // L1 with 0 < lam < lam_max: the search and its polish.
 #![tactic(auto)]
 
-ghost use Rattle.std.specs.Prelude.{◌≡◌, cond, ℕ, ◌≤◌, length};
+ghost use Rattle.std.specs.Prelude.{◌≡◌, cond, ℕ, ◌≤◌, length, unwrap_or};
 ghost use Rattle.vectors.specs.Vec.{put, KeptOf};
 ghost use Rattle.certificate.specs.Certificate.{clamped};
 ghost use Rattle.polish.specs.Places.{Polishable};
@@ -14,11 +14,17 @@ ghost use Rattle.search_path.specs.Search.{SearchedArea};
 
 use closed_paths::{Finding, Trend};
 use fit::Numbers;
+use polish::Candidate;
 
-fn pick(second: bool, a: f64, b: f64) -> f64
-    ensures { result ≡ cond second b a }
+// The numbers of the candidate if it won, and else the iterate's.
+fn chosen(q: Option<Candidate>, iterate: Candidate, second: bool) -> Candidate
+    ensures { result ≡ cond second (unwrap_or q iterate) iterate }
 {
-    if second { b } else { a }
+    if second {
+        q.unwrap_or(iterate)
+    } else {
+        iterate
+    }
 }
 
 // The clamped z again at the start of dual, unless the candidate won: the polish wrote its own there.
@@ -48,27 +54,27 @@ fn search_polish(
 {
     let e = interior_point::ipm_l1(work, dual, y, dy, lam, tol, max_iter, k);
     let r = e.run;
-    let why = e.reason;
     let q = polish::polish_l1(work, dual, marks, y, dy, lam, k);
     let second = polish::won(q, r.gap);
     let n = y.len();
-    let z = n + (n - k);
-    keep(dual, &work[n..z], lam, second);
-    let gap = pick(second, r.gap, q.gap);
-    let primal = pick(second, r.primal, q.primal);
-    let s = Numbers {
-        gap: gap,
-        first_gap: r.first,
-        best_gap: r.best,
-        objective: primal,
-        n_iter: r.n_iter,
-        improvements: r.improvements,
-        converged: gap <= tol * primal,
-        reason: why,
+    keep(dual, &work[n..n + (n - k)], lam, second);
+    let iterate = Candidate {
+        gap: r.gap,
+        primal: r.primal,
     };
+    let end = chosen(q, iterate, second);
     Finding {
         trend: Trend::Won(second),
-        numbers: s,
+        numbers: Numbers {
+            gap: end.gap,
+            first_gap: r.first,
+            best_gap: r.best,
+            objective: end.primal,
+            n_iter: r.n_iter,
+            improvements: r.improvements,
+            converged: end.gap <= tol * end.primal,
+            reason: e.reason,
+        },
     }
 }
 
@@ -91,10 +97,8 @@ pub fn search_path(
 {
     closed_paths::differences_to(cycle, work, y, k);
     let n = y.len();
-    let a = 5 * n;
-    let e = 18 * n;
     search_polish(
-        &mut work[a..e],
+        &mut work[5 * n..18 * n],
         dual,
         marks,
         y,

@@ -1,13 +1,14 @@
 -- A walk over the entries that gathers the week: what the next one makes of its slots. Assumes nothing.
 use mathlib.Core.Path.{◌≡◌, refl, sym, ap, ap₂, ◌∙◌}
-use mathlib.Core.Bool.{Bool, true, ◌&&◌, and-true, and_assoc}
+use mathlib.Core.Bool.{Bool, true, not, ◌&&◌, and-true, and_assoc}
 use Prim.Native.Nat.{ℕ, ◌+◌, ◌*◌, ◌≤◌, ◌<◌}
 use native.Mathlib.Omega.{arith}
 use native.Mathlib.Nat.{add-zero, zero-add}
 use mathlib.Core.List.{List, [], ◌∷◌, ◌++◌, foldl, foldl-append}
 use mathlib.Core.Option.{none, some}
-use lib.ListN.{length, take, drop}
-use lib.Ieee.{Float, binary64, of_int, eq, of_bits}
+use mathlib.Core.Logic.{◌⊎◌, inl, inr}
+use lib.ListN.{length, take, drop, set}
+use lib.Ieee.{Float, binary64, of_int, of_bits, is_nan}
 use Rattle.overrun.proofs.Numbers.{whole_number, overrun_number}
 use Rattle.float64.specs.Ops.{c0}
 use Rattle.float64.proofs.Clash.{impossible}
@@ -15,11 +16,13 @@ use Rattle.framing.specs.Bytes.{number_at, signed32}
 use Rattle.framing.proofs.Numbers.{number_of_part}
 use Rattle.vectors.specs.Parts.{Wrote}
 use Rattle.vectors.proofs.Texts.{wrote_none, wrote_one, wrote_then, wrote_set}
-use Rattle.records.specs.Entries.{Slot, silent, Entry}
+use Rattle.records.specs.Entries.{Slot, silent, sounding, Entry}
 use Rattle.records.specs.Corrections.{extended, week_of, names, named_from, named}
 use Rattle.records.specs.Rates.{rates, rated}
 use Rattle.records.specs.Week.{entries_in}
-use Rattle.records.specs.Inner.{Says, hour, quiet, setup, repair, framed, Found}
+use Rattle.records.specs.declared.Kind.{Kind}
+use Rattle.records.specs.declared.Kind.TheVariants as kind
+use Rattle.records.specs.Inner.{kind_number, Says, hour, quiet, setup, repair, framed, Found}
 use Rattle.records.proofs.Passing.{Passed, passed_none, passed_end, passed_bad, passed_more}
 use Rattle.series.specs.Inner.{slots_at, milliseconds_at, said_at, slots_once, names_at, ReadSlots}
 
@@ -35,9 +38,14 @@ unfolding rated
 rated-append [] e = and-true (rates e)
 rated-append (d ∷ P) e = ap (λ (a : Bool). rates d && a) (rated-append P e) ∙ sym (and_assoc (rates d) (rated P) (rates e))
 
-zero_number : eq c0 c0 ≡ true
-unfolding eq of_bits
+zero_number : not (is_nan c0) ≡ true
+unfolding is_nan of_bits
 zero_number = refl
+
+-- an hour that sounds, and how its record does it
+pub sounds_once : (s : List ℕ) (k : Kind) (b : ℕ) (x : Float) (n : ℕ) (W : List Slot) → (k ≡ kind.Hour) ⊎ (k ≡ kind.Frames) → slots_once s (kind_number k) b x n W ≡ set W n (sounding x)
+sounds_once s k b x n W (inl e) = rw e refl
+sounds_once s k b x n W (inr e) = rw e refl
 
 -- an entry and the record that says it make the same of the slots
 module _ (s : List ℕ) (b : ℕ) where
@@ -45,12 +53,12 @@ module _ (s : List ℕ) (b : ℕ) where
   milliseconds_in_lem m a h = ap (λ (n : ℕ). of_int binary64 (signed32 n)) (number_of_part s b m a 4 h)
 
   -- what a record says is a number, but for a rate that question 22 refuses
-  said_number : {k m : ℕ} {e : Entry} → Says k m (take m (drop b s)) e → eq (said_at s k b) (said_at s k b) ≡ rates e
+  said_number : {k m : ℕ} {e : Entry} → Says k m (take m (drop b s)) e → not (is_nan (said_at s k b)) ≡ rates e
   unfolding rates
-  said_number (hour k m e) = rw (e, k) (whole_number _)
+  said_number (hour k m e) = rw (e, k) (ap not (whole_number _))
   said_number (quiet k m e) = rw (e, k) zero_number
   said_number (setup k m e) = rw (e, k) zero_number
-  said_number (repair k m e) = rw (e, k) (whole_number _)
+  said_number (repair k m e) = rw (e, k) (ap not (whole_number _))
   said_number (framed k m e) = rw (e, k, m) (overrun_number _)
 
   module _ {ws W₀ W : List Slot} {n : ℕ} (w : Wrote W₀ 0 ws W n) where
@@ -86,7 +94,7 @@ slotted_none s W = record { done = []; passed = passed_none s; week = wrote_none
 
 module _ {s : List ℕ} {at : ℕ} {W₀ W : List Slot} {n : ℕ} {all counts : Bool} (w : Slotted s at W₀ W n all counts) where
   pub slotted_more : {k b next r : ℕ} {U : List Slot} {x : Float} {one : Bool} → Found s at k b next → n < length W → x ≡ said_at s k b → U ≡ slots_once s k b x n W → one ≡ names_at s k b n → (r ≡ slots_at k) × (r ≤ 1)
-      → Slotted s next W₀ U (n + r) (all && one) (counts && eq x x)
+      → Slotted s next W₀ U (n + r) (all && one) (counts && not (is_nan x))
   slotted_more {k} {b} {next} {r} {U} {x} {one} f h g v a e =
       let last = f.entry ∷ [] in
       record {
@@ -94,7 +102,7 @@ module _ {s : List ℕ} {at : ℕ} {W₀ W : List Slot} {n : ℕ} {all counts : 
         passed = passed_more w.passed f;
         week = rw (foldl-append extended [] w.done last, v, g, e.0) (says_slots s b w.week h f.says);
         names = ap₂ (λ (x y : Bool). x && y) w.names (a ∙ sym (says-names s b w.week f.says)) ∙ sym (named-append [] w.done f.entry);
-        rates = ap₂ (λ (y z : Bool). y && z) w.rates (ap (λ (y : Float). eq y y) g ∙ said_number s b f.says) ∙ sym (rated-append w.done f.entry);
+        rates = ap₂ (λ (y z : Bool). y && z) w.rates (ap (λ (y : Float). not (is_nan y)) g ∙ said_number s b f.says) ∙ sym (rated-append w.done f.entry);
         inside = f.inside;
         few = omega (arith, w.few, e.1, f.body, f.more);
       }

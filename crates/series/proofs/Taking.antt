@@ -1,5 +1,5 @@
 -- From the tests of `take_hours` and the slots that were read to a reading. Assumes nothing.
-use mathlib.Core.Path.{◌≡◌, refl, ap, ◌∙◌}
+use mathlib.Core.Path.{◌≡◌, refl, sym, ap, ◌∙◌}
 use mathlib.Core.Bool.{Bool, true, false}
 use Prim.Native.Nat.{ℕ, ◌≤◌, ◌<◌}
 use native.Mathlib.Omega.{arith}
@@ -15,9 +15,14 @@ use Rattle.records.specs.Positions.{positions_of}
 use Rattle.records.specs.Week.{Reading, unread, read, ask_hours}
 use Rattle.records.specs.declared.Settings.{Settings}
 use Rattle.series.specs.declared.Gathered.{Gathered}
-use Rattle.series.specs.declared.Week.TheVariants.{Read}
-use Rattle.series.specs.Inner.{answer, Reads, slots_in, ReadSlots, WroteHours}
-use Rattle.series.proofs.Arrays.{take_slots, few_slots}
+use Rattle.series.specs.declared.Week.{Week}
+use Rattle.series.specs.declared.Refusal.{Refusal}
+use Rattle.series.specs.Inner.{refusal_number, Reads, slot_of, slots_in, ReadSlots, WroteHours}
+use Rattle.std.specs.Prelude.{Option, Some, None, Result, Ok, Err, IsErr, IsErrAnd}
+use Rattle.std.specs.Result.{result_ok}
+use Rattle.std.specs.Option.{ok_or}
+use Rattle.std.proofs.lemmas.List.{length-map, take-map}
+use Rattle.float64.proofs.Clash.{impossible}
 
 -- questions 13 and 22
 pub hours_many : (st : Settings) (ws : List Slot) (r : Bool) → 168 < length (hours_of ws) → ask_hours st ws r ≡ unread 13
@@ -30,31 +35,39 @@ pub hours-rated : (st : Settings) (ws : List Slot) (r : Bool) → length (hours_
 hours-rated st ws r h e = simp (le-leb _ _ h, e)
 
 -- a refusal, as the contract has it, and a week that is taken
-pub refuses : (a : Reading) {k : ℕ} {y : List Float} {q : List ℕ} → a ≡ unread k → Reads a (answer (unread k)) y y q q
-refuses a e = rw e (record { said = refl; wrote = refl; numbered = refl })
+pub refuses : (a : Reading) (r : Refusal) {y : List Float} {q : List ℕ} → a ≡ unread (refusal_number r) → Reads a (Err r) y y q q
+refuses a r e = rw e (record { said = refl; wrote = refl; positions = refl })
 
-pub takes : (a : Reading) {st : Settings} {ws : List Slot} {y z : List Float} {q u : List ℕ} {n : ℕ} → a ≡ read st ws → WroteHours (hours_of ws) (positions_of ws) 0 y z q u n → Reads a (Read st n) y z q u
+pub refused : (a : Reading) (r : Refusal) (w : Result Week Refusal) {y : List Float} {q : List ℕ} → IsErr w → IsErrAnd w (λ x. x ≡ r) → a ≡ unread (refusal_number r) → Reads a w y y q q
+refused a r (Ok w) h k e = impossible cc
+refused a r (Err x) h k e = rw k (refuses a r e)
+
+-- what `ok_or` was given
+pub taken : {A : Type 0} (o : Option A) {r : Result A Refusal} {x : A} → o ≡ result_ok r → r ≡ Ok x → o ≡ Some x
+taken o h e = rw e at h
+
+pub left_out : {A : Type 0} (o : Option A) (e : Refusal) {r : Result A Refusal} {x : Refusal} → r ≡ ok_or o e → r ≡ Err x → (o ≡ None) × (x ≡ e)
+left_out None e {r} {x} h g = (refl, let f : x ≡ e = cc in f)
+left_out (Some y) e h g = impossible cc
+
+pub takes : (a : Reading) {st : Settings} {ws : List Slot} {y z : List Float} {q u : List ℕ} {n : ℕ} → a ≡ read st ws → WroteHours (hours_of ws) (positions_of ws) 0 y z q u n → Reads a (Ok (record { settings = st; n = n })) y z q u
 takes a {st} {ws} {y} {z} {q} {u} {n} e w =
     let m : n ≡ length (hours_of ws) = omega (arith, w.hours.next) in
-    rw e (record { said = ap (Read st) m; wrote = w.hours.text; numbered = w.positions.text })
+    rw e (record { said = ap (λ (k : ℕ). Ok (record { settings = st; n = k })) m; wrote = w.hours.text; positions = w.positions.text })
 
--- the week of entries, held by the first places of two arrays
-pub record Held (es : List Entry) (m : List Float) (t : List Bool) (r : Gathered) : Type 0 where
-  pub week : slots_in (take r.n m) (take r.n t) ≡ week_of es
-  pub ms : r.n ≤ length m
-  pub sounds : r.n ≤ length t
+-- the week of entries, held by the first slots
+pub record Held (es : List Entry) (ts : List (Option Float)) (r : Gathered) : Type 0 where
+  pub week : slots_in (take r.n ts) ≡ week_of es
+  pub slots : r.n ≤ length ts
   pub few : r.n ≤ 1024
   pub names : r.named ≡ named es
   pub rates : r.rated ≡ rated es
 
-pub held : {es : List Entry} {W₀ : List Slot} (m : List Float) (t : List Bool) {r : Gathered} → ReadSlots es W₀ (slots_in m t) r → Held es m t r
-held m t {r} w =
-    let l = few_slots m t in
-    record {
-      week = take_slots r.n m t ∙ (wrote_take w.week).0;
-      ms = omega (arith, w.week.room, wrote_length w.week, l.0);
-      sounds = omega (arith, w.week.room, wrote_length w.week, l.1);
-      few = w.few;
-      names = w.names;
-      rates = w.rates;
-    }
+pub held : {es : List Entry} {W₀ : List Slot} (ts : List (Option Float)) {r : Gathered} → ReadSlots es W₀ (slots_in ts) r → Held es ts r
+held ts {r} w = record {
+  week = sym (take-map slot_of r.n ts) ∙ (wrote_take w.week).0;
+  slots = omega (arith, w.week.room, wrote_length w.week, length-map ts slot_of);
+  few = w.few;
+  names = w.names;
+  rates = w.rates;
+}

@@ -1,5 +1,5 @@
 -- What the contracts of the code cite: answers as the code gives them, and slots as it keeps them.
-use Rattle.std.specs.Prelude.{◌≡◌, ℕ, ◌+◌, ◌≤◌, Bool, true, false, cond, List, [], ◌∷◌, length, set, take, drop, eqb, ltb, Float}
+use Rattle.std.specs.Prelude.{◌≡◌, ℕ, ◌+◌, ◌≤◌, Bool, true, cond, List, length, set, take, drop, eqb, ltb, Float, map, Option, Some, None, Result, Ok, Err}
 use Rattle.std.specs.Float.{binary64}
 use Rattle.std.specs.Float.Ieee.{of_int}
 use Rattle.float64.specs.Ops.{c0}
@@ -13,37 +13,48 @@ use Rattle.records.specs.Rates.{rated}
 use Rattle.records.specs.Positions.{positions_of}
 use Rattle.records.specs.Week.{Reading, unread, read}
 use Rattle.series.specs.declared.Gathered.{Gathered}
+use Rattle.series.specs.declared.Refusal.{Refusal}
+use Rattle.series.specs.declared.Refusal.TheVariants.{NoRecords, WrongSettings, TooManyHours, NoEarlierHour, WrongRate}
 use Rattle.series.specs.declared.Week.{Week}
-use Rattle.series.specs.declared.Week.TheVariants.{Refused, Read}
+
+-- the number of a refusal, and a result with the number in its place
+abbrev pub refusal_number : Refusal → ℕ
+refusal_number NoRecords = 11
+refusal_number WrongSettings = 12
+refusal_number TooManyHours = 13
+refusal_number NoEarlierHour = 17
+refusal_number WrongRate = 22
+
+abbrev pub numbered : {A : Type 0} → Result A Refusal → Result A ℕ
+numbered (Ok x) = Ok x
+numbered (Err r) = Err (refusal_number r)
 
 -- the answer of `read_week`
-abbrev pub answer : Reading → Week
-answer (unread k) = Refused k
-answer (read st ws) = Read st (length (hours_of ws))
+abbrev pub answer : Reading → Result Week ℕ
+answer (unread k) = Err k
+answer (read st ws) = Ok (record { settings = st; n = length (hours_of ws) })
 
 -- what stands in a lent slice then: after a refusal what it held, else what f gives of the week, in its first places
 abbrev pub lent_with : {A : Type 0} → (List Slot → List A) → Reading → List A → List A
 lent_with f (unread k) y = y
 lent_with f (read st ws) y = put y 0 (f ws)
 
-pub record Reads (a : Reading) (r : Week) (y₀ y : List Float) (q₀ q : List ℕ) : Type 0 where
-  pub said : r ≡ answer a
+pub record Reads (a : Reading) (r : Result Week Refusal) (y₀ y : List Float) (q₀ q : List ℕ) : Type 0 where
+  pub said : numbered r ≡ answer a
   pub wrote : y ≡ lent_with hours_of a y₀
-  pub numbered : q ≡ lent_with positions_of a q₀
+  pub positions : q ≡ lent_with positions_of a q₀
 
 -- how many slots a record of kind k is
 abbrev pub slots_at : ℕ → ℕ
 slots_at k = cond (eqb k 1) 1 (cond (eqb k 2) 1 (cond (eqb k 5) 1 0))
 
--- slots as the code keeps them: whether each sounds, and its milliseconds, which are not read where it is silent
-abbrev pub slot_with : Bool → Float → Slot
-slot_with true x = sounding x
-slot_with false x = silent
+-- slots as the code keeps them: the milliseconds of each, or none where it is silent
+abbrev pub slot_of : Option Float → Slot
+slot_of (Some x) = sounding x
+slot_of None = silent
 
-unfoldable pub slots_in : List Float → List Bool → List Slot
-slots_in [] ts = []
-slots_in (x ∷ xs) [] = []
-slots_in (x ∷ xs) (t ∷ ts) = slot_with t x ∷ slots_in xs ts
+abbrev pub slots_in : List (Option Float) → List Slot
+slots_in ts = map slot_of ts
 
 -- milliseconds at a place of the input
 abbrev pub milliseconds_at : List ℕ → ℕ → Float

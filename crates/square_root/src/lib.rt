@@ -26,9 +26,7 @@ fn short_root(h: u64) -> u64
     ensures { result ≡ isqrt h }
 {
     let mut root: u64 = 0;
-    let mut j: u8 = 14;
-    while j > 0 {
-        j -= 1;
+    for j in (0..14u8).rev() {
         let t = root + (1 << j);
         if t * t <= h {
             root = t;
@@ -93,10 +91,10 @@ fn positive_bits(b: u64) -> u64
 pub fn sqrt(x: f64) -> f64
     ensures { result ≡ sqrt_of x }
 {
-    if x != x {
+    if x.is_nan() {
         return x;
     }
-    let b = f64::to_bits(x);
+    let b = x.to_bits();
     if b == 0 {
         return x;
     }
@@ -104,7 +102,7 @@ pub fn sqrt(x: f64) -> f64
         return x;
     }
     if b > 0x8000_0000_0000_0000 {
-        return 0.0 / 0.0;
+        return f64::NAN;
     }
     if b >= 0x7ff0_0000_0000_0000 {
         return x;

@@ -1,11 +1,14 @@
 // Stored answers: words of 8 bytes, the lowest first, and whether numbers are the ones stored from a word on.
 #![tactic(auto)]
 
-ghost use Rattle.std.specs.Prelude.{◌≡◌, ◌&&◌, ◌+◌, ◌≤◌, ◌<◌, length};
+ghost use Rattle.std.specs.Prelude.{◌≡◌, ◌+◌, ◌≤◌, ◌<◌, ℕ, length, get_or};
+ghost use Rattle.std.specs.Float.{binary64, nan};
+ghost use Rattle.std.specs.Float.Ieee.{to_bits};
 ghost use Rattle.vectors.specs.Vec.{put};
-ghost use Rattle.stored.specs.Words.{word_at, count_at, doubles_at, same_doubles, same_numbers, same_places, past_at, lent_at, Within};
+ghost use Rattle.stored.specs.Words.{word_at, count_at, doubles_at, same_to, same_places, past_at, lent_at, Within};
 
 // Word i; 0 beyond the end.
+#[tactic(auto, unfolding(crate::specs::Words::word_at))]
 pub fn word(s: &[u8; 131072], i: usize) -> u64
     ensures { result ≡ word_at s.now i }
 {
@@ -17,11 +20,11 @@ pub fn word(s: &[u8; 131072], i: usize) -> u64
 }
 
 // Word i as a count, at most `most`.
+#[tactic(auto, unfolding(crate::specs::Words::count_at))]
 pub fn count_at(s: &[u8; 131072], i: usize, most: usize) -> usize
     ensures { (result ≡ count_at s.now i most) × (result ≤ most) }
 {
-    let w = word(s, i);
-    if w < most as u64 { w as usize } else { most }
+    word(s, i).min(most as u64) as usize
 }
 
 // The first n places of y become the doubles stored from word a on.
@@ -29,67 +32,67 @@ pub fn load(y: &mut [f64], s: &[u8; 131072], a: usize, n: usize)
     requires { (n ≤ length y.old) × (a + n ≤ 65536) }
     ensures { y.new ≡ put y.old 0 (doubles_at s.now a n) }
 {
-    let mut i = 0;
-    while i < n {
-        y[i] = float64::double(word(s, a + i));
-        i += 1;
+    for (i, x) in y[..n].iter_mut().enumerate() {
+        *x = float64::double(word(s, a + i));
     }
 }
 
-// Whether both are true.
-pub fn both(a: bool, b: bool) -> bool
-    ensures { result ≡ a && b }
-{
-    if a { b } else { false }
+// A value that is stored as one word. In proofs, `beyond` is what is read past a slice's end.
+pub trait Stored: Copy {
+    ghost word_of: { Self → ℕ };
+
+    ghost beyond: { Self };
+
+    fn as_word(self) -> u64
+        ensures { result ≡ word_of self };
 }
 
-// Whether doubles are, by their bits, the words from a on; then whole numbers.
-pub fn same_doubles(x: &[f64], s: &[u8; 131072], a: usize) -> bool
+// A double is stored by its bits.
+impl Stored for f64 {
+    ghost word_of = { to_bits binary64 };
+
+    ghost beyond = { nan };
+
+    fn as_word(self) -> u64 {
+        float64::pattern(self)
+    }
+}
+
+impl Stored for u64 {
+    ghost word_of = { λ n. n };
+
+    ghost beyond = { 0 };
+
+    fn as_word(self) -> u64 {
+        self
+    }
+}
+
+impl Stored for u32 {
+    ghost word_of = { λ n. n };
+
+    ghost beyond = { 0 };
+
+    fn as_word(self) -> u64 {
+        u64::from(self)
+    }
+}
+
+// Whether the values are the words from a on.
+pub fn same_words<T: Stored>(x: &[T], s: &[u8; 131072], a: usize) -> bool
     requires { a + length x.now ≤ 65536 }
-    ensures { result ≡ same_doubles x.now s.now a }
+    ensures { result ≡ same_to (λ i. T.word_of (get_or x.now i T.beyond)) s.now a (length x.now) }
 {
-    let mut all = true;
-    let mut i = 0;
-    while i < x.len() {
-        all = both(all, float64::pattern(x[i]) == word(s, a + i));
-        i += 1;
+    for (i, v) in x.iter().enumerate() {
+        if v.as_word() != word(s, a + i) {
+            return false;
+        }
     }
-    all
-}
-
-pub fn same_counts(x: &[u64], s: &[u8; 131072], a: usize) -> bool
-    requires { a + length x.now ≤ 65536 }
-    ensures { result ≡ same_numbers x.now s.now a }
-{
-    let mut all = true;
-    let mut i = 0;
-    while i < x.len() {
-        all = both(all, x[i] == word(s, a + i));
-        i += 1;
-    }
-    all
-}
-
-fn wide(x: u32) -> u64
-    ensures { result ≡ x }
-{
-    x as u64
-}
-
-pub fn same_knots(x: &[u32], s: &[u8; 131072], a: usize) -> bool
-    requires { a + length x.now ≤ 65536 }
-    ensures { result ≡ same_numbers x.now s.now a }
-{
-    let mut all = true;
-    let mut i = 0;
-    while i < x.len() {
-        all = both(all, wide(x[i]) == word(s, a + i));
-        i += 1;
-    }
-    all
+    true
 }
 
 // Whether the places of a fit are the words from a on: its trend, its cycle, its knots, its dual point.
+#[tactic(auto, unfolding(crate::specs::Words::same_places))]
 pub fn same_places(
     trend: &[f64],
     cycle: &[f64],
@@ -103,14 +106,14 @@ pub fn same_places(
     ensures { result ≡ same_places trend.now cycle.now knots.now dual.now s.now a }
 {
     let n = trend.len();
-    let t = same_doubles(trend, s, a);
-    let c = same_doubles(cycle, s, a + n);
-    let k = same_knots(knots, s, a + 2 * n);
-    let d = same_doubles(dual, s, a + 2 * n + knots.len());
-    both(t, both(c, both(k, d)))
+    same_words(trend, s, a)
+        && same_words(cycle, s, a + n)
+        && same_words(knots, s, a + 2 * n)
+        && same_words(dual, s, a + 2 * n + knots.len())
 }
 
 // The word past the answer that is stored from word a on, of a series of n with m differences.
+#[tactic(auto, unfolding(crate::specs::Words::past_at))]
 pub fn past(s: &[u8; 131072], a: usize, n: usize, m: usize) -> usize
     requires { (n ≤ 168) × (m ≤ 168) × (a < 32768) }
     ensures { (result ≡ past_at s.now a n m) × (result ≤ 40000) }
@@ -135,6 +138,7 @@ pub struct Lengths {
 }
 
 // The lengths of the case that starts at word a.
+#[tactic(auto, unfolding(crate::specs::Words::lent_at))]
 pub fn lent_at(s: &[u8; 131072], a: usize) -> Lengths
     requires { a < 65536 }
     ensures { (result ≡ lent_at s.now a) × Within result }

@@ -2,8 +2,8 @@
 // input, and is first tried again.
 #![tactic(auto)]
 
-ghost use Rattle.std.specs.Prelude.{◌≡◌, ◌≤◌, length};
-ghost use Rattle.streams.specs.Streams.{came, answered, failed, bytes_of, goes_on, input_of, Within, Held};
+ghost use Rattle.std.specs.Prelude.{◌≡◌, ◌≤◌, ◌<◌, length};
+ghost use Rattle.streams.specs.Streams.{answered, failed, Within, Ends, Held, Whole};
 
 use std::io::{Read, Write};
 use std::time::{Clock, Duration};
@@ -17,114 +17,61 @@ fn pause<C: Clock>(clock: &C) {
     thread::sleep(clock, Duration::from_millis(10));
 }
 
-// What a call answered: how many bytes it moved, at least one, that the input is at its end, or that it failed.
-#[derive(Clone, Copy)]
-pub enum Got {
-    Bytes(usize),
-    End,
-    Failed,
-}
-
-// An input: how many bytes it has, or that it could not be read to its end.
-#[derive(Clone, Copy)]
-pub enum Input {
-    Whole(usize),
-    Broken,
-}
-
-// A count that a call answered: no byte comes at the end of the input alone.
-fn counted(n: usize) -> Got
-    ensures { result ≡ came n }
-{
-    if n == 0 { Got::End } else { Got::Bytes(n) }
-}
-
-// What a call's answer says: that it failed, or how many bytes it moved.
-fn told(answer: io::Result<usize>) -> Got
+// What a read answered: how many bytes came, at least one, or None at the end of the input.
+fn told(answer: io::Result<usize>) -> io::Result<Option<usize>>
     ensures { result ≡ answered answer }
 {
-    match answer {
-        Ok(n) => counted(n),
-        Err(_) => Got::Failed,
-    }
+    let n = answer?;
+    Ok(if n == 0 { None } else { Some(n) })
 }
 
 // Whether the call is to be tried again.
-fn is_failed(g: Got) -> bool
-    ensures { result ≡ failed g }
+fn is_failed(answer: &io::Result<Option<usize>>) -> bool
+    ensures { result ≡ failed answer.now }
 {
-    match g {
-        Got::Failed => true,
-        Got::Bytes(_) => false,
-        Got::End => false,
-    }
+    answer.is_err()
 }
 
 // One read.
-fn read_once<R: Read>(input: &mut R, buf: &mut [u8]) -> Got
-    ensures { Within (length buf.new) result }
+fn read_once<R: Read>(input: &mut R, buf: &mut [u8]) -> io::Result<Option<usize>>
+    ensures within { Within (length buf.new) result }
+    ensures end { 0 < length buf.new → Ends result (R.remaining input.new) }
 {
     told(input.read(buf))
 }
 
 // One read, tried again where it fails.
-fn read_some<C: Clock, R: Read>(clock: &C, input: &mut R, buf: &mut [u8]) -> Got
-    ensures { Within (length buf.new) result }
+fn read_some<C: Clock, R: Read>(
+    clock: &C,
+    input: &mut R,
+    buf: &mut [u8],
+) -> io::Result<Option<usize>>
+    ensures within { Within (length buf.new) result }
+    ensures end { 0 < length buf.new → Ends result (R.remaining input.new) }
 {
-    let mut g = read_once(input, buf);
-    let mut tries = TRIES;
-    while tries > 0 && is_failed(g) {
+    for _ in 0..TRIES {
+        let answer = read_once(input, buf);
+        if !is_failed(&answer) {
+            return answer;
+        }
         pause(clock);
-        g = read_once(input, buf);
-        tries -= 1;
     }
-    g
+    read_once(input, buf)
 }
 
-// How many bytes came.
-fn bytes_of(g: Got) -> usize
-    ensures { result ≡ bytes_of g }
-{
-    match g {
-        Got::Bytes(n) => n,
-        Got::End => 0,
-        Got::Failed => 0,
-    }
-}
-
-// Whether there may be more.
-fn goes_on(g: Got) -> bool
-    ensures { result ≡ goes_on g }
-{
-    match g {
-        Got::Bytes(_) => true,
-        Got::End => false,
-        Got::Failed => false,
-    }
-}
-
-// The input of which n bytes were read, the last of the calls having answered g.
-fn input_of(n: usize, g: Got) -> Input
-    ensures { result ≡ input_of n g }
-{
-    match g {
-        Got::Bytes(_) => Input::Whole(n),
-        Got::End => Input::Whole(n),
-        Got::Failed => Input::Broken,
-    }
-}
-
-// Reads until the input ends, buf is full or a read fails for good.
-pub fn read_whole<C: Clock, R: Read>(clock: &C, input: &mut R, buf: &mut [u8]) -> Input
-    ensures { Held buf.new result }
+// Reads until the input ends, buf is full or a read fails for good: how many bytes the input has, as far as there is room for them.
+pub fn read_whole<C: Clock, R: Read>(clock: &C, input: &mut R, buf: &mut [u8]) -> io::Result<usize>
+    ensures held { Held buf.new result }
+    ensures end { Whole (length buf.new) result (R.remaining input.new) }
 {
     let mut done = 0;
-    let mut g = Got::Bytes(0);
-    while done < buf.len() && goes_on(g) {
-        g = read_some(clock, input, &mut buf[done..]);
-        done += bytes_of(g);
+    while done < buf.len() {
+        match read_some(clock, input, &mut buf[done..])? {
+            Some(n) => done += n,
+            None => return Ok(done),
+        }
     }
-    input_of(done, g)
+    Ok(done)
 }
 
 // One write: how many of buf's bytes it took, none where it failed.
@@ -138,14 +85,14 @@ fn write_once<W: Write>(output: &mut W, buf: &[u8]) -> usize
 fn write_some<C: Clock, W: Write>(clock: &C, output: &mut W, buf: &[u8]) -> usize
     ensures { result ≤ length buf.now }
 {
-    let mut put = write_once(output, buf);
-    let mut tries = TRIES;
-    while tries > 0 && put == 0 {
+    for _ in 0..TRIES {
+        let put = write_once(output, buf);
+        if put > 0 {
+            return put;
+        }
         pause(clock);
-        put = write_once(output, buf);
-        tries -= 1;
     }
-    put
+    write_once(output, buf)
 }
 
 // Writes buf from its start on: how many bytes were taken, fewer than all of them only where a write failed.

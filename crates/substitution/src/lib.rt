@@ -17,13 +17,10 @@ fn back_at(s: &[f64], k: usize, m: usize, i: usize) -> f64
     let b = m * (k + 1);
     let d = banded::get(s, k + 1, i, k);
     let mut v = s[b + i] / d;
-    let n = vectors::smaller(k, m - (i + 1));
-    let mut t = 0;
-    while t < n {
+    for t in 0..k.min(m - (i + 1)) {
         let r = i + 1 + t;
         let a = banded::get(s, k + 1, r, k - (t + 1));
         v = v - a * s[b + r];
-        t += 1;
     }
     v
 }
@@ -34,12 +31,8 @@ fn back_any(s: &mut [f64], k: usize, m: usize, from: usize, to: usize)
     ensures { Carried k m from to s.old s.new }
 {
     let b = m * (k + 1);
-    let mut t = from;
-    while t < to {
-        let i = m - (t + 1);
-        let x = back_at(s, k, m, i);
-        s[b + i] = x;
-        t += 1;
+    for i in (m - to..m - from).rev() {
+        s[b + i] = back_at(s, k, m, i);
     }
 }
 
@@ -49,10 +42,8 @@ fn back1(s: &mut [f64], m: usize)
     ensures { Carried 1 m 1 m s.old s.new }
 {
     let b = m * 2;
-    let mut i = m - 1;
-    let mut x = s[b + i];
-    while 0 < i {
-        i -= 1;
+    let mut x = s[b + (m - 1)];
+    for i in (0..m - 1).rev() {
         let p = i * 2;
         let q = b + i;
         x = s[q] / s[p + 1] - s[p + 2] * x;
@@ -66,11 +57,9 @@ fn back2(s: &mut [f64], m: usize)
     ensures { Carried 2 m 2 m s.old s.new }
 {
     let b = m * 3;
-    let mut i = m - 2;
-    let mut x1 = s[b + i];
-    let mut x2 = s[b + i + 1];
-    while 0 < i {
-        i -= 1;
+    let mut x1 = s[b + (m - 2)];
+    let mut x2 = s[b + (m - 1)];
+    for i in (0..m - 2).rev() {
         let p = i * 3;
         let q = b + i;
         let x = s[q] / s[p + 2] - s[p + 4] * x1 - s[p + 6] * x2;
@@ -104,7 +93,7 @@ pub fn solve(s: &mut [f64], k: usize, m: usize)
     requires { Fits k m (length s.old) }
     ensures { Substituted k m s.old s.new }
 {
-    let n = vectors::smaller(k, m);
+    let n = k.min(m);
     back_any(s, k, m, 0, n);
     back_rest(s, k, m, n);
 }

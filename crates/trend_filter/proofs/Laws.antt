@@ -7,6 +7,8 @@ use Prim.Native.Nat.{ℕ}
 use native.Mathlib.Omega.{arith}
 use borrow.Author.Tests.{ltb-true, eqb-false}
 use lib.Ieee.{Float}
+use Rattle.std.specs.Prelude as rust
+use Rattle.std.specs.Prelude.{Some, None, Result, Ok, Err}
 use Rattle.float64.proofs.Clash.{clash}
 use Rattle.vectors.proofs.Laws.{kept_none, kept_then}
 use Rattle.questions.specs.Questions.{Asked, Lent, needs_for, question}
@@ -18,15 +20,11 @@ use Rattle.fit.proofs.Lengths.{lengths}
 use Rattle.fit.proofs.Demand3.{bounds}
 use Rattle.fit.proofs.Passed.{fit_passed, refused_by}
 use Rattle.closed_paths.proofs.Areas.{kept_wide, work_fits}
-use Rattle.prepared_fit.specs.declared.Written.{Written}
+use Rattle.prepared_fit.specs.declared.Tally.{Tally}
 use Rattle.prepared_fit.specs.Begun.{Stops, Readies, Begins}
 use Rattle.prepared_fit.specs.Fitted.{AsksFit, tallied, Fitted}
-use Rattle.trend_filter.specs.declared.Answer.{Answer}
-use Rattle.trend_filter.specs.declared.Answer.TheVariants.{Refused}
-use Rattle.prepared_fit.specs.declared.Begun.{Begun}
-use Rattle.prepared_fit.specs.declared.Begun.TheVariants.{Stopped, Ready}
-use Rattle.trend_filter.specs.Answers.{Buffers, lent, summary_of, answer_of, early, Gives, Answered}
-use Rattle.trend_filter.specs.Inner.{told_of}
+use Rattle.trend_filter.specs.declared.Summary.{Summary}
+use Rattle.trend_filter.specs.Answers.{Buffers, lent, summed, summary_of, answer_of, early, Gives, Answered}
 
 -- ---- past the questions
 
@@ -43,27 +41,32 @@ sound-fit : (a : Asked) (l : Lent) → question a l ≡ 0 → sound_dd a ≡ tru
 sound-fit a l e s = fit_passed a l e ∙ ap (λ (b : Bool). cond b (outcome a (path a)) (refused 10)) s
 
 -- which way a call began
-pub stops : {a : Asked} {l : Lent} {w₀ w : List Float} {b : Begun} {q : ℕ} → b ≡ Stopped q → Begins a l w₀ w b → Stops a l w₀ w q
+pub stops : {a : Asked} {l : Lent} {w₀ w : List Float} {q : ℕ} → Begins a l w₀ w (Err q) → Stops a l w₀ w q
 unfolding Begins
-stops {a} {l} {w₀} {w} e h = subst (Begins a l w₀ w) e h
+stops h = h
 
-pub readies : {a : Asked} {l : Lent} {w₀ w : List Float} {b : Begun} {top : Float} → b ≡ Ready top → Begins a l w₀ w b → Readies a l w₀ w top
+pub readies : {a : Asked} {l : Lent} {w₀ w : List Float} {top : Float} → Begins a l w₀ w (Ok top) → Readies a l w₀ w top
 unfolding Begins
-readies {a} {l} {w₀} {w} e h = subst (Begins a l w₀ w) e h
+readies h = h
 
 -- ---- the answer
 
+-- what a caller is told of a prepared series, whose lam_max is top
+abbrev pub told_of : Float → rust.Option Tally → Result Summary ℕ
+told_of top None = Err 10
+told_of top (Some t) = Ok (summed t.numbers t.knots top)
+
 same_told : (a : Asked) (o : Option Found) → told_of (lam_max_of a) (tallied a o) ≡ answer_of (outcome a o)
-unfolding told_of tallied answer_of outcome summary_of written
+unfolding tallied answer_of outcome summary_of written
 same_told a none = refl
 same_told a (some f) = refl
 
 module _ (a : Asked) (b : Buffers) (w : List Float) where
   -- a refusal: trend, cycle, knots and dual are as found
-  pub answered_refused : (q : ℕ) → Stops a (lent b) b.work w q → Answered a (Refused q) b (record { out = b.out; work = w; marks = b.marks })
+  pub answered_refused : (q : ℕ) → Stops a (lent b) b.work w q → Answered a (Err q) b (record { out = b.out; work = w; marks = b.marks })
   unfolding answer_of after early
   answered_refused q s = record {
-    gives = subst (λ (o : Outcome). Gives o (Refused q) b.out b.out) (sym s.refuses) (record { answer = refl; out = refl });
+    gives = subst (λ (o : Outcome). Gives o (Err q) b.out b.out) (sym s.refuses) (record { answer = refl; out = refl });
     unused = λ e. (s.unused (sym (ap early s.refuses) ∙ e), refl);
     scratch = record { work = kept_wide 0 (needs_for a).work s.kept (omega arith) (omega (arith, work_fits a)); marks = kept_none 0 (needs_for a).marks b.marks };
     sizes = lengths a (lent b);
@@ -89,7 +92,7 @@ module _ (a : Asked) (b : Buffers) (w : List Float) where
           knots = q.knots;
         }
 
-    pub answered-fit : (z : Answer) (r : Written) (c : Outputs) (v : List Float) (marks : List ℕ) → z ≡ told_of top r → Fitted a r b.out c w v b.marks marks → Answered a z b (record { out = c; work = v; marks = marks })
+    pub answered-fit : (z : Result Summary ℕ) (r : rust.Option Tally) (c : Outputs) (v : List Float) (marks : List ℕ) → z ≡ told_of top r → Fitted a r b.out c w v b.marks marks → Answered a z b (record { out = c; work = v; marks = marks })
     answered-fit z r c v marks e f = record {
       gives = subst (λ (o : Outcome). Gives o z b.out c) (sym (sound-fit a (lent b) h.passes h.sound))
           (record { answer = e ∙ ap₂ told_of h.top_is f.tally ∙ same_told a (path a); out = f.out });

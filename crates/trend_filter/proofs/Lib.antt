@@ -1,3 +1,2 @@
 -- The laws of trend_filter.
 pub mod Laws
-pub mod Calling

@@ -1,5 +1,5 @@
 -- Document 01, "Questions before and during a fit": the answer of a call, and what every place lent to it then holds. n is the length of y, k the order, m = n - k.
-use Rattle.std.specs.Prelude.{◌≡◌, Bool, true, false, List, ℕ, ltb, length, Float}
+use Rattle.std.specs.Prelude.{◌≡◌, Bool, true, false, List, ℕ, ltb, length, Float, Result, Ok, Err}
 use Rattle.std.specs.Float.{nan}
 use Rattle.vectors.specs.Vec.{KeptOf}
 use Rattle.questions.specs.declared.Figures.{Figures}
@@ -10,8 +10,6 @@ use Rattle.fit.specs.Outputs.{Outputs, outputs}
 use Rattle.fit.specs.Fit.{FitResult, Outcome, refused, fitted, fit, Lengths, after}
 use Rattle.fit.specs.Demand3.{Bounds}
 use Rattle.trend_filter.specs.declared.Summary.{Summary}
-use Rattle.trend_filter.specs.declared.Answer.{Answer}
-use Rattle.trend_filter.specs.declared.Answer.TheVariants.{Fit, Refused}
 
 -- what the buffers lent to a call hold: trend, cycle, knots and dual, and work and marks, which are scratch
 pub record Buffers : Type 0 where
@@ -36,9 +34,9 @@ unfoldable pub summary_of : FitResult → Summary
 summary_of f = summed f.numbers (length f.knots) f.lam_max
 
 -- the answer: a fit with its numbers, or a refusal's number alone
-unfoldable pub answer_of : Outcome → Answer
-answer_of (refused q) = Refused q
-answer_of (fitted f) = Fit (summary_of f)
+unfoldable pub answer_of : Outcome → Result Summary ℕ
+answer_of (refused q) = Err q
+answer_of (fitted f) = Ok (summary_of f)
 
 -- whether it is refused by a question of 1 to 9
 unfoldable pub early : Outcome → Bool
@@ -46,7 +44,7 @@ early (refused q) = ltb q 10
 early (fitted f) = false
 
 -- the answer r to an outcome o, with b before and c after in trend, cycle, knots and dual
-pub record Gives (o : Outcome) (r : Answer) (b c : Outputs) : Type 0 where
+pub record Gives (o : Outcome) (r : Result Summary ℕ) (b c : Outputs) : Type 0 where
   pub answer : r ≡ answer_of o
   pub out : c ≡ after o b
 
@@ -56,7 +54,7 @@ pub record Scratch (need : Figures) (b c : Buffers) : Type 0 where
   pub marks : KeptOf 0 0 need.marks b.marks c.marks
 
 -- the whole of a call: a is what was asked, r the answer, b what the buffers held before and c after
-pub record Answered (a : Asked) (r : Answer) (b c : Buffers) : Type 0 where
+pub record Answered (a : Asked) (r : Result Summary ℕ) (b c : Buffers) : Type 0 where
   pub gives : Gives (fit a (lent b)) r b.out c.out
   -- questions 1 to 9 leave work and marks unchanged
   pub unused : early (fit a (lent b)) ≡ true → (c.work ≡ b.work) × (c.marks ≡ b.marks)

@@ -4,4 +4,3 @@ pub mod Calls
 pub mod Told
 pub mod Needs
 pub mod Crossings
-pub mod Inner

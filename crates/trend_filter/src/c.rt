@@ -1,34 +1,26 @@
 // The entries for callers in C: the fit, what it needs, where a trend passes a level and the knot nearest a place. Each answers 0, or a refusal's number.
 ghost use Rattle.std.specs.Prelude.{◌≡◌, length};
 ghost use Rattle.questions.specs.Asking.{asking};
+ghost use Rattle.questions.specs.Refusals.{numbered};
 ghost use Rattle.trend_filter.specs.Calls.{Told, Called};
-ghost use Rattle.trend_filter.specs.Inner.{one_if};
 ghost use Rattle.trend_filter.specs.Answers.{buffers};
 ghost use Rattle.questions.specs.Beforehand.{needed};
 ghost use Rattle.crossings.specs.Nearest.{nearest_knot};
 ghost use Rattle.trend_filter.specs.Needs.{NeedsTold};
 ghost use Rattle.trend_filter.specs.Crossings.{CrossingsTold, KnotTold};
 
-use crate::{Answer, TrendFilterOptions};
-use crossings::{Listed, Near};
-use questions::Needed;
-
-fn one_if(b: bool) -> u64
-    ensures { result ≡ one_if b }
-{
-    if b { 1 } else { 0 }
-}
+use crate::{Summary, TrendFilterOptions};
+use questions::Refusal;
 
 // The answer as a number, with a fit's numbers and counts.
-fn tell(numbers: &mut [f64; 5], counts: &mut [u64; 5], a: Answer) -> u32
-    ensures { Told a result numbers.old numbers.new counts.old counts.new }
+fn tell(numbers: &mut [f64; 5], counts: &mut [u64; 5], a: Result<Summary, Refusal>) -> u32
+    ensures { Told (numbered a) result numbers.old numbers.new counts.old counts.new }
 {
     match a {
-        Answer::Refused(q) => q,
-        Answer::Fit(s) => {
-            let c = one_if(s.converged);
-            let why = s.reason;
-            let w = search::number(why);
+        Err(refused) => u32::from(refused),
+        Ok(s) => {
+            let c = u64::from(s.converged);
+            let w = u64::from(s.reason);
             *numbers = [s.lam_max, s.gap, s.first_gap, s.best_gap, s.objective];
             *counts = [s.knots as u64, s.n_iter, s.improvements, c, w];
             0
@@ -59,10 +51,10 @@ pub fn trend_filter_fit(
         numbers.old numbers.new counts.old counts.new }
 {
     let o = TrendFilterOptions {
-        order: order,
-        penalty: penalty,
-        tol: tol,
-        max_iter: max_iter,
+        order,
+        penalty,
+        tol,
+        max_iter,
     };
     let a = crate::l1_trend_filter(y, lam, o, trend, cycle, knots, dual, work, marks);
     tell(numbers, counts, a)
@@ -79,8 +71,8 @@ pub fn trend_filter_needs(
     ensures { NeedsTold (needed n max_iter order penalty) result needs.old needs.new }
 {
     match questions::needs(n, max_iter, order, penalty) {
-        Needed::Refused(q) => q,
-        Needed::Given(g) => {
+        Err(r) => u32::from(r),
+        Ok(g) => {
             *needs = [g.work, g.marks, g.steps];
             0
         }
@@ -97,8 +89,8 @@ pub fn trend_filter_crossings(
     ensures { CrossingsTold level trend.now result list.old list.new found.old found.new }
 {
     match crossings::crossings(level, trend, list) {
-        Listed::Refused(q) => q,
-        Listed::Count(n) => {
+        Err(unlisted) => u32::from(unlisted),
+        Ok(n) => {
             *found = [n as u64];
             0
         }
@@ -115,13 +107,13 @@ pub fn trend_filter_nearest_knot(
     ensures { KnotTold (nearest_knot place (length trend.now) knots.now) result found.old found.new }
 {
     match crossings::nearest_knot(place, trend, knots) {
-        Near::Refused(q) => q,
-        Near::NoKnot => {
+        Err(r) => u32::from(r),
+        Ok(None) => {
             *found = [0, 0];
             0
         }
-        Near::Knot(k) => {
-            *found = [1, k as u64];
+        Ok(Some(k)) => {
+            *found = [1, u64::from(k)];
             0
         }
     }

@@ -5,10 +5,11 @@ pub mod c;
 
 ghost use Rattle.std.specs.Prelude.{◌≡◌};
 ghost use Rattle.questions.specs.Asking.{asking};
-ghost use Rattle.trend_filter.specs.Answers.{buffers, Answered};
-ghost use Rattle.trend_filter.specs.Inner.{told_of};
+ghost use Rattle.questions.specs.Refusals.{numbered};
+ghost use Rattle.trend_filter.specs.Answers.{summed, buffers, Answered};
 
-use prepared_fit::{Begun, Written};
+use prepared_fit::Tally;
+use questions::Refusal;
 use search::Reason;
 
 // penalty 1 is L1, 2 is L2.
@@ -34,39 +35,26 @@ pub struct Summary {
     pub reason: Reason,
 }
 
-// A fit with its numbers, or a refusal's number.
-#[derive(Clone, Copy)]
-pub enum Answer {
-    Fit(Summary),
-    Refused(u32),
-}
-
-// What a caller is told of a prepared series.
-fn told(w: Written, lam_max: f64) -> Answer
-    ensures { result ≡ told_of lam_max w }
+// What a caller is told of a fit.
+fn summed(t: Tally, lam_max: f64) -> Summary
+    ensures { result ≡ summed t.numbers t.knots lam_max }
 {
-    match w {
-        Written::Lost => Answer::Refused(10),
-        Written::Done(t) => {
-            let s = t.numbers;
-            let why = s.reason;
-            Answer::Fit(Summary {
-                knots: t.knots,
-                lam_max: lam_max,
-                gap: s.gap,
-                first_gap: s.first_gap,
-                best_gap: s.best_gap,
-                objective: s.objective,
-                n_iter: s.n_iter,
-                improvements: s.improvements,
-                converged: s.converged,
-                reason: why,
-            })
-        }
+    let s = t.numbers;
+    Summary {
+        knots: t.knots,
+        lam_max: lam_max,
+        gap: s.gap,
+        first_gap: s.first_gap,
+        best_gap: s.best_gap,
+        objective: s.objective,
+        n_iter: s.n_iter,
+        improvements: s.improvements,
+        converged: s.converged,
+        reason: s.reason,
     }
 }
 
-// The trend, the cycle, the knots and the dual point of y, and the numbers of the fit; or a refusal's number. work and marks are scratch.
+// The trend, the cycle, the knots and the dual point of y, and the numbers of the fit; or why it is refused. work and marks are scratch.
 pub fn l1_trend_filter(
     y: &[f64],
     lam: f64,
@@ -77,12 +65,12 @@ pub fn l1_trend_filter(
     dual: &mut [f64],
     work: &mut [f64],
     marks: &mut [u32],
-) -> Answer
-    ensures { Answered (asking y.now lam opts.tol opts.max_iter opts.order opts.penalty) result
+) -> Result<Summary, Refusal>
+    ensures { Answered (asking y.now lam opts.tol opts.max_iter opts.order opts.penalty) (numbered result)
         (buffers trend.old cycle.old knots.old dual.old work.old marks.old)
         (buffers trend.new cycle.new knots.new dual.new work.new marks.new) }
 {
-    let b = prepared_fit::begin(
+    let lam_max = prepared_fit::begin(
         work,
         y,
         lam,
@@ -95,26 +83,22 @@ pub fn l1_trend_filter(
         knots.len(),
         dual.len(),
         marks.len(),
-    );
-    match b {
-        Begun::Stopped(q) => Answer::Refused(q),
-        Begun::Ready(lam_max) => {
-            let w = prepared_fit::fit_prepared(
-                trend,
-                cycle,
-                knots,
-                dual,
-                work,
-                marks,
-                y,
-                lam,
-                opts.tol,
-                opts.max_iter,
-                opts.order as usize,
-                opts.penalty,
-                lam_max,
-            );
-            told(w, lam_max)
-        }
-    }
+    )?;
+    let t = prepared_fit::fit_prepared(
+        trend,
+        cycle,
+        knots,
+        dual,
+        work,
+        marks,
+        y,
+        lam,
+        opts.tol,
+        opts.max_iter,
+        opts.order as usize,
+        opts.penalty,
+        lam_max,
+    )
+    .ok_or(Refusal::BadPivot)?;
+    Ok(summed(t, lam_max))
 }

@@ -25,10 +25,6 @@ pub max-more : (f : ℕ → Float) (n : ℕ) (a x : Float) → a ≡ max_to f n 
 unfolding max_to
 max-more f n a x e h = rw (add-one n, e, h)
 
-pub inside-more : (lam : Float) (v : List Float) (n : ℕ) (a b : Bool) → a ≡ inside_to lam v n → b ≡ a && lt (abs_of (at v n)) lam → b ≡ inside_to lam v (n + 1)
-unfolding inside_to
-inside-more lam v n a b e h = rw (add-one n, h, e)
-
 pub both : (a b : Bool) → a && b ≡ true → (a ≡ true) × (b ≡ true)
 both true b e = (refl, e)
 both false b e = (e, cc)

@@ -1,15 +1,14 @@
 -- Laws of the positions that are printed, which specs/Positions.antt states. Assumes nothing.
 use mathlib.Core.Path.{◌≡◌, refl, sym, ap, ap₂, ◌∙◌}
-use Prim.Native.Nat.{ℕ, zero, suc, ◌-◌, ◌≤◌, ◌<◌}
+use Prim.Native.Nat.{ℕ, suc, ◌<◌}
 use native.Mathlib.Omega.{arith}
 use mathlib.Core.List.{List, [], ◌∷◌}
 use lib.ListN.{length, get_or}
 use Rattle.vectors.specs.Vec.{list}
-use Rattle.vectors.specs.Rising.{Rising}
 use Rattle.vectors.proofs.Laws.{get_d_list}
 use Rattle.vectors.proofs.Rising.{rising_within, rising_picked}
 use Rattle.questions.specs.Questions.{Asked}
-use Rattle.fit.specs.Fit.{Outcome, refused, fitted, fit, places}
+use Rattle.fit.specs.Fit.{Outcome, refused, fitted, fit}
 use Rattle.fit.proofs.Lengths.{knot_places}
 use Rattle.records.specs.declared.Settings.{Settings}
 use Rattle.records.specs.Entries.{Slot, hours_of}

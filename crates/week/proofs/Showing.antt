@@ -9,6 +9,7 @@ use lib.ListN.{length, get_or, take, drop, get_or-append}
 use lib.Seq.{take_all, length-take-le}
 use lib.Dec.{leb, ltb, eqb}
 use lib.Ieee.{Float}
+use Rattle.std.specs.Prelude as P
 use borrow.Author.Tests.{leb-true}
 use Rattle.float64.proofs.Clash.{impossible}
 use Rattle.io.specs.Counts.{IsPrefixLen}
@@ -24,7 +25,7 @@ use Rattle.series.specs.Inner.{answer, Reads}
 use Rattle.records.proofs.Positions.{week_positions}
 use Rattle.records.specs.Week as read
 use Rattle.records.specs.declared.Settings.{Settings}
-use Rattle.series.specs.declared.Week.TheVariants as week
+use Rattle.series.specs.declared.Week.{Week}
 use Rattle.lines.specs.Lines.{refused_line}
 use Rattle.listing.specs.Shown.{Below, shown_line, shown_listing}
 use Rattle.questions.specs.Questions.{Asked, Lent}
@@ -33,8 +34,6 @@ use Rattle.fit.specs.Fit.{Outcome, refused, fitted, fit, after}
 use Rattle.fit.proofs.Lengths.{lengths, knot_places}
 use Rattle.trend_filter.specs.Answers.{summary_of, answer_of, Gives}
 use Rattle.trend_filter.specs.declared.Summary.{Summary}
-use Rattle.trend_filter.specs.declared.Answer.{Answer}
-use Rattle.trend_filter.specs.declared.Answer.TheVariants as fits
 use Rattle.week.specs.Shown.{shown}
 use Rattle.week.specs.Week.{asked_by, week_lent, listing_of, outcome_text, fit_text, reading_text, week_text}
 
@@ -71,7 +70,7 @@ unfolding read_week
 short s = cond_case Short (ltb 4096 (length s)) (read.unread 11) (ask_entries (entries_in s)) (λ _. tt) (ask_short (entries_in s))
 
 -- what an answer of `read_week` says
-was_refused : (a : read.Reading) {k : ℕ} → week.Refused k ≡ answer a → a ≡ read.unread k
+was_refused : (a : read.Reading) {k : ℕ} → P.Err k ≡ answer a → a ≡ read.unread k
 was_refused (read.unread j) e = ap read.unread (sym (let f : _ ≡ j = cc in f))
 was_refused (read.read st ws) e = impossible cc
 
@@ -93,25 +92,25 @@ pub record Taken (a : read.Reading) (st : Settings) (n : ℕ) (z : List Float) (
   pub positions : Front n q (positions_of slots)
   pub few : n ≤ 168
 
-was_taken : (a : read.Reading) {st : Settings} {n : ℕ} {y z : List Float} {q₀ q : List ℕ} → Reads a (week.Read st n) y z q₀ q → Short a → Taken a st n z q
+was_taken : (a : read.Reading) {w : Week} {y z : List Float} {q₀ q : List ℕ} → Reads a (P.Ok w) y z q₀ q → Short a → Taken a w.settings w.n z q
 was_taken (read.unread j) r h = let e = r.said in impossible cc
-was_taken (read.read sd ws) {st} {n} r h =
+was_taken (read.read sd ws) {w} r h =
     let e = r.said in
-    let es : sd ≡ st = cc in
-    let en : n ≡ length (hours_of ws) = cc in
+    let f : w ≡ record { settings = sd; n = length (hours_of ws) } = cc in
+    let en : w.n ≡ length (hours_of ws) = ap (λ (x : Week). x.n) f in
     record {
       slots = ws;
-      week = ap (λ (x : Settings). read.read x ws) es;
+      week = ap (λ (x : Settings). read.read x ws) (sym (ap (λ (x : Week). x.settings) f));
       hours = fronted _ (hours_of ws) r.wrote en;
-      positions = fronted _ (positions_of ws) r.numbered (en ∙ sym (week_positions ws).each);
+      positions = fronted _ (positions_of ws) r.positions (en ∙ sym (week_positions ws).each);
       few = omega arith;
     }
 
-pub taken_week : (s : List ℕ) {st : Settings} {n : ℕ} {y z : List Float} {q₀ q : List ℕ} → Reads (read_week s) (week.Read st n) y z q₀ q → Taken (read_week s) st n z q
+pub taken_week : (s : List ℕ) {w : Week} {y z : List Float} {q₀ q : List ℕ} → Reads (read_week s) (P.Ok w) y z q₀ q → Taken (read_week s) w.settings w.n z q
 taken_week s r = was_taken (read_week s) r (short s)
 
 -- the text of a week
-pub text_refused : (s : List ℕ) {k : ℕ} → week.Refused k ≡ answer (read_week s) → week_text s ≡ refused_line k
+pub text_refused : (s : List ℕ) {k : ℕ} → P.Err k ≡ answer (read_week s) → week_text s ≡ refused_line k
 unfolding week_text reading_text
 text_refused s e = ap reading_text (was_refused (read_week s) e)
 
@@ -120,7 +119,7 @@ unfolding week_text reading_text
 text_taken s {st} w = ap reading_text w.week ∙ ap₂ (fit_text st) (sym w.hours.is) (sym w.positions.is)
 
 -- what an answer of the fit says
-was_no_fit : (a : Asked) (ps : List ℕ) (o : Outcome) {k : ℕ} → fits.Refused k ≡ answer_of o → outcome_text a ps o ≡ refused_line k
+was_no_fit : (a : Asked) (ps : List ℕ) (o : Outcome) {k : ℕ} → P.Err k ≡ answer_of o → outcome_text a ps o ≡ refused_line k
 unfolding outcome_text answer_of
 was_no_fit a ps (refused j) e = ap refused_line (sym (let f : _ ≡ j = cc in f))
 was_no_fit a ps (fitted f) e = impossible cc
@@ -130,14 +129,14 @@ pub record Listed (st : Settings) (y : List Float) (ps : List ℕ) (s : Summary)
   pub few : s.knots ≤ length y
   pub below : Below k s.knots (length ps)
 
-was_fit : (st : Settings) (y : List Float) (ps : List ℕ) (o : Outcome) (before : Outputs) {r : Answer} {s : Summary} {t c d : List Float} {k : List ℕ}
-    → length ps ≡ length y → fit (asked_by st y) week_lent ≡ o → r ≡ fits.Fit s → Gives o r before (outputs t c k d) → Listed st y ps s t c k
+was_fit : (st : Settings) (y : List Float) (ps : List ℕ) (o : Outcome) (before : Outputs) {r : P.Result Summary ℕ} {s : Summary} {t c d : List Float} {k : List ℕ}
+    → length ps ≡ length y → fit (asked_by st y) week_lent ≡ o → r ≡ P.Ok s → Gives o r before (outputs t c k d) → Listed st y ps s t c k
 unfolding fit_text outcome_text listing_of shown_line shown_listing summary_of answer_of after
 was_fit st y ps (refused i) before {r} {s} n g e h =
-    let p : fits.Fit s ≡ answer_of (refused i) = sym e ∙ h.answer in
+    let p : P.Ok s ≡ answer_of (refused i) = sym e ∙ h.answer in
     impossible cc
 was_fit st y ps (fitted f) before {r} {s} {t} {c} {d} {k} n g e h =
-    let p : fits.Fit s ≡ answer_of (fitted f) = sym e ∙ h.answer in
+    let p : P.Ok s ≡ answer_of (fitted f) = sym e ∙ h.answer in
     let es : summary_of f ≡ s = cc in
     let l = lengths (asked_by st y) week_lent f g in
     let trend_is = ap (λ (o : Outputs). o.trend) h.out in
@@ -152,18 +151,18 @@ was_fit st y ps (fitted f) before {r} {s} {t} {c} {d} {k} n g e h =
     })
 
 -- a call of the fit with what the program lends: its answer, and the places that it left
-pub record Fitted (st : Settings) (y : List Float) (r : Answer) (t c : List Float) (k : List ℕ) : Type 0 where
+pub record Fitted (st : Settings) (y : List Float) (r : P.Result Summary ℕ) (t c : List Float) (k : List ℕ) : Type 0 where
   before : Outputs
   dual : List Float
   gives : Gives (fit (asked_by st y) week_lent) r before (outputs t c k dual)
 
-pub fits-lent : (st : Settings) (y : List Float) (l : Lent) {r : Answer} {b : Outputs} {t c d : List Float} {k : List ℕ} → Gives (fit (asked_by st y) l) r b (outputs t c k d) → week_lent ≡ l → Fitted st y r t c k
+pub fits-lent : (st : Settings) (y : List Float) (l : Lent) {r : P.Result Summary ℕ} {b : Outputs} {t c d : List Float} {k : List ℕ} → Gives (fit (asked_by st y) l) r b (outputs t c k d) → week_lent ≡ l → Fitted st y r t c k
 fits-lent st y l {r} {b} {t} {c} {d} {k} h g = record { before = b; dual = d; gives = subst (λ (x : Lent). Gives (fit (asked_by st y) x) r b (outputs t c k d)) (sym g) h }
 
-module _ {st : Settings} {y : List Float} {r : Answer} {t c : List Float} {k : List ℕ} (f : Fitted st y r t c k) where
-  pub fit_listed : {s : Summary} (ps : List ℕ) → length ps ≡ length y → r ≡ fits.Fit s → Listed st y ps s t c k
+module _ {st : Settings} {y : List Float} {r : P.Result Summary ℕ} {t c : List Float} {k : List ℕ} (f : Fitted st y r t c k) where
+  pub fit_listed : {s : Summary} (ps : List ℕ) → length ps ≡ length y → r ≡ P.Ok s → Listed st y ps s t c k
   fit_listed {s} ps n e = was_fit st y ps (fit (asked_by st y) week_lent) f.before n refl e f.gives
 
-  pub fit_refused : {j : ℕ} (ps : List ℕ) → r ≡ fits.Refused j → fit_text st y ps ≡ refused_line j
+  pub fit_refused : {j : ℕ} (ps : List ℕ) → r ≡ P.Err j → fit_text st y ps ≡ refused_line j
   unfolding fit_text
   fit_refused ps e = was_no_fit (asked_by st y) ps (fit (asked_by st y) week_lent) (sym e ∙ f.gives.answer)

@@ -9,14 +9,12 @@ ghost use Rattle.week.specs.Week.{fit_text, week_text};
 
 use listing::Shown;
 use records::Settings;
-use series::Week;
-use trend_filter::{Answer, Summary, TrendFilterOptions};
+use trend_filter::{Summary, TrendFilterOptions};
 
 // What is shown of the fit of n hours under their settings.
 fn shown(st: Settings, n: usize, s: Summary) -> Shown
     ensures { result ≡ shown st n s }
 {
-    let why = s.reason;
     Shown {
         n,
         order: st.order,
@@ -24,7 +22,7 @@ fn shown(st: Settings, n: usize, s: Summary) -> Shown
         n_iter: s.n_iter,
         improvements: s.improvements,
         converged: s.converged,
-        reason: why,
+        reason: s.reason,
         lam_max: s.lam_max,
         gap: s.gap,
         objective: s.objective,
@@ -52,8 +50,8 @@ fn fit_week(y: &[f64], positions: &[u32], st: Settings, out: &mut [u8; 16384]) -
     match trend_filter::l1_trend_filter(
         y, st.lam, opts, &mut trend, &mut cycle, &mut knots, &mut dual, &mut work, &mut marks,
     ) {
-        Answer::Refused(number) => listing::put_refused(out, number),
-        Answer::Fit(s) => {
+        Err(refusal) => listing::put_refused(out, u32::from(refusal)),
+        Ok(s) => {
             let f = shown(st, y.len(), s);
             listing::put_listing(out, f, positions, &trend, &cycle, &knots)
         }
@@ -68,7 +66,7 @@ pub fn weekly(input: &[u8], out: &mut [u8; 16384]) -> usize
     let mut y = [0.0f64; 168];
     let mut positions = [0u32; 168];
     match series::read_week(input, &mut y, &mut positions) {
-        Week::Refused(number) => listing::put_refused(out, number),
-        Week::Read { settings, n } => fit_week(&y[..n], &positions[..n], settings, out),
+        Err(why) => listing::put_refused(out, u32::from(why)),
+        Ok(week) => fit_week(&y[..week.n], &positions[..week.n], week.settings, out),
     }
 }

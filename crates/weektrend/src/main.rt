@@ -4,7 +4,6 @@
 
 use std::io::Write;
 use std::time::Clock;
-use streams::Input;
 
 // Writes the listing of the week.
 fn print_week<C: Clock, W: Write, E: Write>(
@@ -28,8 +27,8 @@ fn print_week<C: Clock, W: Write, E: Write>(
 fn main(rt: HostRuntime) {
     let mut input = [0u8; 4097];
     match streams::read_whole(&rt, &mut rt.stdin(), &mut input) {
-        Input::Whole(n) => print_week(&rt, &mut rt.stdout(), &mut rt.stderr(), &input[..n]),
-        Input::Broken => {
+        Ok(n) => print_week(&rt, &mut rt.stdout(), &mut rt.stderr(), &input[..n]),
+        Err(_) => {
             streams::write_whole(
                 &rt,
                 &mut rt.stderr(),

@@ -1,8 +1,8 @@
 use mathlib.Core.Path.{◌≡◌, sym, ap, subst, ◌∙◌}
 use mathlib.Core.Bool.{Bool, cond}
-use Prim.Native.Nat.{ℕ, ◌+◌, ◌-◌, ◌*◌, ◌≤◌}
+use Prim.Native.Nat.{ℕ, ◌+◌, ◌*◌, ◌≤◌}
 use native.Mathlib.Omega.{arith}
-use lib.ListN.{length, take, drop}
+use lib.ListN.{length}
 use lib.Ieee.{nan}
 use Rattle.vectors.specs.Parts.{part}
 use Rattle.vectors.proofs.Parts.{range_part, part_of_range}
@@ -22,17 +22,17 @@ won-fits : (t : Trend) (b : Bool) (n w : ℕ) → t ≡ Won b → reach t n ≤ 
 unfolding reach
 won-fits t b n w e h = subst (λ (u : Trend). reach u n ≤ w) e h
 
-pub offset_bounds-work-a : goal.offset_bounds-work-a
-offset_bounds-work-a c = omega (arith, solution-fits _ _ _ c.in-Solution.is c.requires)
+pub offset_bounds-work-n : goal.offset_bounds-work-n
+offset_bounds-work-n c = omega (arith, solution-fits _ _ _ c.in-Solution.is c.requires)
 
 pub slice_bounds-result-end : goal.slice_bounds-result-end
 slice_bounds-result-end c = omega (arith, solution-fits _ _ _ c.in-Solution.is c.requires)
 
-pub overflow_mul-e-in-Won : goal.overflow_mul-e-in-Won
-overflow_mul-e-in-Won c = omega (arith, won-fits _ _ _ _ c.in-Won.is c.requires)
+pub overflow_mul-n-in-Won : goal.overflow_mul-n-in-Won
+overflow_mul-n-in-Won c = omega (arith, won-fits _ _ _ _ c.in-Won.is c.requires)
 
-pub offset_bounds-work-a-in-Won : goal.offset_bounds-work-a-in-Won
-offset_bounds-work-a-in-Won c = omega (arith, won-fits _ _ _ _ c.in-Won.is c.requires)
+pub offset_bounds-work-n-in-Won : goal.offset_bounds-work-n-in-Won
+offset_bounds-work-n-in-Won c = omega (arith, won-fits _ _ _ _ c.in-Won.is c.requires)
 
 pub slice_bounds-winner-end : goal.slice_bounds-winner-end
 slice_bounds-winner-end c = omega (arith, won-fits _ _ _ _ c.in-Won.is c.requires)

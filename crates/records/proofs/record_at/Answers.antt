@@ -1,19 +1,27 @@
-use mathlib.Core.Path.{◌≡◌, sym, ◌∙◌}
-use Rattle.std.proofs.Common.{arith}
-use Rattle.records.proofs.Entries.{stands_end, stands_bad, opens, found-known, found_unknown}
+use Rattle.std.proofs.Common.{◌-◌, arith, sym, ap, ◌∙◌, Ok}
+use Rattle.records.proofs.Entries.{stands_end, stands_bad, stands_err, opens, kinded, found_unknown, other_size, of_kind}
 use Rattle.records.proofs.record_at.Goals as goal
 
-pub overflow_sub-next : goal.overflow_sub-next
-overflow_sub-next c = omega (arith, (opens _ _ (sym c.in-Record.is ∙ c.head_at.ensures)).more)
+pub returns-in_err-r : goal.returns-in_err-r
+returns-in_err-r c = stands_err c.args.s.now c.args.at _ c.from_residual.ensures.0 (stands_bad _ _ (sym c.in_err-r.was ∙ c.head_at.ensures))
 
-pub returns-in-End : goal.returns-in-End
-returns-in-End c = stands_end _ _ (sym c.in-End.is ∙ c.head_at.ensures)
+pub returns-in_default : goal.returns-in_default
+returns-in_default c = stands_end _ _ (sym (c.in_ok-r.was ∙ ap Ok c.in_default.is) ∙ c.head_at.ensures)
 
-pub returns-in-Bad : goal.returns-in-Bad
-returns-in-Bad c = stands_bad _ _ (sym c.in-Bad.is ∙ c.head_at.ensures)
+pub returns-in_err-kind : goal.returns-in_err-kind
+returns-in_err-kind c =
+    let o = opens _ _ (sym (c.in_ok-r.was ∙ ap Ok c.in-Some.is) ∙ c.head_at.ensures) in
+    stands_err c.args.s.now c.args.at _ c.from_residual-in_err-kind.ensures.0 (found_unknown o (sym ((kinded c.in-Some.r.kind (c.in-Some.r.next - c.in-Some.r.body)).other (sym c.try_from.ensures ∙ c.in_err-kind.was))))
 
-pub returns-then-is_known : goal.returns-then-is_known
-returns-then-is_known c = found-known (opens _ _ (sym c.in-Record.is ∙ c.head_at.ensures)) (sym c.if-is_known.true ∙ c.is_known.ensures)
+pub overflow_sub-r : goal.overflow_sub-r
+overflow_sub-r c = omega (arith, (opens _ _ (sym (c.in_ok-r.was ∙ ap Ok c.in-Some.is) ∙ c.head_at.ensures)).more)
 
-pub returns-else-is_known : goal.returns-else-is_known
-returns-else-is_known c = found_unknown (opens _ _ (sym c.in-Record.is ∙ c.head_at.ensures)) (sym c.if-is_known.false ∙ c.is_known.ensures)
+pub returns-then-r-size : goal.returns-then-r-size
+returns-then-r-size c =
+    let o = opens _ _ (sym (c.in_ok-r.was ∙ ap Ok c.in-Some.is) ∙ c.head_at.ensures) in
+    other_size o (sym c.try_from.ensures ∙ c.in_ok-kind.was) (λ e. c.if-r-size.true (e ∙ sym c.size.ensures))
+
+pub returns : goal.returns
+returns c =
+    let o = opens _ _ (sym (c.in_ok-r.was ∙ ap Ok c.in-Some.is) ∙ c.head_at.ensures) in
+    of_kind o (sym c.try_from.ensures ∙ c.in_ok-kind.was) (c.if-r-size.false ∙ c.size.ensures)

@@ -1,25 +1,23 @@
-use Rattle.std.proofs.Common.{arith}
-use Rattle.records.proofs.Passing.{passed_end, passed_bad, counted_none, counted_more}
+use mir.Val.{bool_byte}
+use Rattle.std.proofs.Common.{refl, ap, ◌∙◌}
+use Rattle.records.specs.Week.{entries_in}
+use Rattle.records.proofs.Entries.{same_settings}
+use Rattle.records.proofs.Passing.{walk_err, passed_end, passed_bad, counted_none, counted_more}
 use Rattle.records.proofs.walk.Goals as goal
 
-pub loop-kind-init : goal.loop-kind-init
-loop-kind-init c = counted_none _
+pub loop-r-init : goal.loop-r-init
+loop-r-init c = counted_none _
 
-pub returns-in-End : goal.returns-in-End
-returns-in-End c = simp (passed_end c.loop-kind.invariant.passed (rw c.in-End.is at c.record_at.ensures), c.loop-kind.invariant.settings)
+pub returns-in_err-r : goal.returns-in_err-r
+returns-in_err-r c = walk_err (entries_in c.args.s.now) _ c.from_residual.ensures.0 (passed_bad c.loop-r.invariant.passed c.in_err-r.ensures)
 
-pub returns-in-Bad : goal.returns-in-Bad
-returns-in-Bad c = simp (passed_bad c.loop-kind.invariant.passed (rw c.in-Bad.is at c.record_at.ensures))
+pub loop-r-preserved : goal.loop-r-preserved
+loop-r-preserved c =
+    let f = rw c.in-Some.is at c.in_ok-r.ensures in
+    let e = c.from-settings.ensures ∙ ap bool_byte (c.eq.ensures ∙ same_settings c.in-Some.r.kind) in
+    rw e (counted_more c.loop-r.invariant f)
 
-pub overflow_add-settings : goal.overflow_add-settings
-overflow_add-settings c =
-    let w = counted_more c.loop-kind.invariant (rw c.in-Record.is at c.record_at.ensures) in
-    omega (arith, w.few, w.inside)
-
-pub loop-kind-smaller : goal.loop-kind-smaller
-loop-kind-smaller c =
-    let f = rw c.in-Record.is at c.record_at.ensures in
-    omega (arith, f.body, f.more, f.inside)
-
-pub loop-kind-preserved : goal.loop-kind-preserved
-loop-kind-preserved c = counted_more c.loop-kind.invariant (rw c.in-Record.is at c.record_at.ensures)
+pub returns : goal.returns
+returns c =
+    let e = rw c.in_default.is at c.in_ok-r.ensures in
+    rw (passed_end c.loop-r.invariant.passed e, c.loop-r.invariant.settings) refl

@@ -1,8 +1,8 @@
 use Rattle.week.proofs.Showing.{taken_week, text_refused, text_taken}
 use Rattle.week.proofs.weekly.Goals as goal
 
-pub returns-in-Refused-clause-wrote : goal.returns-in-Refused-clause-wrote
-returns-in-Refused-clause-wrote c = rw (text_refused _ c.in-Refused.ensures.said) c.put_refused.ensures
+pub returns-in-Err-clause-wrote : goal.returns-in-Err-clause-wrote
+returns-in-Err-clause-wrote c = rw (text_refused _ c.in-Err.ensures.said, ← c.from.ensures) c.put_refused.ensures
 
-pub returns-in-Read-clause-wrote : goal.returns-in-Read-clause-wrote
-returns-in-Read-clause-wrote c = rw (text_taken _ (taken_week _ c.in-Read.ensures)) c.fit_week.ensures
+pub returns-in-Ok-clause-wrote : goal.returns-in-Ok-clause-wrote
+returns-in-Ok-clause-wrote c = rw (text_taken _ (taken_week _ c.in-Ok.ensures)) c.fit_week.ensures
