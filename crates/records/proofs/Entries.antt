@@ -23,13 +23,12 @@ use Rattle.framing.specs.declared.Record as framing
 use Rattle.framing.specs.declared.NoRecord.{NoRecord}
 use Rattle.framing.proofs.Numbers.{number_of_part}
 use Rattle.framing.proofs.Heads.{Opens, Heads, heads}
-use Rattle.records.specs.Entries.{Entry, slot, frames, settings, correction, settings_in, sized, entry_of, both, entries, count_settings}
+use Rattle.records.specs.Entries.{Entry, settings_in, sized, entry_of, both, entries, count_settings}
 use Rattle.records.specs.Week.{entries_in}
-use Rattle.records.specs.declared.Settings.{Settings}
 use Rattle.records.specs.declared.Record.{Record}
 use Rattle.records.specs.declared.Kind.{Kind}
 use Rattle.records.specs.declared.Kind.TheVariants as kind
-use Rattle.records.specs.Inner.{known, opening_of, kind_of, kind_number, size_of, Says, hour, quiet, setup, repair, framed, Found, Stands}
+use Rattle.records.specs.Inner.{known, kind_of, kind_number, size_of, Says, hour, quiet, setup, repair, framed, Found, Stands}
 
 -- an entry that a record of kind k says, whose body b has n bytes
 record Entered (k n : ℕ) (b : List ℕ) (o : Option Entry) : Type 0 where
@@ -172,7 +171,7 @@ says_count (setup k n e) = rw (e, k)
 says_count (repair k n e) = rw (e, k)
 says_count (framed k n e) = rw (e, k)
 
--- the size of its body, the settings, and no settings
+-- its kind and the size of its body
 says_known : {k n : ℕ} {b : List ℕ} {e : Entry} → Says k n b e → known k n ≡ true
 says_known (hour k n e) = rw (k, n)
 says_known (quiet k n e) = rw (k, n)
@@ -180,27 +179,7 @@ says_known (setup k n e) = rw (k, n)
 says_known (repair k n e) = rw (k, n)
 says_known (framed k n e) = rw (k, n)
 
-settings_size : {k n : ℕ} {b : List ℕ} {e : Entry} → Says k n b e → k ≡ 3 → (n ≡ 26) × (e ≡ settings (settings_in b))
-settings_size (hour k n e) h = absurd (omega arith)
-settings_size (quiet k n e) h = absurd (omega arith)
-settings_size (setup k n e) h = (n, e)
-settings_size (repair k n e) h = absurd (omega arith)
-settings_size (framed k n e) h = absurd (omega arith)
-
-no_settings : {k n : ℕ} {b : List ℕ} {e : Entry} → Says k n b e → (k ≡ 3 → ⊥) → P.None ≡ opening_of (e ∷ [])
-no_settings (hour k n e) h = rw e
-no_settings (quiet k n e) h = rw e
-no_settings (setup k n e) h = absurd (h k)
-no_settings (repair k n e) h = rw e
-no_settings (framed k n e) h = rw e
-
--- a body of kind j, with m bytes, is inside
-pub body_inside : {s : List ℕ} {at k b n : ℕ} (j m : ℕ) → ((i : ℕ) → known j i ≡ eqb i m) → Found s at k b n → k ≡ j → b + m ≤ length s
-body_inside {b} {n} j m g f h =
-    let e = eqb-true (n - b) m (sym (g (n - b)) ∙ ap (λ (i : ℕ). known i (n - b)) (sym h) ∙ says_known f.says) in
-    omega (arith, e, f.more, f.inside)
-
--- so is any body, by its kind
+-- a body is inside, by its kind
 says_size : (d : Kind) {n : ℕ} {b : List ℕ} {e : Entry} → Says (kind_number d) n b e → n ≡ size_of d
 says_size d {n} w = eqb-true n (size_of d) (known_size d n (says_known w))
   where
@@ -213,36 +192,6 @@ says_size d {n} w = eqb-true n (size_of d) (known_size d n (says_known w))
 
 pub kind_inside : {s : List ℕ} {at b n : ℕ} (d : Kind) → Found s at (kind_number d) b n → b + size_of d ≤ length s
 kind_inside d f = omega (arith, says_size d f.says, f.more, f.inside)
-
--- what comes first
-same_opening : (e : Entry) (t : List Entry) → opening_of (e ∷ []) ≡ opening_of (e ∷ t)
-same_opening (slot w) t = refl
-same_opening (frames f) t = refl
-same_opening (settings st) t = refl
-same_opening (correction p x) t = refl
-
-opens_with : (e : Entry) (o : Option (List Entry)) (es : List Entry) → map (λ (t : List Entry). e ∷ t) o ≡ some es → opening_of (e ∷ []) ≡ opening_of es
-opens_with e none es h = impossible cc
-opens_with e (some t) es h = same_opening e t ∙ ap opening_of (let g : e ∷ t ≡ es = cc in g)
-
-module _ (s : List ℕ) (es : List Entry) (h : entries_in s ≡ some es) where
-  pub first_end : entries_in (drop 0 s) ≡ some [] → P.None ≡ opening_of es
-  first_end e = ap opening_of (let g : [] ≡ es = cc in g)
-
-  pub first_bad : entries_in (drop 0 s) ≡ none → P.None ≡ opening_of es
-  first_bad e = impossible cc
-
-  module _ {k b n : ℕ} (f : Found s 0 k b n) where
-    first-is : opening_of (f.entry ∷ []) ≡ opening_of es
-    first-is = opens_with f.entry (entries_in (drop n s)) es (sym f.rest ∙ h)
-
-    pub first-set : k ≡ 3 → {st : Settings} → st ≡ settings_in (take 26 (drop b s)) → P.Some st ≡ opening_of es
-    first-set e {st} g =
-        let w = settings_size f.says e in
-        ap P.Some (g ∙ ap (λ (m : ℕ). settings_in (take m (drop b s))) (sym w.0)) ∙ ap (λ (x : Entry). opening_of (x ∷ [])) (sym w.1) ∙ first-is
-
-    pub first-other : (k ≡ 3 → ⊥) → P.None ≡ opening_of es
-    first-other e = no_settings f.says e ∙ first-is
 
 -- the settings in a body that is a part of the input, from its numbers
 pub settings_are : (s : List ℕ) (b : ℕ) {l t : Float} {n q m o p : ℕ} → l ≡ of_bits binary64 n → n ≡ number_at b 8 s → t ≡ of_bits binary64 q → q ≡ number_at (b + 8) 8 s → m ≡ number_at (b + 16) 8 s → o ≡ number_at (b + 24) 1 s → p ≡ number_at (b + 25) 1 s

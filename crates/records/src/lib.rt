@@ -9,6 +9,7 @@ ghost use Rattle.records.specs.Inner.{tally_of, opening_of, kind_of, size_of, St
 
 use framing::NoRecord;
 
+// The kinds of a week's records, with their numbers in the file.
 #[derive(Clone, Copy, PartialEq, Eq)]
 pub enum Kind {
     Hour = 1,
