@@ -1,7 +1,8 @@
 -- What is known of reading an input: no contract can say which bytes the system moves. rest is what the input still holds, where that is known.
-use Rattle.std.specs.Prelude.{ℕ, zero, suc, ◌≤◌, ◌<◌, List, Bool, true, false, Option, Some, None, Result, Ok, Err}
+use Rattle.std.specs.Prelude.{ℕ, zero, suc, ◌+◌, ◌≤◌, ◌<◌, List, Bool, true, false, Option, Some, None, Result, Ok, Err}
 use Rattle.std.specs.Io.KnownBytes.{IsAtEnd}
 use Rattle.io.specs.Counts.{IsPrefixLen}
+use Rattle.streams.specs.declared.Progress.{Progress}
 
 -- how many bytes came: none at the end of the input alone
 abbrev pub came : ℕ → Option ℕ
@@ -17,6 +18,13 @@ answered (Err e) = Err e
 abbrev pub failed : {E : Type 0} → Result (Option ℕ) E → Bool
 failed (Ok g) = false
 failed (Err e) = true
+
+-- how the reading goes on after an answer, n bytes having come before it: how many came by now, and whether there may be more; a failure
+-- stays one
+abbrev pub read_on : {E : Type 0} → ℕ → Result (Option ℕ) E → Result Progress E
+read_on n (Ok (Some k)) = Ok (record { bytes = n + k; more = true })
+read_on n (Ok None) = Ok (record { bytes = n; more = false })
+read_on n (Err e) = Err e
 
 -- of n bytes that were lent at least one came, and no more than n
 abbrev pub Within : {E : Type 0} → ℕ → Result (Option ℕ) E → Type 0

@@ -2,8 +2,8 @@
 // input, and is first tried again.
 #![tactic(auto)]
 
-ghost use Rattle.std.specs.Prelude.{◌≡◌, ◌≤◌, ◌<◌, length};
-ghost use Rattle.streams.specs.Streams.{answered, failed, Within, Ends, Held, Whole};
+ghost use Rattle.std.specs.Prelude.{◌≡◌, ◌≤◌, ◌<◌, ◌+◌, ◌^◌, length, IfOk, IfSome};
+ghost use Rattle.streams.specs.Streams.{answered, failed, read_on, Within, Ends, Held, Whole};
 
 use std::io::{Read, Write};
 use std::time::{Clock, Duration};
@@ -59,17 +59,41 @@ fn read_some<C: Clock, R: Read>(
     read_once(input, buf)
 }
 
+// How far a reading is: how many bytes came by now, and whether there may be more.
+#[derive(Clone, Copy)]
+struct Progress {
+    bytes: usize,
+    more: bool,
+}
+
+// How the reading goes on after an answer, n bytes having come before it: a failure stays one.
+fn read_on(n: usize, answer: io::Result<Option<usize>>) -> io::Result<Progress>
+    requires { IfOk answer (λ g. IfSome g (λ k. n + k < 2 ^ 64)) }
+    ensures { result ≡ read_on n answer }
+{
+    Ok(match answer? {
+        Some(k) => Progress {
+            bytes: n + k,
+            more: true,
+        },
+        None => Progress {
+            bytes: n,
+            more: false,
+        },
+    })
+}
+
 // Reads until the input ends, buf is full or a read fails for good: how many bytes the input has, as far as there is room for them.
 pub fn read_whole<C: Clock, R: Read>(clock: &C, input: &mut R, buf: &mut [u8]) -> io::Result<usize>
     ensures held { Held buf.new result }
     ensures end { Whole (length buf.new) result (R.remaining input.new) }
 {
     let mut done = 0;
-    while done < buf.len() {
-        match read_some(clock, input, &mut buf[done..])? {
-            Some(n) => done += n,
-            None => return Ok(done),
-        }
+    let mut more = true;
+    while more && done < buf.len() {
+        let next = read_on(done, read_some(clock, input, &mut buf[done..]))?;
+        done = next.bytes;
+        more = next.more;
     }
     Ok(done)
 }
