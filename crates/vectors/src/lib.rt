@@ -43,7 +43,9 @@ pub fn copy(t: &mut [f64], x: &[f64])
     requires { length x.now ≤ length t.old }
     ensures { t.new ≡ put t.old 0 x.now }
 {
-    t[..x.len()].copy_from_slice(x);
+    for (i, v) in x.iter().enumerate() {
+        t[i] = *v;
+    }
 }
 
 // The n places of s from b on become those from a on; the two stretches lie apart.
@@ -51,7 +53,9 @@ pub fn copy_within(s: &mut [f64], a: usize, b: usize, n: usize)
     requires { Disjoint a b n (length s.old) }
     ensures { (part b n s.new ≡ part a n s.old) × Kept b n s.old s.new }
 {
-    s.copy_within(a..a + n, b);
+    for i in 0..n {
+        s[b + i] = s[a + i];
+    }
 }
 
 // i becomes the next number of list, at place n, where it is wanted; how many there are then.

@@ -1,13 +1,15 @@
 use Rattle.std.proofs.Common.{◌≡◌, ◌+◌, ◌-◌, arith}
 use Rattle.std.specs.Float.{nan}
-use Rattle.vectors.proofs.Parts.{part_of_ext}
+use Rattle.vectors.specs.Vec.{at}
+use Rattle.vectors.specs.Parts.{Written, part_of}
+use Rattle.vectors.proofs.Laws.{written_kept}
+use Rattle.vectors.proofs.Parts.{store_done}
 use Rattle.vectors.proofs.copy_within.Goals as goal
 
 pub returns : goal.returns
-returns c = let a = c.args in
-    let e = c.copy_within.ensures in
-    let p = e.by_index in
-    let n : a.a + a.n - a.a ≡ a.n = omega arith in (
-      part_of_ext nan a.b a.a a.n c.copy_within.new.self a.s.now (λ j h. let q : a.b + j - a.b ≡ j = omega arith in rw q at (p.0 (a.b + j) nan (omega arith) (omega arith))),
-      record { size = e.len; below = λ j h. p.1 j nan h; above = λ j h. p.2 j nan (omega arith) },
-    )
+unfolding part_of
+returns c =
+    let a = c.args in
+    let e : c.loop-i.i ≡ a.n = omega arith in
+    let w : Written a.b (a.b + a.n) (λ j. at a.s.now (a.a + (j - a.b))) a.s.now c.loop-i.s = rw e at c.loop-i.invariant in
+    (store_done nan a.b a.n (λ j. at a.s.now (a.a + j)) a.s.now c.loop-i.s w, written_kept w)
