@@ -2,11 +2,13 @@
 use mathlib.Core.Bool.{Bool, true, false, cond}
 use mathlib.Core.Logic.{⊎_elim}
 use mathlib.Core.List.{List, [], ◌∷◌, ◌++◌}
-use mathlib.Core.Path.{◌≡◌, refl, sym, ◌∙◌}
+use mathlib.Core.Path.{◌≡◌, refl, sym, ap, ◌∙◌}
 use Prim.Native.Nat.{ℕ, zero, suc, ◌+◌, ◌-◌, ◌≤◌, ◌<◌, min}
 use native.Mathlib.Nat.{eq-or-lt_of_le, le_of_suc-le-suc, ne_of_lt, ne_of_gt, min-le_right}
 use native.Mathlib.Numerals.{add-one}
 use native.Mathlib.Omega.{arith}
+use borrow.Author.Tests.{ne_eqb}
+use lib.Dec.{eqb}
 use lib.ListN.{length, get_or, set, length-set, get_or-append}
 use lib.Seq.{get_or_at, get_or-set_same, get_or-set_other}
 use lib.Ieee.{Float, lt}
@@ -27,6 +29,21 @@ pub hold_mark : (t : Hold) → hold_of (mark_of t) ≡ t
 hold_mark Free = refl
 hold_mark Upper = refl
 hold_mark Lower = refl
+
+free_cond : (a b : Bool) → is_free (cond a Free (cond b Upper Lower)) ≡ a
+free_cond true b = refl
+free_cond false true = refl
+free_cond false false = refl
+
+-- the mark of a free place is 0
+free_mark : (x : ℕ) → is_free (hold_of x) ≡ eqb x 0
+free_mark x = free_cond (eqb x 0) (eqb x 1)
+
+pub free_place : {A : Type 0} (x : ℕ) (u v : A) → x ≡ 0 → cond (is_free (hold_of x)) u v ≡ u
+free_place x u v e = rw e
+
+pub held_place : {A : Type 0} (x : ℕ) (u v : A) → (x ≡ 0 → ⊥) → cond (is_free (hold_of x)) u v ≡ v
+held_place {A} x u v e = ap (λ (b : Bool). cond b u v) (free_mark x ∙ ne_eqb x 0 e)
 
 -- how a place is held, read from the run in which the point stands from a on
 pub hold_place : (lam : Float) (a m : ℕ) (s : List Float) (i : ℕ) → i < m

@@ -5,6 +5,7 @@ use native.Mathlib.Omega.{arith}
 use mathlib.Core.Bool.{Bool}
 use mathlib.Core.List.{List}
 use lib.ListN.{length, take}
+use lib.Seq.{length-take-le}
 use lib.Dec.{eqb}
 use Rattle.float64.proofs.Clash.{impossible}
 use Rattle.vectors.proofs.Texts.{take_put, put-fits}
@@ -16,7 +17,7 @@ use Rattle.std.proofs.Common.{Result, Ok, Err}
 use Rattle.trend_filter.specs.Answers.{Buffers, lent, summary_of, answer_of, Gives, Answered}
 use Rattle.stored.specs.Words.{word_at}
 use Rattle.compared.specs.Outcomes.{same_fit, same_outcome, Compares}
-use Rattle.compared.specs.Inner.{same_answer, Room}
+use Rattle.compared.specs.Inner.{Holds, same_answer, Room}
 
 refused_at : (s : List ℕ) (i : ℕ) (o : Outcome) {q : ℕ} → Err q ≡ answer_of o → eqb q (word_at s i) ≡ same_outcome o s i
 unfolding same_outcome answer_of
@@ -100,3 +101,19 @@ module _ {a : Asked} {b c : Buffers} {m : ℕ} (e : m ≡ places a) where
 
   pub told_compares : {s : List ℕ} {i : ℕ} {r : Result Summary ℕ} {z : Bool} → z ≡ same_answer r (length a.y) m c.out.trend c.out.cycle c.out.knots c.out.dual s i → Answered a r b c → Compares a z b c s i
   told_compares {s} {i} {r} p h = record { same = p ∙ told_same s i r h; answered = subst (λ (x : Result Summary ℕ). Answered a x b c) h.gives.answer h }
+
+-- slices that hold a fit, and their parts
+pub held : {r : Result Summary ℕ} {f : Summary} {n m t c k d : ℕ} → r ≡ Ok f → Room r n m t c k d → Holds f.knots n m t c k d
+held {r} {f} {n} {m} {t} {c} {k} {d} e h = subst (λ (x : Result Summary ℕ). Room x n m t c k d) e h
+
+part_short : {A : Type 0} {n : ℕ} (v : List A) → n ≤ length v → n ≤ 168 → length (take (n - 0) v) ≤ 168
+part_short {A} {n} v h w = let e : n - 0 ≡ n = omega arith in rw e (omega (arith, length-take-le n v h, w))
+
+pub parts_short : {A B : Type 0} {q n m : ℕ} (t c : List A) (l : List B) (d : List A) → Holds q n m (length t) (length c) (length l) (length d)
+    → (length (take (n - 0) t) ≤ 168) × (length (take (n - 0) c) ≤ 168) × (length (take (q - 0) l) ≤ 168) × (length (take (m - 0) d) ≤ 168)
+parts_short t c l d h = (
+  part_short t h.trend h.week,
+  part_short c h.cycle h.week,
+  part_short l h.knots_in h.few,
+  part_short d h.dual (omega (arith, h.fewer, h.week)),
+)

@@ -5,16 +5,31 @@ use mathlib.Core.Bool.{Bool, true, false, cond}
 use mathlib.Core.List.{List, [], ◌∷◌}
 use Prim.Native.Nat.{ℕ, zero, suc, ◌≤◌, ◌<◌, min}
 use native.Mathlib.Omega.{arith}
-use lib.Dec.{ltb}
+use lib.Dec.{leb, ltb}
 use lib.ListN.{length, get_or}
-use borrow.Author.Tests.{ltb-true, ltb-false}
-use Rattle.std.specs.Prelude.{Some, fold}
+use borrow.Author.Tests.{ltb-true, ltb-false, lt-ltb, le-ltb, le-leb, lt-leb}
+use Rattle.std.specs.Prelude.{Some, Ok, Err, fold}
 use Rattle.std.specs.List.{reduce}
 use Rattle.float64.proofs.Clash.{impossible}
+use Rattle.float64.proofs.Order.{and_off}
 use Rattle.vectors.specs.Vec.{apart}
 use Rattle.vectors.specs.Rising.{Among}
 use Rattle.vectors.proofs.Parts.{split}
-use Rattle.crossings.specs.Nearest.{nearer, nearest_of, nearest_in, NearestOne, AnswersNearest}
+use Rattle.crossings.specs.Nearest.{nearer, nearest_of, nearest_in, nearest_knot, NearestOne, AnswersNearest}
+
+-- ---- whether it is refused
+
+pub no_place : (p n : ℕ) (knots : List ℕ) → (65536 < n) ⊎ (n ≤ p) → nearest_knot p n knots ≡ Err 19
+unfolding nearest_knot
+no_place p n knots o =
+    ⊎_elim
+    (λ (h : 65536 < n). rw (lt-leb n 65536 h))
+    (λ (h : n ≤ p). rw (le-ltb p n h, and_off (leb n 65536)))
+    o
+
+pub a_place : (p n : ℕ) (knots : List ℕ) → n ≤ 65536 → p < n → nearest_knot p n knots ≡ Ok (nearest_in p knots)
+unfolding nearest_knot
+a_place p n knots h g = rw (le-leb n 65536 h, lt-ltb p n g)
 
 -- ---- as a fold over the knots
 

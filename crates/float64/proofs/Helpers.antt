@@ -1,4 +1,4 @@
--- Facts of the small helpers: which value a test `x != x` finds, what is finite, and the sign cleared by 0 - x. Assumes nothing.
+-- Facts of the small helpers: which value a test `x != x` finds, what is finite and lies between the infinities, and the sign cleared by 0 - x. Assumes nothing.
 use mathlib.Core.Path.{◌≡◌, refl, sym, ap, ap₂, ◌∙◌, subst}
 use Prim.Native.Nat.{ℕ, zero, suc, ◌+◌, ◌-◌, ◌*◌, ◌^◌, ◌<◌}
 use native.Mathlib.Nat.{zero-mul, one-mul, mul-one, mul-pos, zero-lt-suc, pow-succ'}
@@ -40,6 +40,21 @@ unfolding is_finite float_is_finite
 finite_is nan = refl
 finite_is (inf s) = refl
 finite_is (fin s m e) = refl
+
+-- ---- between the infinities
+
+pub not_above : (x : Float) → lt (neg (of_bits binary64 0x7ff0_0000_0000_0000)) x ≡ false → is_finite x ≡ false
+unfolding lt neg of_bits is_finite
+not_above nan e = refl
+not_above (inf s) e = refl
+not_above (fin s m d) e = e
+
+pub above_then : (x : Float) → lt (neg (of_bits binary64 0x7ff0_0000_0000_0000)) x ≡ true → lt x (of_bits binary64 0x7ff0_0000_0000_0000) ≡ is_finite x
+unfolding lt neg of_bits is_finite
+above_then nan e = refl
+above_then (inf true) e = sym e
+above_then (inf false) e = refl
+above_then (fin s m d) e = refl
 
 pub top_no_nan : T (not (nan_bits binary64 0x7ff0_0000_0000_0000))
 unfolding nan_bits

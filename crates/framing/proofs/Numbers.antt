@@ -1,10 +1,10 @@
--- Numbers of several bytes: one more byte, a body's numbers stand in the input, and how large they get. Assumes nothing.
-use mathlib.Core.Path.{◌≡◌, refl, ap, ◌∙◌}
+-- Numbers of several bytes: two halves make one, one more byte, a body's numbers stand in the input, and how large they get. Assumes nothing.
+use mathlib.Core.Path.{◌≡◌, refl, sym, ap, ap₂, ◌∙◌}
 use Prim.Native.Nat.{ℕ, zero, suc, ◌+◌, ◌-◌, ◌*◌, ◌^◌, ◌≤◌, ◌<◌}
 use native.Mathlib.Omega.{arith, pow_step}
 use mathlib.Core.List.{List, [], ◌∷◌, ◌++◌, map, reverse}
 use lib.ListN.{length, get_or, take, drop, length-append, length-drop}
-use lib.Seq.{drop-cons, drop-drop, take-take, length-take-le, get_or-drop}
+use lib.Seq.{drop-cons, drop-drop, take-take, take-add, length-take-le, get_or-drop}
 use Rattle.std.proofs.Common.{Bor, add-one}
 use Rattle.std.proofs.Math.Nat.{pow-le-pow_right}
 use Rattle.std.proofs.lemmas.List.{map-append, reverse-append, reverse-reverse, length-reverse}
@@ -23,6 +23,26 @@ number_of_part s b m a n h = ap little_endian (drop-take a n m (drop b s) h ∙ 
 pub one_is : (s : List ℕ) (at : ℕ) → at < length s → get_or s at 0 ≡ number_at at 1 s
 unfolding little_endian
 one_is s at h = rw (drop-cons s at 0 h) (omega arith)
+
+-- bytes, and then more
+joined : (x y : List ℕ) → little_endian (x ++ y) ≡ little_endian x + 256 ^ length x * little_endian y
+unfolding little_endian
+joined [] y = omega arith
+joined (b ∷ x) y = rw (pow_step 256 (length x)) (omega (arith, joined x y))
+
+halves : (s : List ℕ) (at m n : ℕ) → at + m ≤ length s → number_at at m s + 256 ^ m * number_at (at + m) n s ≡ number_at at (m + n) s
+halves s at m n h =
+    let e : length (take m (drop at s)) ≡ m = length-take-le m (drop at s) (omega (arith, length-drop at s)) in
+    sym (ap little_endian (take-add m n (drop at s)) ∙ joined (take m (drop at s)) (take n (drop m (drop at s))) ∙ rw (e, drop-drop m at s))
+
+pub two_is : (s : List ℕ) (at : ℕ) → at + 2 ≤ length s → get_or s at 0 + 256 * get_or s (at + 1) 0 ≡ number_at at 2 s
+two_is s at h = ap₂ (λ (x y : ℕ). x + 256 * y) (one_is s at (omega arith)) (one_is s (at + 1) (omega arith)) ∙ halves s at 1 1 (omega arith)
+
+pub four_is : (s : List ℕ) (at : ℕ) → at + 4 ≤ length s → number_at at 2 s + 65536 * number_at (at + 2) 2 s ≡ number_at at 4 s
+four_is s at h = halves s at 2 2 (omega arith)
+
+pub eight_is : (s : List ℕ) (at : ℕ) → at + 8 ≤ length s → number_at at 4 s + 4294967296 * number_at (at + 4) 4 s ≡ number_at at 8 s
+eight_is s at h = halves s at 4 4 (omega arith)
 
 -- bytes, and a lower one before them, which is read after them
 pub pushed : (l : List (Bor ℕ)) (b : Bor ℕ) → little_endian (reverse (map (λ x. x.now) (l ++ b ∷ []))) ≡ 256 * little_endian (reverse (map (λ x. x.now) l)) + b.now

@@ -23,6 +23,9 @@ use Rattle.newton_step.specs.declared.Step.{Step}
 pub step_small : (k m n : ℕ) → k ≤ 2 → m ≤ n → n + step_area k m ≤ search_area n
 step_small k m n h l = let f : m * (k + 1) ≤ m * 3 = mul-le-mul_left m (omega arith) in omega arith
 
+pub first_places : (m : ℕ) (s : List Float) → take (m - 0) (drop 0 s) ≡ take m s
+first_places m s = let z : m - 0 ≡ m = omega arith in rw z
+
 -- a step on the places from a up to e
 pub stepped-at : (k : ℕ) (g dy : List Float) (lam inv_t : Float) (a e m : ℕ) (s x : List Float) (r : Option Step) → a + step_area k m ≤ e → e ≤ length s → length x ≡ e - a
     → Stepped k g dy lam inv_t 0 m (take (e - a) (drop a s)) x r → Stepped k g dy lam inv_t a m s (put_back a (e - a) s x) r

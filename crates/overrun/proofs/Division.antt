@@ -40,7 +40,7 @@ div_is (fin false m e) (fin false n d) a b B h k =
     (round_same binary64 false (m * up e * down d) (n * up d * down e) a b (mul-pos N (down_pos e)) B
     (crossed a b (m * up e) (down e) (n * up d) (down d) h.1 k.1))
 
-one_division : (a b : ℕ) → a < 2 ^ 53 → 0 < b → b < 2 ^ 53 → div binary64 (of_int binary64 (pos a)) (of_int binary64 (pos b)) ≡ round binary64 false a b
+pub one_division : (a b : ℕ) → a < 2 ^ 53 → 0 < b → b < 2 ^ 53 → div binary64 (of_int binary64 (pos a)) (of_int binary64 (pos b)) ≡ round binary64 false a b
 one_division a b A B C = div_is (of_int binary64 (pos a)) (of_int binary64 (pos b)) a b B (exact a A) (exact b C)
 
 -- the bits of the NaN that the code names

@@ -42,7 +42,7 @@ asked_refused a l w r e = record {
 }
 
 -- a bad pivot of D D'
-unsound_fit : (a : Asked) (l : Lent) → question a l ≡ 0 → sound_dd a ≡ false → fit a l ≡ refused 10
+pub unsound_fit : (a : Asked) (l : Lent) → question a l ≡ 0 → sound_dd a ≡ false → fit a l ≡ refused 10
 unsound_fit a l e s = fit_passed a l e ∙ ap (λ (b : Bool). cond b (outcome a (path a)) (refused 10)) s
 
 -- the preparation, whose answer is r

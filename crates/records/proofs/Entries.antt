@@ -126,7 +126,7 @@ module _ {s : List ℕ} {at k b n : ℕ} (o : Opens s at k b n) where
       subst (λ (m : ℕ). Told k m r (entry_of (rec k r)) (known k m)) size (told k r)
 
   -- a record of a known kind with its kind's length, and any other
-  found-known : true ≡ known k (n - b) → Found s at k b n
+  pub found-known : true ≡ known k (n - b) → Found s at k b n
   found-known h =
       let e = tells.yes (sym h) in
       record {

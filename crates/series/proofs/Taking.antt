@@ -17,7 +17,7 @@ use Rattle.records.specs.declared.Settings.{Settings}
 use Rattle.series.specs.declared.Gathered.{Gathered}
 use Rattle.series.specs.declared.Week.{Week}
 use Rattle.series.specs.declared.Refusal.{Refusal}
-use Rattle.series.specs.Inner.{refusal_number, Reads, slot_of, slots_in, ReadSlots, WroteHours}
+use Rattle.series.specs.Inner.{refusal_number, numbered, answer, Reads, slot_of, slots_in, ReadSlots, WroteHours}
 use Rattle.std.specs.Prelude.{Option, Some, None, Result, Ok, Err, IsErr, IsErrAnd}
 use Rattle.std.specs.Result.{result_ok}
 use Rattle.std.specs.Option.{ok_or}
@@ -35,12 +35,15 @@ pub hours-rated : (st : Settings) (ws : List Slot) (r : Bool) → length (hours_
 hours-rated st ws r h e = simp (le-leb _ _ h, e)
 
 -- a refusal, as the contract has it, and a week that is taken
-pub refuses : (a : Reading) (r : Refusal) {y : List Float} {q : List ℕ} → a ≡ unread (refusal_number r) → Reads a (Err r) y y q q
-refuses a r e = rw e (record { said = refl; wrote = refl; positions = refl })
+pub refuses : (a : Reading) (r : Result Week Refusal) {k : ℕ} {y : List Float} {q : List ℕ} → a ≡ unread k → numbered r ≡ answer (unread k) → Reads a r y y q q
+refuses a r e n = rw e (record { said = n; wrote = refl; positions = refl })
+
+pub refuses_as : (a : Reading) (r : Refusal) {y : List Float} {q : List ℕ} → a ≡ unread (refusal_number r) → Reads a (Err r) y y q q
+refuses_as a r e = refuses a (Err r) e refl
 
 pub refused : (a : Reading) (r : Refusal) (w : Result Week Refusal) {y : List Float} {q : List ℕ} → IsErr w → IsErrAnd w (λ x. x ≡ r) → a ≡ unread (refusal_number r) → Reads a w y y q q
 refused a r (Ok w) h k e = impossible cc
-refused a r (Err x) h k e = rw k (refuses a r e)
+refused a r (Err x) h k e = rw k (refuses_as a r e)
 
 -- what `ok_or` was given
 pub taken : {A : Type 0} (o : Option A) {r : Result A Refusal} {x : A} → o ≡ result_ok r → r ≡ Ok x → o ≡ Some x

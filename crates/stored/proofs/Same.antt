@@ -12,17 +12,22 @@ use Rattle.std.proofs.Common.{◌≢◌, zero, suc, arith, eq-eqb, ne_eqb}
 use Rattle.std.proofs.lemmas.Bool.{and_right, eqb-true, eqb-false}
 use Rattle.vectors.specs.Vec.{list, put}
 use Rattle.vectors.specs.Parts.{Written}
-use Rattle.vectors.proofs.Laws.{length-list, front}
+use Rattle.vectors.proofs.Laws.{length-list, at-list, front, written-put}
 use Rattle.stored.specs.Words.{word_at, doubles_at, same_to}
 
 -- the doubles stored from word a on
 abbrev pub double_from : List ℕ → ℕ → ℕ → Float
 double_from s a i = of_bits binary64 (word_at s (a + i))
 
--- the first n places of y were loaded, each in its turn
-pub loaded : (s : List ℕ) (a n : ℕ) (y : List Float) {i : ℕ} {v : List Float} → Written 0 i (double_from s a) (take n y) v → i ≡ n → n ≤ length y → v ++ drop n y ≡ put y 0 (doubles_at s a n)
+-- n doubles were loaded into the first places of a run
+pub loaded : (s : List ℕ) (a n : ℕ) {v₀ v : List Float} → Written 0 n (double_from s a) v₀ v → n ≤ length v₀ → v ≡ put v₀ 0 (doubles_at s a n)
 unfolding doubles_at
-loaded s a n y {i} {v} w h l =
+loaded s a n w h = written-put (list n (double_from s a)) w (length-list n (double_from s a)) h (λ i l. sym (at-list n (double_from s a) i l))
+
+-- the first n places of y were loaded, each in its turn, and stand before the others
+pub loaded_part : (s : List ℕ) (a n : ℕ) (y : List Float) {i : ℕ} {v : List Float} → Written 0 i (double_from s a) (take n y) v → i ≡ n → n ≤ length y → v ++ drop n y ≡ put y 0 (doubles_at s a n)
+unfolding doubles_at
+loaded_part s a n y {i} {v} w h l =
     let f = double_from s a in
     let k : length v ≡ n = w.size ∙ length-take-le n y l in
     let w : Written 0 n f (take n y) v = rw h at w in

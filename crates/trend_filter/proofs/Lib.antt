@@ -1,2 +1,3 @@
 -- The laws of trend_filter.
+pub mod Calling
 pub mod Laws
