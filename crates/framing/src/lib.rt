@@ -20,6 +20,7 @@ pub struct Record {
 pub struct NoRecord;
 
 // The number that N bytes spell, the lowest first.
+#[tactic(auto, using(crate::proofs::Numbers::one_is, crate::proofs::Numbers::two_is, crate::proofs::Numbers::four_is, crate::proofs::Numbers::eight_is))]
 pub fn number<const N: usize>(s: &[u8], at: usize) -> u64
     requires fits { N ≤ 8 }
     requires inside { at + N ≤ length s.now }

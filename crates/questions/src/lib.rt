@@ -46,10 +46,15 @@ fn kinds_known(order: u32, penalty: u32) -> bool
     matches!(order, 1 | 2) && matches!(penalty, 1 | 2)
 }
 
+#[tactic(auto, unfolding(crate::specs::Questions::finite_to))]
 fn all_finite(y: &[f64]) -> bool
     ensures { result ≡ all_finite y.now }
 {
-    y.iter().all(|x| float64::is_finite(*x))
+    let mut all = true;
+    for x in y {
+        all &= float64::is_finite(*x);
+    }
+    all
 }
 
 fn lam_right(lam: f64) -> bool
