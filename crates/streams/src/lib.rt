@@ -88,14 +88,14 @@ pub fn read_whole<C: Clock, R: Read>(clock: &C, input: &mut R, buf: &mut [u8]) -
     ensures held { Held buf.new result }
     ensures end { Whole (length buf.new) result (R.remaining input.new) }
 {
-    let mut done = 0;
-    let mut more = true;
-    while more && done < buf.len() {
-        let next = read_on(done, read_some(clock, input, &mut buf[done..]))?;
-        done = next.bytes;
-        more = next.more;
+    let mut done = Progress {
+        bytes: 0,
+        more: true,
+    };
+    while done.more && done.bytes < buf.len() {
+        done = read_on(done.bytes, read_some(clock, input, &mut buf[done.bytes..]))?;
     }
-    Ok(done)
+    Ok(done.bytes)
 }
 
 // One write: how many of buf's bytes it took, none where it failed.
